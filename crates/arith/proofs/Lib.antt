@@ -1,0 +1,4 @@
+-- Laws that the proofs of other crates cite.
+pub mod Loops
+pub mod Rows
+pub mod Choice

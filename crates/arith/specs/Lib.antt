@@ -1,0 +1,3 @@
+-- Definitions that the contracts of other crates cite.
+pub mod Operations
+pub mod Loop

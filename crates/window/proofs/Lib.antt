@@ -1,0 +1,4 @@
+-- Laws that the proofs of other crates cite.
+pub mod Windows
+pub mod Filling
+pub mod Parts

@@ -1,0 +1,4 @@
+-- Definitions that the contracts of other crates cite.
+pub mod Cells
+pub mod Window
+pub mod Parts
