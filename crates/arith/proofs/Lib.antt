@@ -2,3 +2,4 @@
 pub mod Loops
 pub mod Rows
 pub mod Choice
+pub mod Nan

@@ -2,12 +2,12 @@
 use Prim.Native.Nat.{_≤_, _-_}
 use native.Mathlib.Omega.{arith}
 use mathlib.Core.Path.{_≡_, _∙_}
-use mathlib.Core.List.{_++_}
+use mathlib.Core.List.{_++_, append-nil}
 use lib.ListN.{length, drop, length-set}
 use lib.Seq.{drop-length}
 use borrow.Author.Needs.{needs}
 use Rattle.window.specs.Cells.{+0, zeros}
-use Rattle.window.proofs.Filling.{fill-more, append-nil}
+use Rattle.window.proofs.Filling.{fill-more}
 use Rattle.window.proofs.clear.Statement.{statement}
 use Rattle.window.proofs.clear.Tie as tie
 

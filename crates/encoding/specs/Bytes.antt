@@ -1,0 +1,19 @@
+-- Numbers of bytes, low byte first, as document 01 has them in a job.
+use Prim.Native.Nat.{ℕ, zero, suc, _+_, _*_}
+use mathlib.Core.List.{List, [], _∷_, _++_}
+use lib.Ieee.{Float, binary64, ofBits}
+use Rattle.window.specs.Window.{window}
+
+-- the whole number of the bytes
+unfoldable pub lowFirst : List ℕ → ℕ
+lowFirst [] = 0
+lowFirst (b ∷ bs) = b + 256 * lowFirst bs
+
+-- the f64 whose bit pattern the bytes are: a NaN for any NaN's pattern
+abbrev pub floatOf : List ℕ → Float
+floatOf bytes = ofBits binary64 (lowFirst bytes)
+
+-- n numbers of eight bytes each, one after the other: number i is that of the bytes from 8 * i up to 8 * i + 8
+unfoldable pub floatsOf : ℕ → List ℕ → List Float
+floatsOf zero bytes = []
+floatsOf (suc i) bytes = floatsOf i bytes ++ (floatOf (window (8 * i) (8 * i + 8) bytes) ∷ [])

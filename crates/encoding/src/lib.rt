@@ -1,0 +1,90 @@
+// Numbers as bytes and as text, for the programs: whole numbers and f64 of bytes, low byte first,
+// and an f64 as 16 upper-case hex digits.
+ghost use mathlib.Core.Path.{_≡_};
+ghost use Prim.Native.Nat.{_*_, _≤_, _<_};
+ghost use mathlib.Core.List.{[]};
+ghost use lib.ListN.{length, take};
+ghost use Rattle.encoding.specs.Bytes.{lowFirst, floatOf, floatsOf};
+ghost use Rattle.encoding.specs.Text.{digitOf, hexDigits, floatText};
+
+// The whole number of at most eight bytes, low byte first.
+pub fn whole(bytes: &[u8]) -> u64
+    requires { ⌜ length (now bytes) ≤ 8 ⌝ }
+    ensures { λ r. ⌜ r ≡ lowFirst (now (bytes .entry)) ⌝ }
+{
+    let mut value: u64 = 0;
+    let mut i = bytes.len();
+    while 0 < i {
+        i -= 1;
+        value = 256 * value + bytes[i] as u64;
+    }
+    value
+}
+
+// The f64 of eight bytes, low byte first; any NaN's pattern gives a NaN.
+pub fn float(bytes: &[u8]) -> f64
+    requires { ⌜ length (now bytes) ≤ 8 ⌝ }
+    ensures { λ r. ⌜ r ≡ floatOf (now (bytes .entry)) ⌝ }
+{
+    let bits = whole(bytes);
+    if bits % 0x8000_0000_0000_0000 > 0x7ff0_0000_0000_0000 {
+        return 0.0 / 0.0;
+    }
+    f64::from_bits(bits)
+}
+
+// As many f64 as `cells` has places, from eight bytes each.
+pub fn floats(bytes: &[u8], cells: &mut [f64])
+    requires { ⌜ 8 * length (now cells) ≤ length (now bytes) ⌝ }
+    ensures { λ _. ⌜ now (cells .exit) ≡ floatsOf (length (now (cells .entry))) (now (bytes .entry)) ⌝ }
+{
+    let mut i = 0;
+    while i < cells.len() {
+        let start = 8 * i;
+        let end = start + 8;
+        cells[i] = float(&bytes[start..end]);
+        i += 1;
+    }
+}
+
+pub struct Text {
+    pub bytes: [u8; 16],
+    pub len: usize,
+}
+
+// The upper-case hex digit of a number below 16.
+fn digit(n: u64) -> u8
+    requires { ⌜ n < 16 ⌝ }
+    ensures { λ r. ⌜ r ≡ digitOf n ⌝ }
+{
+    if n < 10 { 48 + n as u8 } else { 55 + n as u8 }
+}
+
+// 64 bits as 16 upper-case hex digits.
+fn digits(bits: u64) -> Text
+    ensures { λ r. ⌜ (r .len ≡ 16) × (r .bytes ≡ hexDigits 16 bits []) ⌝ }
+{
+    let mut bytes = [0u8; 16];
+    let mut rest = bits;
+    let mut i = 16;
+    while 0 < i {
+        i -= 1;
+        bytes[i] = digit(rest % 16);
+        rest /= 16;
+    }
+    Text { bytes, len: 16 }
+}
+
+// The bits of x as 16 upper-case hex digits, or `NaN`.
+pub fn hex(x: f64) -> Text
+    ensures { λ r. ⌜ (r .len ≤ 16) × (take (r .len) (r .bytes) ≡ floatText x) ⌝ }
+{
+    if x != x {
+        let mut bytes = [0u8; 16];
+        bytes[0] = b'N';
+        bytes[1] = b'a';
+        bytes[2] = b'N';
+        return Text { bytes, len: 3 };
+    }
+    digits(f64::to_bits(x))
+}
