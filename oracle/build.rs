@@ -1,0 +1,43 @@
+//! Writes the text that is compiled: the source file, byte for byte, with
+//! `src/appendix.rs` after it, and a one-line file that loads it as a module.
+
+use std::path::{Path, PathBuf};
+use std::{env, fs};
+
+/// The source file's place, relative to this folder, unless `SMOOTHING_RS` names another.
+const DEFAULT_SOURCE: &str = "../../shared/docs/src/path/smoothing.rs";
+
+fn main() {
+    let here = PathBuf::from(env::var("CARGO_MANIFEST_DIR").unwrap());
+    let out = PathBuf::from(env::var("OUT_DIR").unwrap());
+    let source = here.join(env::var("SMOOTHING_RS").unwrap_or(DEFAULT_SOURCE.to_string()));
+    let appendix = here.join("src/appendix.rs");
+
+    let mut text = read(&source);
+    text.extend(read(&appendix));
+    let compiled = out.join("smoothing.rs");
+    fs::write(&compiled, text).unwrap();
+    // An included file cannot begin with `//!`, and `#[path]` takes a literal only.
+    let load = format!(
+        "#[path = {:?}]\n#[allow(dead_code)]\npub(crate) mod smoothing;\n",
+        compiled
+            .to_str()
+            .expect("the target folder's name is not UTF-8"),
+    );
+    fs::write(out.join("load.rs"), load).unwrap();
+
+    println!("cargo::rustc-env=SMOOTHING_SOURCE={}", source.display());
+    println!("cargo::rustc-env=SMOOTHING_COMPILED={}", compiled.display());
+    println!("cargo::rerun-if-env-changed=SMOOTHING_RS");
+    println!("cargo::rerun-if-changed={}", source.display());
+    println!("cargo::rerun-if-changed={}", appendix.display());
+}
+
+fn read(file: &Path) -> Vec<u8> {
+    fs::read(file).unwrap_or_else(|e| {
+        panic!(
+            "cannot read {}: {e}; SMOOTHING_RS may name another place",
+            file.display()
+        )
+    })
+}

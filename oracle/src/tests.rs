@@ -1,0 +1,272 @@
+//! What the answers rest on: the compiled text, the list's form, known inputs with
+//! known answers, and generators that give the same cases everywhere.
+
+use crate::answer::{Answer, answer, digits};
+use crate::case::{Case, Kind};
+use crate::path::smoothing::{SmoothingTolerance, reach};
+use crate::random::{Random, power_of_two};
+use crate::refusal::Refusal;
+use crate::request::{Request, draw};
+use crate::{generate, list, requests, table};
+use std::fs;
+
+#[test]
+fn compiled_text_is_the_source_and_the_appendix() {
+    let mut wanted = fs::read(env!("SMOOTHING_SOURCE")).unwrap();
+    wanted.extend(include_bytes!("appendix.rs"));
+    let compiled = fs::read(env!("SMOOTHING_COMPILED")).unwrap();
+    assert!(compiled == wanted, "build again: the source has changed");
+}
+
+/// Some cases of every group.
+fn every_group(count: usize) -> Vec<Case> {
+    let group = |name| generate::group(name, 1, count).unwrap();
+    generate::names().flat_map(group).collect()
+}
+
+#[test]
+fn list_reads_as_written() {
+    let cases = every_group(10);
+    let bytes = list::write(&cases);
+    let read = list::read(&bytes).unwrap();
+    assert_eq!(read.len(), cases.len());
+    assert_eq!(list::write(&read), bytes);
+}
+
+#[test]
+fn damaged_list_is_refused() {
+    let bytes = list::write(&[Case::cells(Kind::Clear, &[1., 2.])]);
+    assert!(list::read(&bytes).is_ok());
+    for end in 0..bytes.len() {
+        // The head alone is a list without cases.
+        assert_eq!(list::read(&bytes[..end]).is_ok(), end == 8);
+    }
+    let unknown_kind = [&bytes[..8], &[200], &bytes[9..]].concat();
+    assert!(list::read(&unknown_kind).is_err());
+}
+
+#[test]
+fn case_with_wrong_counts_is_refused() {
+    for case in every_group(10) {
+        let mut more_cells = case.clone();
+        more_cells.cells.push(0.);
+        assert!(answer(&more_cells).is_err());
+        let mut more_whole = case.clone();
+        more_whole.whole.push(0);
+        assert!(answer(&more_whole).is_err());
+        let mut fewer_cells = case.clone();
+        if fewer_cells.cells.pop().is_some() {
+            assert!(answer(&fewer_cells).is_err());
+        }
+    }
+}
+
+#[test]
+fn every_generated_case_is_answered() {
+    for case in every_group(100) {
+        answer(&case).unwrap();
+    }
+}
+
+/// The line that answers a request, shortened to its first words.
+fn line(request: &Request, words: usize) -> String {
+    let case = Case::build(request);
+    let line = answer(&case).unwrap().line(case.kind);
+    line.split(' ').take(words).collect::<Vec<_>>().join(" ")
+}
+
+fn refusal(request: &Request) -> usize {
+    match reach::build(request) {
+        Ok(_) => 0,
+        Err(e) => Refusal::from(e).number,
+    }
+}
+
+fn one_row(row: &[f64]) -> Request {
+    Request::of_rows(&[row.to_vec()])
+}
+
+fn with(mut request: Request, change: impl Fn(&mut Request)) -> Request {
+    change(&mut request);
+    request
+}
+
+#[test]
+fn lanes_of_document_01() {
+    let flat = one_row(&[0., 0.]);
+    assert_eq!(line(&flat, 7), "build 1 0 0 0 2 0000000000000000");
+    assert_eq!(
+        refusal(&with(flat.clone(), |q| q.config.max_segments = 0)),
+        8
+    );
+    assert_eq!(refusal(&one_row(&[0.])), 1);
+    let no_axes = |q: &mut Request| q.config.axes = Some(Vec::new());
+    assert_eq!(refusal(&with(one_row(&[0.]), no_axes)), 1);
+    assert_eq!(refusal(&with(flat.clone(), no_axes)), 2);
+    let twice = |q: &mut Request| q.config.axes = Some(vec![0, 0]);
+    assert_eq!(refusal(&with(flat.clone(), twice)), 3);
+    let zero = |q: &mut Request| q.config.tolerance = SmoothingTolerance::Uniform(0.);
+    assert_eq!(refusal(&with(flat.clone(), zero)), 4);
+    let parameters = |list| refusal(&flat.clone().with_parameters(list));
+    assert_eq!(parameters(&[1., 1.]), 5);
+    assert_eq!(parameters(&[-1.5e308, 1.5e308]), 6);
+    let steep = with(one_row(&[-1.7e308, 1.7e308]), |q| {
+        q.config.tolerance = SmoothingTolerance::Uniform(1e300);
+    });
+    assert_eq!(refusal(&steep), 7);
+    let straight = one_row(&[0., 0.95, 0.]);
+    assert_eq!(line(&straight, 7), "build 1 0 0 0 4 3FEE666666666666");
+    let fitted = reach::build(&one_row(&[0., 0.96, 0.])).unwrap();
+    assert!(fitted.counts[3] > 0);
+}
+
+#[test]
+fn smallest_inputs_of_the_refusals_by_the_state() {
+    let corner = |segments: usize, refinements: usize| {
+        with(one_row(&[0., 1., 0.]), |q| {
+            q.config.tolerance = SmoothingTolerance::Uniform(1e-3);
+            q.config.max_segments = segments;
+            q.config.max_refinements = refinements;
+        })
+    };
+    assert_eq!(refusal(&corner(3, 20)), 8);
+    assert_eq!(
+        line(&corner(20_000, 0), 9),
+        "build refused 14 406938D88BB438B4"
+    );
+    assert_eq!(refusal(&corner(5, 20)), 15);
+    assert_eq!(line(&corner(6, 20), 6), "build 6 0 1 60 6");
+
+    let beside = Request::flat_beside(&[0., 1., 0.]).with_parameters(&[0., 1e-100, 1.]);
+    assert_eq!(refusal(&beside), 9);
+    let beside = Request::flat_beside(&[0., 1., 0., 1.]);
+    let parameters = [0., power_of_two(-28), power_of_two(-14), 1.];
+    assert_eq!(refusal(&beside.with_parameters(&parameters)), 10);
+    let mut row = [0.; 12];
+    row[1] = 5.;
+    let parameters: Vec<_> = (0..11).map(|i| f64::from(i) * 1e-7).chain([1.]).collect();
+    assert_eq!(refusal(&one_row(&row).with_parameters(&parameters)), 10);
+
+    assert_eq!(refusal(&one_row(&[0., 0., 1e305])), 11);
+    assert_eq!(refusal(&one_row(&[0., 1e300, 0.])), 13);
+    let long = with(one_row(&[0., 0., 1e16]), |q| q.config.max_refinements = 200);
+    assert_eq!(refusal(&long), 16);
+    assert_eq!(refusal(&one_row(&[1e300, 1e300])), 17);
+    assert_eq!(refusal(&one_row(&[0., 1e17 / 3.])), 14);
+}
+
+#[test]
+fn accepted_curve_can_hold_nan() {
+    let built = reach::build(&Request::flat_beside(&[1e306; 4])).unwrap();
+    let other = built.curve.other.unwrap();
+    assert!(other.coefficients.iter().any(|v| v.is_nan()));
+}
+
+#[test]
+fn powi_squares_from_the_low_bit() {
+    let mut r = Random::new(5);
+    for _ in 0..300_000 {
+        let x = if r.chance(50) {
+            r.float()
+        } else {
+            r.scaled(-2, 1)
+        };
+        let exponent = if r.chance(80) {
+            r.below(12)
+        } else {
+            r.below(3000)
+        };
+        let (mut result, mut square, mut rest) = (1., x, exponent);
+        while rest > 0 {
+            if rest % 2 == 1 {
+                result *= square;
+            }
+            square *= square;
+            rest /= 2;
+        }
+        assert_eq!(
+            digits(x.powi(exponent as i32)),
+            digits(result),
+            "{x:e} to the power {exponent}"
+        );
+    }
+}
+
+/// The traced course of work is a copy of `build`'s: both end alike.
+#[test]
+fn trace_follows_build() {
+    let mut r = Random::new(6);
+    let mut compared = 0;
+    for _ in 0..600 {
+        let request = draw(&mut r);
+        let built = reach::build(&request).map_err(Refusal::from);
+        if built.as_ref().is_err_and(|refusal| refusal.number <= 7) {
+            continue;
+        }
+        compared += 1;
+        let traced = reach::trace(&request, &mut |_| ()).map_err(Refusal::from);
+        match (built, traced) {
+            (Ok(built), Ok((counts, selected))) => {
+                assert_eq!(built.counts, counts);
+                let wanted = built.curve.selected;
+                assert!(same(&wanted.breaks, &selected.breaks));
+                assert!(same(&wanted.coefficients, &selected.coefficients));
+            }
+            (Err(built), Err(traced)) => {
+                assert_eq!(built.number, traced.number);
+                assert_eq!(
+                    built.ratio.map(f64::to_bits),
+                    traced.ratio.map(f64::to_bits)
+                );
+            }
+            _ => panic!("one is refused, the other is not"),
+        }
+    }
+    assert!(compared > 400);
+}
+
+fn same(a: &[f64], b: &[f64]) -> bool {
+    a.len() == b.len() && a.iter().zip(b).all(|(a, b)| digits(*a) == digits(*b))
+}
+
+#[test]
+fn requests_reach_every_refusal_but_12() {
+    let table = table::table(1, 2000);
+    for number in 1..=17 {
+        let line = table.lines().nth(number).unwrap();
+        let words: Vec<_> = line.split_whitespace().collect();
+        assert_eq!(words[..2], ["refused", &number.to_string()]);
+        assert_eq!(words[2] == "0", number == 12, "{line}");
+    }
+}
+
+/// Fowler, Noll and Vo's checksum, 1a, of 64 bits.
+fn checksum(bytes: &[u8]) -> u64 {
+    bytes.iter().fold(0xCBF2_9CE4_8422_2325, |sum, byte| {
+        (sum ^ u64::from(*byte)).wrapping_mul(0x0100_0000_01B3)
+    })
+}
+
+#[test]
+fn generators_are_fixed_by_their_seed() {
+    let requests = list::write(&requests(1, 200));
+    assert_eq!(checksum(&requests), REQUESTS_1_200);
+    let groups = list::write(&every_group(20));
+    assert_eq!(checksum(&groups), GROUPS_1_20);
+}
+
+/// Recorded; a change of a generator changes them, and the stored list with them.
+const REQUESTS_1_200: u64 = 0xEE59_68FF_F28F_F0FA;
+const GROUPS_1_20: u64 = 0x8E22_3024_8031_48FF;
+
+#[test]
+fn refusal_14_prints_its_ratio() {
+    let refused = Answer::Refused(Refusal {
+        number: 14,
+        ratio: Some(1.5),
+    });
+    assert_eq!(
+        refused.line(Kind::Build),
+        "build refused 14 3FF8000000000000"
+    );
+}
