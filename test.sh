@@ -25,9 +25,7 @@ if command -v cargo > /dev/null && [ -f "$source" ]; then
         cat "$scratch/log" >&2
         fail "the oracle's own tests fail"
     }
-    (cd oracle && cargo build --release --offline --quiet)
-    oracle/target/release/oracle list oracle/lists.txt > "$scratch/stdin"
-    oracle/target/release/oracle answer < "$scratch/stdin" > "$scratch/stdout"
+    oracle/store.sh "$scratch" || fail "the oracle does not make the list of oracle/lists.txt"
     for name in stdin stdout; do
         cmp "$scratch/$name" "crates/replay/$name" ||
             fail "crates/replay/$name is not what the oracle makes of oracle/lists.txt: run oracle/store.sh"
