@@ -2,6 +2,7 @@
 // functions, and writes a line for each case. oracle/README.md has the form of a list and of the
 // lines. A module's cases stand in a file of their own here, with one function for each kind.
 mod cases;
+mod leaves;
 mod list;
 mod output;
 
@@ -15,6 +16,9 @@ fn answer(head: Head, cells: &[f64], work: &mut [f64], out: &mut [u8], at: usize
     match kind {
         1 => cases::clear(cells, work, out, at),
         2 => cases::copy(head, cells, work, out, at),
+        10 | 11 | 14 | 15 => leaves::numbers(kind, cells, out, at),
+        12 | 13 | 16 => leaves::pairs(kind, cells, out, at),
+        17 | 18 => leaves::others(head, cells, out, at),
         _ => output::unanswered(at),
     }
 }

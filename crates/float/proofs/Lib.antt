@@ -1,0 +1,15 @@
+-- The laws that other crates may cite.
+pub mod SquareRoot
+pub mod Extremes
+pub mod TotalOrder
+pub mod Powers
+pub mod Samples
+-- What the proofs here use.
+mod Tests
+mod Squares
+mod Rounding
+mod Middles
+mod Scales
+mod Checks
+mod RootCases
+mod OrderCases

@@ -1,0 +1,22 @@
+-- The laws. docs/FRACTIONS.md lists the main ones.
+pub mod Bernstein
+pub mod Binomial
+pub mod Corners
+pub mod Encoding
+pub mod Examples
+pub mod Inverse
+pub mod Lowest
+pub mod Magnitude
+pub mod Monotone
+pub mod Nearest
+pub mod Neighbours
+pub mod NextNumber
+pub mod Pair
+pub mod Plain
+pub mod Polynomial
+pub mod Rational
+pub mod RoundedPlace
+pub mod Rounding
+pub mod Sum
+pub mod TwoEnds
+pub mod Value
