@@ -4,7 +4,7 @@ use crate::output;
 use crate::output::Line;
 
 // Kind 1: the cells, cleared.
-pub fn clear(cells: &[f64], work: &mut [f64], out: &mut [u8], at: usize) -> Line {
+pub(crate) fn clear(cells: &[f64], work: &mut [f64], out: &mut [u8], at: usize) -> Line {
     let n = cells.len();
     if work.len() < n {
         return output::unanswered(at);
@@ -17,7 +17,7 @@ pub fn clear(cells: &[f64], work: &mut [f64], out: &mut [u8], at: usize) -> Line
 }
 
 // Kind 2, whole number n: the first n cells after the last n were copied there.
-pub fn copy(head: Head, cells: &[f64], work: &mut [f64], out: &mut [u8], at: usize) -> Line {
+pub(crate) fn copy(head: Head, cells: &[f64], work: &mut [f64], out: &mut [u8], at: usize) -> Line {
     let n = head.wholes[0];
     let half = cells.len() / 2;
     if n != half as u64 {

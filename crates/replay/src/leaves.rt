@@ -29,7 +29,7 @@ fn name(kind: u8, out: &mut [u8], at: usize) -> usize {
 }
 
 // A number for each cell.
-pub fn numbers(kind: u8, cells: &[f64], out: &mut [u8], at: usize) -> Line {
+pub(crate) fn numbers(kind: u8, cells: &[f64], out: &mut [u8], at: usize) -> Line {
     let mut next = name(kind, out, at);
     let mut i = 0;
     while i < cells.len() {
@@ -58,7 +58,7 @@ fn pair(kind: u8, x: f64, y: f64, out: &mut [u8], at: usize) -> usize {
 }
 
 // An answer for each two cells.
-pub fn pairs(kind: u8, cells: &[f64], out: &mut [u8], at: usize) -> Line {
+pub(crate) fn pairs(kind: u8, cells: &[f64], out: &mut [u8], at: usize) -> Line {
     let mut next = name(kind, out, at);
     let mut i = 1;
     while i < cells.len() {
@@ -80,7 +80,7 @@ fn other(kind: u8, exponent: u32, x: f64, out: &mut [u8], at: usize) -> usize {
 }
 
 // A power of each cell, or whether it is finite.
-pub fn others(head: Head, cells: &[f64], out: &mut [u8], at: usize) -> Line {
+pub(crate) fn others(head: Head, cells: &[f64], out: &mut [u8], at: usize) -> Line {
     let kind = head.kind;
     let exponent = head.wholes[1];
     if 0x7fff_ffff < exponent {

@@ -59,7 +59,7 @@ fn number_at(bytes: &[u8], start: usize, n: usize) -> u64 {
 }
 
 // Whether the input starts as a list does.
-pub fn opens(bytes: &mut [u8]) -> bool {
+pub(crate) fn opens(bytes: &mut [u8]) -> bool {
     if !take(bytes, 8) {
         return false;
     }
@@ -108,7 +108,7 @@ fn rest_of_head(bytes: &mut [u8], kind: u8, count: usize, most: usize) -> Head
 }
 
 // The next case of the list, up to its cells, of which there are at most `most`.
-pub fn next_case(bytes: &mut [u8], most: usize) -> Head
+pub(crate) fn next_case(bytes: &mut [u8], most: usize) -> Head
     ensures { λ r. ⌜ r .cells ≤ most ⌝ }
 {
     if bytes.len() < 2 {
@@ -149,7 +149,7 @@ fn least(a: usize, b: usize) -> usize
 }
 
 // Reads a cell for each place of `cells`, 512 at a time; whether all were there.
-pub fn fill(bytes: &mut [u8], cells: &mut [f64]) -> bool {
+pub(crate) fn fill(bytes: &mut [u8], cells: &mut [f64]) -> bool {
     let mut done = 0;
     while done < cells.len() {
         let stop = done + least(512, cells.len() - done);
@@ -162,7 +162,7 @@ pub fn fill(bytes: &mut [u8], cells: &mut [f64]) -> bool {
 }
 
 // The byte after a case that starts at `place`, has `count` whole numbers and `cells` cells.
-pub fn after(place: u64, count: usize, cells: usize) -> u64 {
+pub(crate) fn after(place: u64, count: usize, cells: usize) -> u64 {
     if count <= 16 {
         if cells <= 65536 {
             let length = 6 + 4 * count + 8 * cells;

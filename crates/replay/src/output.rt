@@ -8,12 +8,12 @@ pub struct Line {
 }
 
 // A case that does not fit its kind: nothing is written.
-pub fn unanswered(at: usize) -> Line {
+pub(crate) fn unanswered(at: usize) -> Line {
     Line { at, good: false }
 }
 
 // Writes what is in the buffer.
-pub fn flush(out: &[u8], at: usize) {
+pub(crate) fn flush(out: &[u8], at: usize) {
     if at <= out.len() {
         io::write_all(STDOUT_FILENO, &out[..at]);
     }
@@ -48,7 +48,7 @@ fn prefix(out: &mut [u8], at: usize, words: &[u8], n: usize) -> usize {
 }
 
 // The bytes of `words`.
-pub fn text(out: &mut [u8], at: usize, words: &[u8]) -> usize {
+pub(crate) fn text(out: &mut [u8], at: usize, words: &[u8]) -> usize {
     prefix(out, at, words, words.len())
 }
 
@@ -58,7 +58,7 @@ fn decimal(out: &mut [u8], at: usize, digits: &[u8; 20], n: usize) -> usize {
 }
 
 // A blank, and a whole number in decimal.
-pub fn whole(out: &mut [u8], at: usize, n: u64) -> usize {
+pub(crate) fn whole(out: &mut [u8], at: usize, n: u64) -> usize {
     let mut digits = [0u8; 20];
     let count = io::decimal(n, &mut digits);
     let next = byte(out, at, b' ');
@@ -66,7 +66,7 @@ pub fn whole(out: &mut [u8], at: usize, n: u64) -> usize {
 }
 
 // A blank, and an f64 as 16 hex digits, or `NaN`.
-pub fn cell(out: &mut [u8], at: usize, x: f64) -> usize {
+pub(crate) fn cell(out: &mut [u8], at: usize, x: f64) -> usize {
     let words = encoding::hex(x);
     let bytes = words.bytes;
     let next = byte(out, at, b' ');
@@ -74,7 +74,7 @@ pub fn cell(out: &mut [u8], at: usize, x: f64) -> usize {
 }
 
 // The first n cells of `list`, as far as there are any.
-pub fn cells(out: &mut [u8], at: usize, list: &[f64], n: usize) -> usize {
+pub(crate) fn cells(out: &mut [u8], at: usize, list: &[f64], n: usize) -> usize {
     let mut next = at;
     let mut i = 0;
     while i < n {
@@ -88,7 +88,7 @@ pub fn cells(out: &mut [u8], at: usize, list: &[f64], n: usize) -> usize {
 }
 
 // The end of a line.
-pub fn end(out: &mut [u8], at: usize) -> Line {
+pub(crate) fn end(out: &mut [u8], at: usize) -> Line {
     Line {
         at: byte(out, at, b'\n'),
         good: true,
@@ -96,7 +96,7 @@ pub fn end(out: &mut [u8], at: usize) -> Line {
 }
 
 // The end of the last line, and of the output.
-pub fn close(out: &mut [u8], at: usize) {
+pub(crate) fn close(out: &mut [u8], at: usize) {
     let next = byte(out, at, b'\n');
     flush(out, next);
 }
