@@ -5,6 +5,7 @@ mod cases;
 mod leaves;
 mod list;
 mod output;
+mod splines;
 
 use list::Head;
 use list::Status;
@@ -19,6 +20,10 @@ fn answer(head: Head, cells: &[f64], work: &mut [f64], out: &mut [u8], at: usize
         10 | 11 | 14 | 15 => leaves::numbers(kind, cells, out, at),
         12 | 13 | 16 => leaves::pairs(kind, cells, out, at),
         17 | 18 => leaves::others(head, cells, out, at),
+        20 | 21 => splines::point(head, cells, out, at),
+        22 | 23 | 24 => splines::basis(head, cells, out, at),
+        25 => splines::insert(head, cells, work, out, at),
+        26 => splines::polynomial(head, cells, work, out, at),
         _ => output::unanswered(at),
     }
 }

@@ -87,6 +87,16 @@ pub(crate) fn cells(out: &mut [u8], at: usize, list: &[f64], n: usize) -> usize 
     next
 }
 
+// Six cells.
+pub(crate) fn six(out: &mut [u8], at: usize, list: &[f64; 6]) -> usize {
+    cells(out, at, list, 6)
+}
+
+// The rows of a table of 36 cells.
+pub(crate) fn rows(out: &mut [u8], at: usize, list: &[f64; 36]) -> usize {
+    cells(out, at, list, 36)
+}
+
 // The end of a line.
 pub(crate) fn end(out: &mut [u8], at: usize) -> Line {
     Line {

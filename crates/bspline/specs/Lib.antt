@@ -1,0 +1,10 @@
+-- Definitions that the contracts cite.
+pub mod Search
+pub mod Side
+pub mod Values
+pub mod Powers
+pub mod Rows
+pub mod Insertion
+pub mod Segments
+pub mod Choose
+pub mod Placed
