@@ -6,6 +6,7 @@ mod leaves;
 mod list;
 mod output;
 mod splines;
+mod systems;
 
 use list::Head;
 use list::Status;
@@ -24,6 +25,7 @@ fn answer(head: Head, cells: &[f64], work: &mut [f64], out: &mut [u8], at: usize
         22 | 23 | 24 => splines::basis(head, cells, out, at),
         25 => splines::insert(head, cells, work, out, at),
         26 => splines::polynomial(head, cells, work, out, at),
+        30 => systems::normal(head, cells, work, out, at),
         _ => output::unanswered(at),
     }
 }

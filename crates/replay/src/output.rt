@@ -105,6 +105,13 @@ pub(crate) fn end(out: &mut [u8], at: usize) -> Line {
     }
 }
 
+// The end of a line that tells a refusal's number.
+pub(crate) fn refused(out: &mut [u8], at: usize, number: u64) -> Line {
+    let next = text(out, at, b" refused");
+    let next = whole(out, next, number);
+    end(out, next)
+}
+
 // The end of the last line, and of the output.
 pub(crate) fn close(out: &mut [u8], at: usize) {
     let next = byte(out, at, b'\n');
