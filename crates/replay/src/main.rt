@@ -23,8 +23,7 @@ fn answer(head: Head, cells: &[f64], work: &mut [f64], out: &mut [u8], at: usize
         17 | 18 => leaves::others(head, cells, out, at),
         20 | 21 => splines::point(head, cells, out, at),
         22 | 23 | 24 => splines::basis(head, cells, out, at),
-        25 => splines::insert(head, cells, work, out, at),
-        26 => splines::polynomial(head, cells, work, out, at),
+        25 | 26 => splines::spline(head, cells, work, out, at),
         30 => systems::normal(head, cells, work, out, at),
         _ => output::unanswered(at),
     }

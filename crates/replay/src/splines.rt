@@ -131,34 +131,6 @@ fn inserted(work: &mut [f64], count: usize, d: usize, x: f64, out: &mut [u8], at
     output::end(out, next)
 }
 
-// Kind 25, whole numbers d and knots: x, the knots, then the controls.
-pub(crate) fn insert(
-    head: Head,
-    cells: &[f64],
-    work: &mut [f64],
-    out: &mut [u8],
-    at: usize,
-) -> Line {
-    let d = head.wholes[0];
-    let knots = head.wholes[1];
-    if 16 < d {
-        return output::unanswered(at);
-    }
-    if knots < 12 {
-        return output::unanswered(at);
-    }
-    if cells.len() as u64 <= knots {
-        return output::unanswered(at);
-    }
-    let first = knots as usize + 1;
-    if work.len() < first {
-        return output::unanswered(at);
-    }
-    window::copy(work, &cells[1..first]);
-    window::copy(&mut work[first..], &cells[first..]);
-    inserted(work, first - 7, d as usize, cells[0], out, at)
-}
-
 // The polynomial of the spline of `count` controls that lies at the front of `work`.
 fn segments(work: &mut [f64], count: usize, d: usize, out: &mut [u8], at: usize) -> Line {
     if count < 6 {
@@ -196,14 +168,15 @@ fn segments(work: &mut [f64], count: usize, d: usize, out: &mut [u8], at: usize)
     output::end(out, next)
 }
 
-// Kind 26, whole numbers d and knots: the knots, then the controls.
-pub(crate) fn polynomial(
+// Kinds 25 and 26, whole numbers d and knots: for 25 x first; the knots, then the controls.
+pub(crate) fn spline(
     head: Head,
     cells: &[f64],
     work: &mut [f64],
     out: &mut [u8],
     at: usize,
 ) -> Line {
+    let kind = head.kind;
     let d = head.wholes[0];
     let knots = head.wholes[1];
     if 16 < d {
@@ -215,6 +188,15 @@ pub(crate) fn polynomial(
     if cells.len() as u64 <= knots {
         return output::unanswered(at);
     }
-    window::copy(work, cells);
-    segments(work, knots as usize - 6, d as usize, out, at)
+    if kind == 26 {
+        window::copy(work, cells);
+        return segments(work, knots as usize - 6, d as usize, out, at);
+    }
+    let first = knots as usize + 1;
+    if work.len() < first {
+        return output::unanswered(at);
+    }
+    window::copy(work, &cells[1..first]);
+    window::copy(&mut work[first..], &cells[first..]);
+    inserted(work, first - 7, d as usize, cells[0], out, at)
 }
