@@ -23,7 +23,8 @@ use Rattle.fraction.proofs.Inverse.{inverse-is, inverse-nonnegative}
 use Rattle.fraction.proofs.Rational.{rationalOrder, <q-weaken, ≤q-mul, difference-above}
 use Rattle.fraction.proofs.Sum.{sum-equal, sum-scale, sum-last}
 use Rattle.book.specs.Fractions.{fractions}
-use Rattle.book.specs.Audit.{addTerm, pieceOf, errorOf, addShare, bernsteinOf, lineAt, pieceErrors}
+use Rattle.polynomial.specs.Piece.{addTerm, piecePower, errorOf, addShare, bernsteinOf}
+use Rattle.book.specs.Audit.{lineAt, pieceErrors}
 use Rattle.book.proofs.Loops.{each-runs}
 use Rattle.book.proofs.Terms.{n0, n1, powerTerm}
 use Rattle.book.proofs.Binomials.{choose-is}
@@ -93,8 +94,8 @@ fraction-high left right x piece h =
 small : (n : ℕ) → n < 6 → n < 2 ^ 32
 small n h = omega arith
 
-power-is : (p : List ℚ) (u w : ℚ) (j : ℕ) → j < 6 → pieceOf fractions (powerOf fractions) p u w j ≡ expandedCoefficient rationalRing 5 (λ k. getD p k 𝟘) u w j
-unfolding pieceOf addTerm
+power-is : (p : List ℚ) (u w : ℚ) (j : ℕ) → j < 6 → piecePower fractions (powerOf fractions) p u w j ≡ expandedCoefficient rationalRing 5 (λ k. getD p k 𝟘) u w j
+unfolding piecePower addTerm
 power-is p u w j h =
     let f : ℕ → ℚ = λ k. wholeq (pos (choose k j)) *q getD p k 𝟘 *q power rationalRing u (k - j) in
     ap (λ (z : ℚ). z *q powerOf fractions w j)

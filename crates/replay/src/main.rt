@@ -1,6 +1,7 @@
 // The fixed list of the Rust's answers, replayed: reads cases from standard input, calls the proved
 // functions, and writes a line for each case. oracle/README.md has the form of a list and of the
 // lines. A module's cases stand in a file of their own here, with one function for each kind.
+mod audits;
 mod cases;
 mod leaves;
 mod list;
@@ -25,6 +26,7 @@ fn answer(head: Head, cells: &[f64], work: &mut [f64], out: &mut [u8], at: usize
         22 | 23 | 24 => splines::basis(head, cells, out, at),
         25 | 26 => splines::spline(head, cells, work, out, at),
         30 => systems::normal(head, cells, work, out, at),
+        50 => audits::audit(head, cells, work, out, at),
         _ => output::unanswered(at),
     }
 }

@@ -1,0 +1,53 @@
+-- The turns of `audit`, and how many intervals it checks.
+use mathlib.Core.Path.{_≡_, refl, sym, ap, _∙_}
+use mathlib.Core.Bool.{Bool, true, false, true≢false}
+use mathlib.Core.List.{List}
+use Prim.Native.Nat.{ℕ, zero, suc, _+_, _-_, _*_}
+use native.Mathlib.Omega.{arith}
+use lib.ListN.{set}
+use lib.Ieee.{Float}
+use Rattle.arith.specs.Loop.{till}
+use Rattle.arith.specs.Loop.Step.{next, stop}
+use Rattle.arith.proofs.Loops.{till-done, till-next, till-stop}
+use Rattle.window.specs.Cells.{at}
+use Rattle.polynomial.specs.declared.interval.Interval.{Interval}
+use Rattle.polynomial.specs.declared.interval.Outcome.the-variants.{Done}
+use Rattle.polynomial.specs.Outcome.{isDone}
+use Rattle.polynomial.specs.Interval.{intervalOf}
+use Rattle.polynomial.specs.Audit.{Audit, boundsWith, auditTurn, auditOf}
+
+module _ (breaks coefficients s y : List Float) (d : ℕ) where
+  -- the turn of interval i, which is r
+  module _ (i : ℕ) (a : Audit) (r : Interval) (is : r ≡ intervalOf breaks coefficients s y d i (a .span) (at (a .witness) i)) where
+    pub goes-on : isDone (r .outcome) ≡ true → auditTurn breaks coefficients s y d i a ≡ next (record { bounds = boundsWith (i * d) d (r .bounds) (a .bounds); witness = set (a .witness) i (r .witness); span = r .span; checked = a .checked + 1; outcome = Done })
+    unfolding auditTurn
+    goes-on g = rw (← is, g)
+
+    pub stops : isDone (r .outcome) ≡ false → auditTurn breaks coefficients s y d i a ≡ stop (record { bounds = a .bounds; witness = a .witness; span = a .span; checked = a .checked; outcome = r .outcome })
+    unfolding auditTurn
+    stops g = rw (← is, g)
+
+  -- the audit from interval i on
+  abbrev rest : ℕ → ℕ → Audit → Audit
+  rest i last a = till (auditTurn breaks coefficients s y d) (λ a. a) i last a
+
+  counted : (k i last : ℕ) (a : Audit) → last - i ≡ k → rest i last a .outcome ≡ Done → rest i last a .checked ≡ a .checked + k
+  counted zero i last a e h = rw (till-done (auditTurn breaks coefficients s y d) (λ a. a) i last a (omega arith)) (omega arith)
+  counted (suc k) i last a e h = go (isDone (intervalOf breaks coefficients s y d i (a .span) (at (a .witness) i) .outcome)) refl (λ b. counted k (i + 1) last b (omega arith))
+    where
+      go : (b : Bool) → isDone (intervalOf breaks coefficients s y d i (a .span) (at (a .witness) i) .outcome) ≡ b
+          → ((b : Audit) → rest (i + 1) last b .outcome ≡ Done → rest (i + 1) last b .checked ≡ b .checked + k) → rest i last a .checked ≡ a .checked + suc k
+      go true g again =
+          let t = till-next (auditTurn breaks coefficients s y d) (λ a. a) i last a _ (omega arith) (goes-on i a _ refl g) in
+          let n = again _ (rw t at h) in
+          rw t (n ∙ omega arith)
+      go false g again =
+          let t = till-stop (auditTurn breaks coefficients s y d) (λ a. a) i last a _ (omega arith) (stops i a _ refl g) in
+          absurd (true≢false (sym (ap isDone (rw t at h)) ∙ g))
+
+  -- an audit that is not refused checked every interval of the range
+  pub audit-counts : (first last : ℕ) (bounds witness : List Float) → auditOf breaks coefficients s y d first last bounds witness .outcome ≡ Done
+      → auditOf breaks coefficients s y d first last bounds witness .checked ≡ last - first
+  unfolding auditOf
+  audit-counts first last bounds witness h =
+      let n = counted (last - first) first last _ refl h in omega arith

@@ -1,0 +1,6 @@
+-- Laws about the definitions.
+pub mod Walk
+pub mod Parts
+pub mod Placed
+pub mod Counts
+pub mod Above

@@ -1,0 +1,7 @@
+-- Definitions that the contracts cite.
+pub mod Span
+pub mod Piece
+pub mod Outcome
+pub mod Interval
+pub mod Audit
+pub mod Placed

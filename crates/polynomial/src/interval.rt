@@ -1,0 +1,168 @@
+// One waypoint interval: the pieces that it has in common with the segments, one after the other.
+ghost use mathlib.Core.Path.{_≡_};
+ghost use Prim.Native.Nat.{_+_, _-_, _*_, _≤_, _<_};
+ghost use lib.ListN.{length};
+ghost use Rattle.polynomial.specs.Outcome.{isDone};
+ghost use Rattle.polynomial.specs.Interval.{placeOf, axesOf, endedBy, intervalOf};
+use crate::piece;
+use crate::piece::Largest;
+use crate::piece::Piece;
+
+// How an audit ends: it is done, the right end of a piece is not above the left (document 01's 12),
+// or a Bernstein coefficient is not finite (13).
+pub enum Outcome {
+    Done,
+    NotAbove,
+    NotFinite,
+}
+
+// What was found so far: for each axis the largest absolute coefficient, the largest of all, and the
+// middle of the piece that it is of.
+pub struct Found {
+    pub bounds: [f64; 16],
+    pub peak: f64,
+    pub witness: f64,
+    pub outcome: Outcome,
+}
+
+// An audited interval: its bounds, an axis after the other, its witness, and the last segment that
+// was used.
+pub struct Interval {
+    pub bounds: [f64; 16],
+    pub witness: f64,
+    pub span: usize,
+    pub outcome: Outcome,
+}
+
+// Whether nothing was refused.
+pub fn is_done(o: Outcome) -> bool
+    ensures { λ r. ⌜ r ≡ isDone o ⌝ }
+{
+    match o {
+        Outcome::Done => true,
+        Outcome::NotAbove => false,
+        Outcome::NotFinite => false,
+    }
+}
+
+// The piece from `left` to `right`, in segment `span` and interval i.
+fn place(breaks: &[f64], s: &[f64], i: usize, span: usize, left: f64, right: f64) -> Piece
+    requires { ⌜ (span + 1 < length (now breaks)) × (i + 1 < length (now s)) ⌝ }
+    ensures { λ r. ⌜ r ≡ placeOf (now (breaks .entry)) (now (s .entry)) i span left right ⌝ }
+{
+    let h = breaks[span + 1] - breaks[span];
+    let l = s[i + 1] - s[i];
+    Piece {
+        u: (left - breaks[span]) / h,
+        w: (right - left) / h,
+        before: (left - s[i]) / l,
+        part: (right - left) / l,
+        middle: (left + right) / 2.0,
+    }
+}
+
+// All d axes on a piece. The segment's first axis is number `first` of all axes of all segments, and
+// the first coordinate of the interval's waypoint stands at `row`.
+fn axes(
+    coefficients: &[f64],
+    y: &[f64],
+    d: usize,
+    first: usize,
+    row: usize,
+    q: Piece,
+    f: Found,
+) -> Found
+    requires { ⌜ (d ≤ 16) × (6 * (first + d) ≤ length (now coefficients)) × (row + d + d ≤ length (now y)) ⌝ }
+    ensures { λ r. ⌜ r ≡ axesOf (now (coefficients .entry)) (now (y .entry)) d first row q f ⌝ }
+{
+    let mut bounds = f.bounds;
+    let mut peak = f.peak;
+    let mut witness = f.witness;
+    let outcome = f.outcome;
+    let mut axis = 0;
+    while axis < d {
+        let from = 6 * (first + axis);
+        let to = from + 6;
+        let b = piece::error_form(&coefficients[from..to], y[row + axis], y[row + d + axis], q);
+        let cells = b.cells;
+        if !piece::all_finite(cells) {
+            return Found {
+                bounds,
+                peak,
+                witness,
+                outcome: Outcome::NotFinite,
+            };
+        }
+        let before = Largest {
+            bound: bounds[axis],
+            peak,
+            witness,
+        };
+        let l = piece::take_in(cells, q.middle, before);
+        bounds[axis] = l.bound;
+        peak = l.peak;
+        witness = l.witness;
+        axis += 1;
+    }
+    Found {
+        bounds,
+        peak,
+        witness,
+        outcome,
+    }
+}
+
+// The interval, as it ends.
+fn ended(o: Outcome, span: usize, f: Found) -> Interval
+    ensures { λ r. ⌜ r ≡ endedBy o span f ⌝ }
+{
+    let bounds = f.bounds;
+    Interval {
+        bounds,
+        witness: f.witness,
+        span,
+        outcome: o,
+    }
+}
+
+// Interval i, from segment `span` on, where its witness was `before`.
+pub fn audit_interval(
+    breaks: &[f64],
+    coefficients: &[f64],
+    s: &[f64],
+    y: &[f64],
+    d: usize,
+    i: usize,
+    span: usize,
+    before: f64,
+) -> Interval
+    requires { ⌜ (d ≤ 16) × (span + 1 < length (now breaks)) × ((length (now breaks) - 1) * (6 * d) ≤ length (now coefficients))
+        × (i + 1 < length (now s)) × (i * d + d + d ≤ length (now y)) ⌝ }
+    ensures { λ r. ⌜ (r ≡ intervalOf (now (breaks .entry)) (now (coefficients .entry)) (now (s .entry)) (now (y .entry)) d i span before)
+        × (r .span + 1 < length (now (breaks .entry))) ⌝ }
+{
+    let end = s[i + 1];
+    let mut left = s[i];
+    let mut k = span;
+    let mut f = Found {
+        bounds: [0.0; 16],
+        peak: -1.0,
+        witness: before,
+        outcome: Outcome::Done,
+    };
+    while left < end {
+        k = crate::span::advance(breaks, left, k);
+        let right = float::min(end, breaks[k + 1]);
+        if right <= left {
+            return ended(Outcome::NotAbove, k, f);
+        }
+        let q = place(breaks, s, i, k, left, right);
+        f = axes(coefficients, y, d, k * d, i * d, q, f);
+        let outcome = f.outcome;
+        if !is_done(outcome) {
+            return ended(outcome, k, f);
+        }
+        left = right;
+    }
+    ended(Outcome::Done, k, f)
+}

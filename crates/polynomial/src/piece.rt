@@ -1,0 +1,160 @@
+// One axis on one piece of a segment: the error's power coefficients on the piece, its Bernstein
+// coefficients, and the largest of these.
+ghost use mathlib.Core.Path.{_≡_};
+ghost use mathlib.Core.Bool.{_&&_, cond};
+ghost use Prim.Native.Nat.{_+_, _<_};
+ghost use lib.ListN.{length};
+ghost use Rattle.arith.specs.Operations.{floats};
+ghost use Rattle.arith.specs.Loop.{each};
+ghost use Rattle.float.specs.Power.{powerOf};
+ghost use Rattle.polynomial.specs.Piece.{piecePower, errorOf, bernsteinOf, bernsteinForm};
+ghost use Rattle.polynomial.specs.Interval.{errorForm, allFinite, largestTurn};
+
+// Where a piece lies. `u` and `w`: its left end and its width, by the segment's local parameter.
+// `before` and `part`: what part of the waypoint interval lies before it, and what part it is.
+pub struct Piece {
+    pub u: f64,
+    pub w: f64,
+    pub before: f64,
+    pub part: f64,
+    pub middle: f64,
+}
+
+// Six coefficients.
+pub struct Six {
+    pub cells: [f64; 6],
+}
+
+// The largest absolute coefficient of an axis; the largest of all axes, and the middle of its piece.
+pub struct Largest {
+    pub bound: f64,
+    pub peak: f64,
+    pub witness: f64,
+}
+
+// Power j, by the piece's parameter, of the polynomial with the six coefficients p.
+fn power(p: &[f64], u: f64, w: f64, j: usize) -> f64
+    requires { ⌜ (length (now p) ≡ 6) × (j < 6) ⌝ }
+    ensures { λ r. ⌜ r ≡ piecePower floats (powerOf floats) (now (p .entry)) u w j ⌝ }
+{
+    let mut value = 0.0;
+    let mut k = j;
+    while k < 6 {
+        let c = bspline::choose::choose(k, j);
+        let q = float::powi(u, (k - j) as u32);
+        value = value + c * p[k] * q;
+        k += 1;
+    }
+    value * float::powi(w, j as u32)
+}
+
+// All six powers, less the line a + b times the piece's parameter.
+fn error(p: &[f64], u: f64, w: f64, a: f64, b: f64) -> Six
+    requires { ⌜ length (now p) ≡ 6 ⌝ }
+    ensures { λ r. ⌜ r .cells ≡ errorOf floats (powerOf floats) (now (p .entry)) u w a b ⌝ }
+{
+    Six {
+        cells: [
+            power(p, u, w, 0) - a,
+            power(p, u, w, 1) - b,
+            power(p, u, w, 2),
+            power(p, u, w, 3),
+            power(p, u, w, 4),
+            power(p, u, w, 5),
+        ],
+    }
+}
+
+// Bernstein coefficient k of the polynomial with these powers.
+fn bernstein(powers: [f64; 6], k: usize) -> f64
+    requires { ⌜ k < 6 ⌝ }
+    ensures { λ r. ⌜ r ≡ bernsteinOf floats powers k ⌝ }
+{
+    let mut v = 0.0;
+    let mut j = 0;
+    while j < k + 1 {
+        let c = bspline::choose::choose(k, j);
+        let e = bspline::choose::choose(5, j);
+        v = v + powers[j] * c / e;
+        j += 1;
+    }
+    v
+}
+
+// All six.
+fn bernsteins(powers: [f64; 6]) -> Six
+    ensures { λ r. ⌜ r .cells ≡ bernsteinForm floats powers ⌝ }
+{
+    Six {
+        cells: [
+            bernstein(powers, 0),
+            bernstein(powers, 1),
+            bernstein(powers, 2),
+            bernstein(powers, 3),
+            bernstein(powers, 4),
+            bernstein(powers, 5),
+        ],
+    }
+}
+
+// The Bernstein coefficients of the segment's polynomial p on the piece, less the line that goes
+// from `start` to `end` over the waypoint interval.
+pub fn error_form(p: &[f64], start: f64, end: f64, q: Piece) -> Six
+    requires { ⌜ length (now p) ≡ 6 ⌝ }
+    ensures { λ r. ⌜ r .cells ≡ errorForm (now (p .entry)) start end q ⌝ }
+{
+    let delta = end - start;
+    let e = error(p, q.u, q.w, start + q.before * delta, q.part * delta);
+    let cells = e.cells;
+    bernsteins(cells)
+}
+
+// Whether both hold.
+fn both(a: bool, b: bool) -> bool
+    ensures { λ r. ⌜ r ≡ (a && b) ⌝ }
+{
+    if a { b } else { false }
+}
+
+// Whether no coefficient is infinite or a NaN.
+pub fn all_finite(b: [f64; 6]) -> bool
+    ensures { λ r. ⌜ r ≡ allFinite b ⌝ }
+{
+    let mut good = true;
+    let mut k = 0;
+    while k < 6 {
+        good = both(good, float::is_finite(b[k]));
+        k += 1;
+    }
+    good
+}
+
+// x where the test holds, and otherwise y.
+fn either(test: bool, x: f64, y: f64) -> f64
+    ensures { λ r. ⌜ r ≡ cond test x y ⌝ }
+{
+    if test { x } else { y }
+}
+
+// The coefficients b of a piece with this middle are taken in, one after the other.
+pub fn take_in(b: [f64; 6], middle: f64, before: Largest) -> Largest
+    ensures { λ r. ⌜ r ≡ each (largestTurn b middle) 0 6 before ⌝ }
+{
+    let mut bound = before.bound;
+    let mut peak = before.peak;
+    let mut witness = before.witness;
+    let mut k = 0;
+    while k < 6 {
+        let v = float::abs(b[k]);
+        let higher = peak < v;
+        bound = float::max(bound, v);
+        witness = either(higher, middle, witness);
+        peak = either(higher, v, peak);
+        k += 1;
+    }
+    Largest {
+        bound,
+        peak,
+        witness,
+    }
+}
