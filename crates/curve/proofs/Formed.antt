@@ -1,0 +1,112 @@
+-- What a well-formed curve gives: numbers within their bounds, lengths that match, and a set whose rows all lie in its slice.
+use mathlib.Core.Path.{_≡_, refl, sym}
+use mathlib.Core.Bool.{Bool, true, false, _&&_, true≢false}
+use mathlib.Core.List.{List}
+use Prim.Native.Nat.{ℕ, zero, suc, _+_, _-_, _*_, _≤_, _<_}
+use native.Mathlib.Omega.{arith}
+use borrow.Author.Tests.{leb-true, ltb-true, eqb-true, le-ltb, ne-eqb}
+use lib.Dec.{leb, ltb, eqb}
+use lib.ListN.{length, getD}
+use lib.Ieee.{Float, binary64, ofBits, eq}
+use Rattle.arith.proofs.Rows.{row-end}
+use Rattle.window.specs.Cells.{+0, at}
+use Rattle.polynomial.specs.Span.{spanOf}
+use Rattle.curve.specs.declared.Curve.{Curve}
+use Rattle.curve.specs.Form.{Slices, axesFormed, rises, setFormed, othersFormed, rangeFormed, wellFormed}
+use Rattle.curve.specs.Places.{positionOf}
+use Rattle.curve.specs.Segment.{located}
+use Rattle.curve.proofs.Firsts.{every-at}
+
+-- both sides of a conjunction
+and-parts : (a b : Bool) → (a && b) ≡ true → (a ≡ true) × (b ≡ true)
+and-parts true b h = (refl, h)
+and-parts false b h = absurd (true≢false (sym h))
+
+-- the numbers of a set
+pub record Sizes (m n : ℕ) (breaks coefficients : List Float) : Type 0 where
+  pub some : 1 ≤ n
+  pub most : n ≤ 20000
+  pub breaks-length : length breaks ≡ n + 1
+  pub coefficients-length : length coefficients ≡ 6 * (n * m)
+
+pub set-sizes : (m n : ℕ) (breaks coefficients : List Float) → setFormed m n breaks coefficients ≡ true → Sizes m n breaks coefficients
+unfolding setFormed
+set-sizes m n b c h =
+    let t1 = leb 1 n && leb n 20000 in
+    let t2 = t1 && eqb (length b) (n + 1) in
+    let t3 = t2 && eqb (length c) (6 * (n * m)) in
+    let t4 = t3 && eq (at b 0) +0 in
+    let t5 = t4 && rises b n in
+    let p5 = and-parts t5 (eq (at b n) (ofBits binary64 0x3ff0_0000_0000_0000)) h in
+    let p4 = and-parts t4 (rises b n) (p5 .0) in
+    let p3 = and-parts t3 (eq (at b 0) +0) (p4 .0) in
+    let p2 = and-parts t2 (eqb (length c) (6 * (n * m))) (p3 .0) in
+    let p1 = and-parts t1 (eqb (length b) (n + 1)) (p2 .0) in
+    let p0 = and-parts (leb 1 n) (leb n 20000) (p1 .0) in
+    record {
+      some = leb-true 1 n (p0 .0);
+      most = leb-true n 20000 (p0 .1);
+      breaks-length = eqb-true (length b) (n + 1) (p1 .1);
+      coefficients-length = eqb-true (length c) (6 * (n * m)) (p2 .1);
+    }
+
+-- wherever a parameter lies, the rows of its segment lie in the slice
+pub set-rows : (m n : ℕ) (breaks coefficients : List Float) (u : Float) → setFormed m n breaks coefficients ≡ true → 6 * (located breaks u .span * m + m) ≤ length coefficients
+unfolding located
+set-rows m n b c u h =
+    let z = set-sizes m n b c h in
+    let l : 2 ≤ length b = omega (arith, z .some, z .breaks-length) in
+    rw (le-ltb (length b) 2 l) (let r = row-end (spanOf b u) n m (n * m) (omega (arith, z .some, z .breaks-length)) (omega arith) in omega (arith, z .coefficients-length))
+
+pub other-rows : (m n : ℕ) (breaks coefficients : List Float) (u : Float) → othersFormed m n breaks coefficients ≡ true → 6 * (located breaks u .span * m + m) ≤ length coefficients
+unfolding othersFormed
+other-rows zero n b c u h = omega arith
+other-rows (suc m) n b c u h = set-rows (suc m) n b c u (rw (ne-eqb (suc m) 0 (λ e. absurd (omega arith))) at h)
+
+-- what the definition of a well-formed curve asks, part by part
+pub record Formed (c : Curve) (s : Slices) : Type 0 where
+  pub d-low : 1 ≤ c .d
+  pub d-high : c .d ≤ 16
+  pub k-low : 1 ≤ c .k
+  pub k-high : c .k ≤ c .d
+  pub axes-formed : axesFormed (c .axes) (c .k) (c .d) ≡ true
+  pub set-formed : setFormed (c .k) (c .segments) (s .breaks) (s .coefficients) ≡ true
+  pub others-formed : othersFormed (c .d - c .k) (c .«other_segments») (s .otherBreaks) (s .otherCoefficients) ≡ true
+  pub range-formed : rangeFormed (c .start) (c .end) ≡ true
+
+pub formed : (c : Curve) (s : Slices) → wellFormed c s ≡ true → Formed c s
+unfolding wellFormed
+formed c s h =
+    let others = othersFormed (c .d - c .k) (c .«other_segments») (s .otherBreaks) (s .otherCoefficients) in
+    let set = setFormed (c .k) (c .segments) (s .breaks) (s .coefficients) in
+    let axes = axesFormed (c .axes) (c .k) (c .d) in
+    let t1 = leb 1 (c .d) && leb (c .d) 16 in
+    let t2 = t1 && leb 1 (c .k) in
+    let t3 = t2 && leb (c .k) (c .d) in
+    let t4 = t3 && axes in
+    let t5 = t4 && set in
+    let p6 = and-parts (t5 && others) (rangeFormed (c .start) (c .end)) h in
+    let p5 = and-parts t5 others (p6 .0) in
+    let p4 = and-parts t4 set (p5 .0) in
+    let p3 = and-parts t3 axes (p4 .0) in
+    let p2 = and-parts t2 (leb (c .k) (c .d)) (p3 .0) in
+    let p1 = and-parts t1 (leb 1 (c .k)) (p2 .0) in
+    let p0 = and-parts (leb 1 (c .d)) (leb (c .d) 16) (p1 .0) in
+    record {
+      d-low = leb-true 1 (c .d) (p0 .0);
+      d-high = leb-true (c .d) 16 (p0 .1);
+      k-low = leb-true 1 (c .k) (p1 .1);
+      k-high = leb-true (c .k) (c .d) (p2 .1);
+      axes-formed = p3 .1;
+      set-formed = p4 .1;
+      others-formed = p5 .1;
+      range-formed = p6 .1;
+    }
+
+-- the listed axes are below d, and each is none of those before it
+pub axes-good : (axes : List ℕ) (k d : ℕ) → axesFormed axes k d ≡ true → (i : ℕ) → i < k → (getD axes i 0 < d) × (positionOf axes i (getD axes i 0) ≡ i)
+unfolding axesFormed
+axes-good axes k d h i l =
+    let a = getD axes i 0 in
+    let p = and-parts (ltb a d) (eqb (positionOf axes i a) i) (every-at (λ j. ltb (getD axes j 0) d && eqb (positionOf axes j (getD axes j 0)) j) k h i l) in
+    (ltb-true a d (p .0), eqb-true (positionOf axes i a) i (p .1))

@@ -1,0 +1,25 @@
+-- `form::others_formed` meets its contract: by cases on the tests.
+use borrow.Author.Tests.{eq-eqb, ne-eqb}
+use borrow.Author.Needs.{needs}
+use Rattle.curve.specs.Form.{othersFormed}
+use Rattle.curve.proofs.form.others_formed.Statement.{statement}
+use Rattle.curve.proofs.form.others_formed.Tie as tie
+
+returns : tie.Need-returns
+unfolding othersFormed
+returns c = rw (ne-eqb _ _ (c .before .if1 .taken)) (c .set-formed .ensures)
+
+returns-2 : tie.Need-returns-2
+unfolding othersFormed
+returns-2 c = rw (eq-eqb _ _ (c .before .if1 .left), ne-eqb _ _ (c .if2 .taken))
+
+returns-3 : tie.Need-returns-3
+unfolding othersFormed
+returns-3 c = rw (eq-eqb _ _ (c .before .before .if1 .left), eq-eqb _ _ (c .before .if2 .left), ne-eqb _ _ (c .if3 .taken))
+
+returns-4 : tie.Need-returns-4
+unfolding othersFormed
+returns-4 c = rw (eq-eqb _ _ (c .before .before .if1 .left), eq-eqb _ _ (c .before .if2 .left), eq-eqb _ _ (c .if3 .left))
+
+pub others-formed-spec : {M : Type 1} → statement M
+others-formed-spec = tie.close (tie.spec (λ c κs. search needs) returns returns-2 returns-3 returns-4)

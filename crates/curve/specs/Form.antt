@@ -1,0 +1,58 @@
+-- When a curve is well formed: document 01, "The request and the curve".
+use mathlib.Core.Bool.{Bool, _&&_, cond}
+use mathlib.Core.List.{List}
+use Prim.Native.Nat.{ℕ, _+_, _-_, _*_}
+use lib.Dec.{leb, ltb, eqb}
+use lib.ListN.{length, getD}
+use lib.Ieee.{Float, binary64, ofBits, sub, lt, eq}
+use lib.Ieee.Scale.{finite}
+use Rattle.window.specs.Cells.{+0, at}
+use Rattle.curve.specs.declared.Curve.{Curve}
+use Rattle.curve.specs.First.{every}
+use Rattle.curve.specs.Places.{positionOf}
+
+-- the four slices beside a curve: breaks and coefficients of the selected axes, and of the other axes
+pub record Slices : Type 0 where
+  pub breaks : List Float
+  pub coefficients : List Float
+  pub otherBreaks : List Float
+  pub otherCoefficients : List Float
+
+abbrev pub slices : List Float → List Float → List Float → List Float → Slices
+slices b c ob oc = record { breaks = b; coefficients = c; otherBreaks = ob; otherCoefficients = oc }
+
+-- "axes are distinct and below d": the first k are below d and each is none of those before it
+unfoldable pub axesFormed : List ℕ → ℕ → ℕ → Bool
+axesFormed axes k d = every k (λ i. ltb (getD axes i 0) d && eqb (positionOf axes i (getD axes i 0)) i)
+
+-- each of the first n breaks is below the next
+abbrev pub rises : List Float → ℕ → Bool
+rises breaks n = every n (λ i. lt (at breaks i) (at breaks (i + 1)))
+
+-- A set of n segments with m axes: "slice lengths match, each set has at least one and at most 20,000 segments", "breaks rise strictly from 0
+-- to 1". Numbers are compared, so that a first break of -0 is 0.
+unfoldable pub setFormed : ℕ → ℕ → List Float → List Float → Bool
+setFormed m n breaks coefficients =
+    leb 1 n && leb n 20000
+    && eqb (length breaks) (n + 1) && eqb (length coefficients) (6 * (n * m))
+    && eq (at breaks 0) +0 && rises breaks n && eq (at breaks n) (ofBits binary64 0x3ff0_0000_0000_0000)
+
+-- the n segments of the m other axes: "when k = d the other set has neither segments nor breaks", so the lengths are 0
+unfoldable pub othersFormed : ℕ → ℕ → List Float → List Float → Bool
+othersFormed m n breaks coefficients =
+    cond (eqb m 0) (eqb n 0 && eqb (length breaks) 0 && eqb (length coefficients) 0) (setFormed m n breaks coefficients)
+
+-- "start and end are finite and end - start is finite and above 0"
+unfoldable pub rangeFormed : Float → Float → Bool
+rangeFormed start end = finite start && finite end && finite (sub binary64 end start) && lt +0 (sub binary64 end start)
+
+-- A curve "is well formed if 1 ≤ d ≤ 16, axes are distinct and below d, 1 ≤ k ≤ d", each set is well formed, and so is the range. The cells of
+-- `axes` from k on mean nothing.
+unfoldable pub wellFormed : Curve → Slices → Bool
+wellFormed c s =
+    leb 1 (c .d) && leb (c .d) 16
+    && leb 1 (c .k) && leb (c .k) (c .d)
+    && axesFormed (c .axes) (c .k) (c .d)
+    && setFormed (c .k) (c .segments) (s .breaks) (s .coefficients)
+    && othersFormed (c .d - c .k) (c .«other_segments») (s .otherBreaks) (s .otherCoefficients)
+    && rangeFormed (c .start) (c .end)

@@ -1,0 +1,9 @@
+-- Definitions that the contracts cite.
+
+pub mod First
+pub mod Places
+pub mod Form
+pub mod Segment
+pub mod Range
+pub mod Row
+pub mod Query

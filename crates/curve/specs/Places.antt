@@ -1,0 +1,21 @@
+-- Where an axis stands among the axes of its set.
+use mathlib.Core.Bool.{cond}
+use mathlib.Core.List.{List}
+use Prim.Native.Nat.{ℕ, zero, suc, _+_}
+use lib.Dec.{ltb, eqb}
+use lib.ListN.{getD}
+use Rattle.curve.specs.First.{firstOf}
+
+-- the place of axis a among the first n listed axes; n where it is not there
+abbrev pub positionOf : List ℕ → ℕ → ℕ → ℕ
+positionOf axes n a = firstOf n (λ i. eqb (getD axes i 0) a)
+
+-- how many axes below a are not among the first k listed
+unfoldable pub othersBelow : List ℕ → ℕ → ℕ → ℕ
+othersBelow axes k zero = 0
+othersBelow axes k (suc a) = othersBelow axes k a + cond (ltb (positionOf axes k a) k) 0 1
+
+-- The place of axis a: among the selected axes its index in the list; the other axes follow in rising order, k and above (the source's
+-- `(0..d).filter(|a| !seen[*a])`).
+unfoldable pub placeOf : List ℕ → ℕ → ℕ → ℕ
+placeOf axes k a = cond (ltb (positionOf axes k a) k) (positionOf axes k a) (k + othersBelow axes k a)

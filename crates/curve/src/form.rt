@@ -1,0 +1,142 @@
+// Whether a curve is well formed.
+ghost use mathlib.Core.Path.{_≡_};
+ghost use Prim.Native.Nat.{_+_, _-_, _*_, _≤_, _<_};
+ghost use lib.ListN.{length};
+ghost use Rattle.curve.specs.Form.{slices, axesFormed, rises, setFormed, othersFormed, rangeFormed, wellFormed};
+use crate::Curve;
+use crate::place::position;
+
+// Whether the first k axes are distinct and below d.
+fn axes_formed(axes: &[usize; 16], k: usize, d: usize) -> bool
+    requires { ⌜ k ≤ 16 ⌝ }
+    ensures { λ r. ⌜ r ≡ axesFormed (now (axes .entry)) k d ⌝ }
+{
+    let mut i = 0;
+    while i < k {
+        let a = axes[i];
+        if d <= a {
+            return false;
+        }
+        if position(axes, i, a) < i {
+            return false;
+        }
+        i += 1;
+    }
+    true
+}
+
+// Whether each of the first n breaks is below the next.
+fn rise(breaks: &[f64], n: usize) -> bool
+    requires { ⌜ n < length (now breaks) ⌝ }
+    ensures { λ r. ⌜ r ≡ rises (now (breaks .entry)) n ⌝ }
+{
+    let mut i = 0;
+    while i < n {
+        if breaks[i] < breaks[i + 1] {
+            i += 1;
+        } else {
+            return false;
+        }
+    }
+    true
+}
+
+// Whether n segments with m axes each are well formed.
+fn set_formed(m: usize, n: usize, breaks: &[f64], coefficients: &[f64]) -> bool
+    requires { ⌜ m ≤ 16 ⌝ }
+    ensures { λ r. ⌜ r ≡ setFormed m n (now (breaks .entry)) (now (coefficients .entry)) ⌝ }
+{
+    if n < 1 {
+        return false;
+    }
+    if 20000 < n {
+        return false;
+    }
+    if breaks.len() != n + 1 {
+        return false;
+    }
+    if coefficients.len() != 6 * (n * m) {
+        return false;
+    }
+    if breaks[0] == 0.0 {
+        if rise(breaks, n) {
+            return breaks[n] == 1.0;
+        }
+    }
+    false
+}
+
+// Whether the n segments of the m other axes are well formed; of no axes there are none.
+fn others_formed(m: usize, n: usize, breaks: &[f64], coefficients: &[f64]) -> bool
+    requires { ⌜ m ≤ 16 ⌝ }
+    ensures { λ r. ⌜ r ≡ othersFormed m n (now (breaks .entry)) (now (coefficients .entry)) ⌝ }
+{
+    if m != 0 {
+        return set_formed(m, n, breaks, coefficients);
+    }
+    if n != 0 {
+        return false;
+    }
+    if breaks.len() != 0 {
+        return false;
+    }
+    coefficients.len() == 0
+}
+
+// Whether the parameters from start to end are well formed.
+fn range_formed(start: f64, end: f64) -> bool
+    ensures { λ r. ⌜ r ≡ rangeFormed start end ⌝ }
+{
+    let length = end - start;
+    if float::is_finite(start) {
+        if float::is_finite(end) {
+            if float::is_finite(length) {
+                return 0.0 < length;
+            }
+        }
+    }
+    false
+}
+
+// Whether the curve with these breaks and coefficients of the selected axes, and these of the other
+// axes, is well formed.
+pub fn well_formed(
+    curve: Curve,
+    breaks: &[f64],
+    coefficients: &[f64],
+    other_breaks: &[f64],
+    other_coefficients: &[f64],
+) -> bool
+    ensures { λ r. ⌜ r ≡ wellFormed curve (slices (now (breaks .entry)) (now (coefficients .entry)) (now («other_breaks» .entry)) (now («other_coefficients» .entry))) ⌝ }
+{
+    let d = curve.d;
+    let k = curve.k;
+    let axes = curve.axes;
+    if d < 1 {
+        return false;
+    }
+    if 16 < d {
+        return false;
+    }
+    if k < 1 {
+        return false;
+    }
+    if d < k {
+        return false;
+    }
+    if !axes_formed(&axes, k, d) {
+        return false;
+    }
+    if !set_formed(k, curve.segments, breaks, coefficients) {
+        return false;
+    }
+    if !others_formed(
+        d - k,
+        curve.other_segments,
+        other_breaks,
+        other_coefficients,
+    ) {
+        return false;
+    }
+    range_formed(curve.start, curve.end)
+}

@@ -1,0 +1,30 @@
+// A curve and its queries: the source's `SmoothedSpline::evaluate`, with the range handling that
+// document 01 adds. A curve is a struct by value; beside it stand four slices, which are only read:
+// the breaks and the coefficients of the selected axes, and those of the other axes. Coefficients lie
+// segment after segment, within it axis after axis, six each, from power 0 up.
+pub mod form; // form.rt: whether a curve is well formed
+mod place; // place.rt: where each axis stands in its set
+mod segment; // segment.rt: one axis on one segment
+mod range; // range.rt: parameters outside start to end
+mod row; // row.rt: the axes of one query, written
+pub mod query; // query.rt: one query, and many in one call
+
+// What a parameter outside start to end gets: a refusal, or the answer at the nearer end.
+pub enum Mode {
+    Error,
+    Clamp,
+}
+
+// d axes, of which the k in `axes` are selected (its further cells mean nothing); the parameter goes
+// from `start` to `end`; the selected axes have `segments` segments, the other axes, in rising order,
+// `other_segments`.
+pub struct Curve {
+    pub d: usize,
+    pub k: usize,
+    pub axes: [usize; 16],
+    pub start: f64,
+    pub end: f64,
+    pub mode: Mode,
+    pub segments: usize,
+    pub other_segments: usize,
+}

@@ -1,0 +1,290 @@
+// One query, and many in one call.
+ghost use mathlib.Core.Path.{_≡_};
+ghost use mathlib.Core.Bool.{true};
+ghost use Prim.Native.Nat.{ℕ, _+_, _*_, _≤_, _<_};
+ghost use lib.Dec.{leb};
+ghost use lib.ListN.{length, getD};
+ghost use Rattle.curve.specs.Form.{slices, wellFormed};
+ghost use Rattle.curve.specs.Places.{placeOf};
+ghost use Rattle.curve.specs.Row.{putAt};
+ghost use Rattle.curve.specs.Query.{columnOf, columnsOf, firstRefused, shortOf, outputs, outcome, evaluateOf, evaluateAllOf, numberOf, numberOfAll, refusedAt};
+use crate::Curve;
+use crate::form;
+use crate::place;
+use crate::place::Places;
+use crate::range;
+use crate::row;
+use crate::segment;
+
+// The answer to a query. A refusal has written nothing.
+pub enum Answer {
+    Done,
+    Malformed,
+    OrderAboveThree,
+    TooShort,
+    Outside,
+}
+
+// The answer to many: all are answered; or the call is refused before a parameter is looked at; or the
+// query at this place is outside, the first that is.
+pub enum Answers {
+    All,
+    Refused(Answer),
+    OutsideAt(usize),
+}
+
+// Whether one of the slices of the orders asked has fewer cells than are needed.
+fn short(order: usize, needed: usize, q: usize, dq: usize, ddq: usize, dddq: usize) -> bool
+    ensures { λ r. ⌜ r ≡ shortOf order needed q dq ddq dddq ⌝ }
+{
+    if q < needed {
+        return true;
+    }
+    if order < 1 {
+        return false;
+    }
+    if dq < needed {
+        return true;
+    }
+    if order < 2 {
+        return false;
+    }
+    if ddq < needed {
+        return true;
+    }
+    if order < 3 {
+        return false;
+    }
+    dddq < needed
+}
+
+// The axes of a well-formed curve at x, from start to end, from the cell `at` of each slice on.
+fn write_at<'a>(
+    curve: Curve,
+    places: Places,
+    breaks: &[f64],
+    coefficients: &'a [f64],
+    other_breaks: &[f64],
+    other_coefficients: &'a [f64],
+    x: f64,
+    order: usize,
+    at: usize,
+    q: &mut [f64],
+    dq: &mut [f64],
+    ddq: &mut [f64],
+    dddq: &mut [f64],
+)
+    requires { ⌜ wellFormed curve (slices (now breaks) (now coefficients) (now «other_breaks») (now «other_coefficients»)) ≡ true ⌝ }
+    requires { ⌜ ((a : ℕ) → a < curve .d → getD (places .at) a 0 ≡ placeOf (curve .axes) (curve .k) a) ⌝ }
+    requires { ⌜ (at + curve .d ≤ length (now q)) × (leb 1 order ≡ true → at + curve .d ≤ length (now dq))
+        × (leb 2 order ≡ true → at + curve .d ≤ length (now ddq)) × (leb 3 order ≡ true → at + curve .d ≤ length (now dddq)) ⌝ }
+    ensures { λ _. ⌜ now (q .exit) ≡ putAt true at (columnOf (λ v. v .value) curve (slices (now (breaks .entry)) (now (coefficients .entry)) (now («other_breaks» .entry)) (now («other_coefficients» .entry))) x) (now (q .entry)) ⌝ }
+    ensures { λ _. ⌜ now (dq .exit) ≡ putAt (leb 1 order) at (columnOf (λ v. v .first) curve (slices (now (breaks .entry)) (now (coefficients .entry)) (now («other_breaks» .entry)) (now («other_coefficients» .entry))) x) (now (dq .entry)) ⌝ }
+    ensures { λ _. ⌜ now (ddq .exit) ≡ putAt (leb 2 order) at (columnOf (λ v. v .second) curve (slices (now (breaks .entry)) (now (coefficients .entry)) (now («other_breaks» .entry)) (now («other_coefficients» .entry))) x) (now (ddq .entry)) ⌝ }
+    ensures { λ _. ⌜ now (dddq .exit) ≡ putAt (leb 3 order) at (columnOf (λ v. v .third) curve (slices (now (breaks .entry)) (now (coefficients .entry)) (now («other_breaks» .entry)) (now («other_coefficients» .entry))) x) (now (dddq .entry)) ⌝ }
+{
+    let length = curve.end - curve.start;
+    let u = (x - curve.start) / length;
+    let scale = 1.0 / length;
+    let here = segment::locate(breaks, u);
+    let there = segment::locate(other_breaks, u);
+    let k = curve.k;
+    let m = curve.d - k;
+    row::put_axes(
+        coefficients,
+        other_coefficients,
+        k,
+        m,
+        places,
+        here,
+        there,
+        scale,
+        order,
+        at,
+        q,
+        dq,
+        ddq,
+        dddq,
+    );
+}
+
+// The query at x: the value of every axis to q and its derivatives up to the order asked, 0 to 3, to the
+// others. On an answer d cells of each slice asked for are written and nothing else, on a refusal nothing.
+pub fn evaluate<'a>(
+    curve: Curve,
+    breaks: &[f64],
+    coefficients: &'a [f64],
+    other_breaks: &[f64],
+    other_coefficients: &'a [f64],
+    x: f64,
+    order: usize,
+    q: &mut [f64],
+    dq: &mut [f64],
+    ddq: &mut [f64],
+    dddq: &mut [f64],
+) -> Answer
+    ensures { λ r. ⌜ outcome (numberOf r) 0 (outputs (now (q .exit)) (now (dq .exit)) (now (ddq .exit)) (now (dddq .exit)))
+        ≡ evaluateOf curve (slices (now (breaks .entry)) (now (coefficients .entry)) (now («other_breaks» .entry)) (now («other_coefficients» .entry))) x order (outputs (now (q .entry)) (now (dq .entry)) (now (ddq .entry)) (now (dddq .entry))) ⌝ }
+{
+    let d = curve.d;
+    if !form::well_formed(
+        curve,
+        breaks,
+        coefficients,
+        other_breaks,
+        other_coefficients,
+    ) {
+        return Answer::Malformed;
+    }
+    if 3 < order {
+        return Answer::OrderAboveThree;
+    }
+    if short(order, d, q.len(), dq.len(), ddq.len(), dddq.len()) {
+        return Answer::TooShort;
+    }
+    let ranged = range::in_range(curve, x);
+    if ranged.refused {
+        return Answer::Outside;
+    }
+    let axes = curve.axes;
+    let places = place::find_places(&axes, curve.k, d);
+    write_at(
+        curve,
+        places,
+        breaks,
+        coefficients,
+        other_breaks,
+        other_coefficients,
+        ranged.at,
+        order,
+        0,
+        q,
+        dq,
+        ddq,
+        dddq,
+    );
+    Answer::Done
+}
+
+// The place of the first parameter that is refused; their count where none is.
+fn first_refused(curve: Curve, xs: &[f64]) -> usize
+    ensures { λ r. ⌜ r ≡ firstRefused curve (now (xs .entry)) ⌝ }
+{
+    let mut i = 0;
+    while i < xs.len() {
+        let ranged = range::in_range(curve, xs[i]);
+        if ranged.refused {
+            return i;
+        }
+        i += 1;
+    }
+    i
+}
+
+// The axes of a well-formed curve at each of the parameters, none of which is refused.
+fn write_all<'a>(
+    curve: Curve,
+    places: Places,
+    breaks: &[f64],
+    coefficients: &'a [f64],
+    other_breaks: &[f64],
+    other_coefficients: &'a [f64],
+    xs: &[f64],
+    order: usize,
+    q: &mut [f64],
+    dq: &mut [f64],
+    ddq: &mut [f64],
+    dddq: &mut [f64],
+)
+    requires { ⌜ wellFormed curve (slices (now breaks) (now coefficients) (now «other_breaks») (now «other_coefficients»)) ≡ true ⌝ }
+    requires { ⌜ ((a : ℕ) → a < curve .d → getD (places .at) a 0 ≡ placeOf (curve .axes) (curve .k) a) ⌝ }
+    requires { ⌜ (length (now xs) * curve .d ≤ length (now q)) × (leb 1 order ≡ true → length (now xs) * curve .d ≤ length (now dq))
+        × (leb 2 order ≡ true → length (now xs) * curve .d ≤ length (now ddq)) × (leb 3 order ≡ true → length (now xs) * curve .d ≤ length (now dddq)) ⌝ }
+    ensures { λ _. ⌜ now (q .exit) ≡ putAt true 0 (columnsOf (λ v. v .value) curve (slices (now (breaks .entry)) (now (coefficients .entry)) (now («other_breaks» .entry)) (now («other_coefficients» .entry))) (now (xs .entry)) (length (now (xs .entry)))) (now (q .entry)) ⌝ }
+    ensures { λ _. ⌜ now (dq .exit) ≡ putAt (leb 1 order) 0 (columnsOf (λ v. v .first) curve (slices (now (breaks .entry)) (now (coefficients .entry)) (now («other_breaks» .entry)) (now («other_coefficients» .entry))) (now (xs .entry)) (length (now (xs .entry)))) (now (dq .entry)) ⌝ }
+    ensures { λ _. ⌜ now (ddq .exit) ≡ putAt (leb 2 order) 0 (columnsOf (λ v. v .second) curve (slices (now (breaks .entry)) (now (coefficients .entry)) (now («other_breaks» .entry)) (now («other_coefficients» .entry))) (now (xs .entry)) (length (now (xs .entry)))) (now (ddq .entry)) ⌝ }
+    ensures { λ _. ⌜ now (dddq .exit) ≡ putAt (leb 3 order) 0 (columnsOf (λ v. v .third) curve (slices (now (breaks .entry)) (now (coefficients .entry)) (now («other_breaks» .entry)) (now («other_coefficients» .entry))) (now (xs .entry)) (length (now (xs .entry)))) (now (dddq .entry)) ⌝ }
+{
+    let d = curve.d;
+    let mut i = 0;
+    while i < xs.len() {
+        let ranged = range::in_range(curve, xs[i]);
+        write_at(
+            curve,
+            places,
+            breaks,
+            coefficients,
+            other_breaks,
+            other_coefficients,
+            ranged.at,
+            order,
+            i * d,
+            q,
+            dq,
+            ddq,
+            dddq,
+        );
+        i += 1;
+    }
+}
+
+// The queries at all of `xs`, each as `evaluate` has it, d cells after d cells. The curve is tested once.
+// The first query that is refused refuses the call; on a refusal nothing is written.
+pub fn evaluate_all<'a>(
+    curve: Curve,
+    breaks: &[f64],
+    coefficients: &'a [f64],
+    other_breaks: &[f64],
+    other_coefficients: &'a [f64],
+    xs: &[f64],
+    order: usize,
+    q: &mut [f64],
+    dq: &mut [f64],
+    ddq: &mut [f64],
+    dddq: &mut [f64],
+) -> Answers
+    ensures { λ r. ⌜ outcome (numberOfAll r) (refusedAt r) (outputs (now (q .exit)) (now (dq .exit)) (now (ddq .exit)) (now (dddq .exit)))
+        ≡ evaluateAllOf curve (slices (now (breaks .entry)) (now (coefficients .entry)) (now («other_breaks» .entry)) (now («other_coefficients» .entry))) (now (xs .entry)) order (outputs (now (q .entry)) (now (dq .entry)) (now (ddq .entry)) (now (dddq .entry))) ⌝ }
+{
+    let d = curve.d;
+    let count = xs.len();
+    if !form::well_formed(
+        curve,
+        breaks,
+        coefficients,
+        other_breaks,
+        other_coefficients,
+    ) {
+        return Answers::Refused(Answer::Malformed);
+    }
+    if 3 < order {
+        return Answers::Refused(Answer::OrderAboveThree);
+    }
+    if q.len() / d < count {
+        return Answers::Refused(Answer::TooShort);
+    }
+    if short(order, count * d, q.len(), dq.len(), ddq.len(), dddq.len()) {
+        return Answers::Refused(Answer::TooShort);
+    }
+    let first = first_refused(curve, xs);
+    if first < count {
+        return Answers::OutsideAt(first);
+    }
+    let axes = curve.axes;
+    let places = place::find_places(&axes, curve.k, d);
+    write_all(
+        curve,
+        places,
+        breaks,
+        coefficients,
+        other_breaks,
+        other_coefficients,
+        xs,
+        order,
+        q,
+        dq,
+        ddq,
+        dddq,
+    );
+    Answers::All
+}
