@@ -3,9 +3,11 @@
 // lines. A module's cases stand in a file of their own here, with one function for each kind.
 mod audits;
 mod cases;
+mod knots;
 mod leaves;
 mod list;
 mod output;
+mod queries;
 mod splines;
 mod systems;
 
@@ -27,6 +29,10 @@ fn answer(head: Head, cells: &[f64], work: &mut [f64], out: &mut [u8], at: usize
         25 | 26 => splines::spline(head, cells, work, out, at),
         30 => systems::normal(head, cells, work, out, at),
         50 => audits::audit(head, cells, work, out, at),
+        60 => knots::seeded(head, cells, work, out, at),
+        61 => knots::regions(head, cells, out, at),
+        62 => knots::sort_dedup(cells, work, out, at),
+        80 => queries::evaluate(head, cells, out, at),
         _ => output::unanswered(at),
     }
 }

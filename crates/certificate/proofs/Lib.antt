@@ -1,0 +1,9 @@
+-- The laws.
+pub mod Distance
+pub mod Enclosure
+pub mod Exact
+pub mod Finite
+pub mod Largest
+pub mod Overlap
+pub mod Pairs
+pub mod Rising

@@ -1,0 +1,69 @@
+-- The certified figure of an axis: document 01, "The certified figure".
+use Prim.Native.Nat.{ℕ, _+_}
+use mathlib.Core.Bool.{cond}
+use lib.Ieee.{Float, lt}
+use Rattle.arith.specs.Loop.{each}
+use Rattle.window.specs.Cells.{+0}
+use Rattle.fraction.specs.Pair.{Ends, highest, largestAbsolute, lowest, none, pair}
+use Rattle.certificate.specs.Operations.{ends}
+use Rattle.certificate.specs.Intersection.{Intersection, differenceBernstein}
+
+-- a figure, or none
+pub data Figure : Type 0 where
+  figure : Float → Figure
+  noFigure : Figure
+
+-- the larger of two; none, where one is none
+unfoldable pub larger : Figure → Figure → Figure
+larger (figure x) (figure y) = figure (highest x y)
+larger (figure x) noFigure = noFigure
+larger noFigure g = noFigure
+
+-- "the largest absolute end" of a pair
+unfoldable pub absoluteEnd : Ends → Figure
+absoluteEnd (pair a b) = figure (largestAbsolute a b)
+absoluteEnd none = noFigure
+
+-- the largest absolute end over the six Bernstein pairs of an intersection
+unfoldable pub intersectionFigure : Intersection → Figure
+unfolding larger absoluteEnd
+intersectionFigure x = each (λ k so-far. larger so-far (absoluteEnd (differenceBernstein ends x k))) 0 6 (figure +0)
+
+-- What is certified: the segments of an axis, and its waypoints.
+pub record Axis : Type 0 where
+  -- segment m lies from break m to break m + 1 and has the coefficients p_0 .. p_5
+  pub segments : ℕ
+  pub break : ℕ → Float
+  pub coefficient : ℕ → ℕ → Float
+  -- interval i lies from parameter i to parameter i + 1 and has the waypoints i and i + 1: s and y in document 01
+  pub intervals : ℕ
+  pub parameter : ℕ → Float
+  pub waypoint : ℕ → Float
+
+module _ (x : Axis) where
+  -- Interval i with segment m. left is the larger of a and s_i, right the smaller of b and s_(i+1); of equal ones (0 and -0 are) either will do, since
+  -- every difference is moved outward.
+  unfoldable pub intersection : ℕ → ℕ → Intersection
+  intersection i m =
+      record {
+        start = x .break m;
+        end = x .break (m + 1);
+        coefficient = x .coefficient m;
+        left = highest (x .break m) (x .parameter i);
+        right = lowest (x .break (m + 1)) (x .parameter (i + 1));
+        from = x .parameter i;
+        to = x .parameter (i + 1);
+        first = x .waypoint i;
+        second = x .waypoint (i + 1);
+      }
+
+  -- the largest so far with that of interval i and segment m, if "left below right"
+  unfoldable pub withIntersection : ℕ → ℕ → Figure → Figure
+  unfolding intersection larger intersectionFigure
+  withIntersection i m so-far = cond (lt (intersection i m .left) (intersection i m .right)) (larger so-far (intersectionFigure (intersection i m))) so-far
+
+  -- The figure: the largest over all intersections, interval after interval and in each segment after segment. An absolute end is at least 0, so the
+  -- largest is taken from 0 on.
+  unfoldable pub figureOf : Figure
+  unfolding withIntersection
+  figureOf = each (λ i. each (withIntersection i) 0 (x .segments)) 0 (x .intervals) (figure +0)

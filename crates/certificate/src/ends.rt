@@ -1,0 +1,137 @@
+// Pairs of ends: an interval of numbers, or none. Each operation takes all combinations of ends, each
+// rounded once, then the lowest and the highest of them, then the next number outward.
+ghost use mathlib.Core.Bool.{cond};
+ghost use mathlib.Core.Path.{_≡_};
+ghost use lib.Ieee.{binary64};
+ghost use Rattle.fraction.specs.Pair.{addPairs, dividePairs, finiteEnds, highest, largestAbsolute, lowest, multiplyPairs, none, outward, point, subtractPairs};
+ghost use Rattle.certificate.specs.Ends.{endsOf};
+
+// The pair from `low` to `high`, if `good`; otherwise none.
+pub struct Ends {
+    pub low: f64,
+    pub high: f64,
+    pub good: bool,
+}
+
+// A pair of equal ends.
+pub fn both(x: f64) -> Ends
+    ensures { λ r. ⌜ endsOf r ≡ point x ⌝ }
+{
+    Ends {
+        low: x,
+        high: x,
+        good: true,
+    }
+}
+
+// The pair, if `good`; otherwise none.
+fn kept(good: bool, e: Ends) -> Ends
+    ensures { λ r. ⌜ endsOf r ≡ cond good (endsOf e) none ⌝ }
+{
+    if good {
+        return e;
+    }
+    Ends {
+        low: 0.0,
+        high: 0.0,
+        good: false,
+    }
+}
+
+// The two ends, if both are finite.
+pub fn finite_ends(a: f64, b: f64) -> Ends
+    ensures { λ r. ⌜ endsOf r ≡ finiteEnds a b ⌝ }
+{
+    let e = Ends {
+        low: a,
+        high: b,
+        good: true,
+    };
+    kept(float::is_finite(a), kept(float::is_finite(b), e))
+}
+
+// The lower and the higher of two; the first, where neither is.
+pub fn lower(x: f64, y: f64) -> f64
+    ensures { λ r. ⌜ r ≡ lowest x y ⌝ }
+{
+    if y < x {
+        return y;
+    }
+    x
+}
+
+pub fn higher(x: f64, y: f64) -> f64
+    ensures { λ r. ⌜ r ≡ highest x y ⌝ }
+{
+    if x < y {
+        return y;
+    }
+    x
+}
+
+// The lowest and the highest of four combinations, if finite, each moved outward.
+fn widened(p: f64, q: f64, r: f64, s: f64) -> Ends
+    ensures { λ e. ⌜ endsOf e ≡ outward binary64 p q r s ⌝ }
+{
+    let low = lower(lower(p, q), lower(r, s));
+    let high = higher(higher(p, q), higher(r, s));
+    let e = finite_ends(float::next_down(low), float::next_up(high));
+    kept(float::is_finite(low), kept(float::is_finite(high), e))
+}
+
+// The four operations.
+pub fn add(x: Ends, y: Ends) -> Ends
+    ensures { λ r. ⌜ endsOf r ≡ addPairs binary64 (endsOf x) (endsOf y) ⌝ }
+{
+    let e = widened(
+        x.low + y.low,
+        x.low + y.high,
+        x.high + y.low,
+        x.high + y.high,
+    );
+    kept(x.good, kept(y.good, e))
+}
+
+pub fn subtract(x: Ends, y: Ends) -> Ends
+    ensures { λ r. ⌜ endsOf r ≡ subtractPairs binary64 (endsOf x) (endsOf y) ⌝ }
+{
+    let e = widened(
+        x.low - y.low,
+        x.low - y.high,
+        x.high - y.low,
+        x.high - y.high,
+    );
+    kept(x.good, kept(y.good, e))
+}
+
+pub fn multiply(x: Ends, y: Ends) -> Ends
+    ensures { λ r. ⌜ endsOf r ≡ multiplyPairs binary64 (endsOf x) (endsOf y) ⌝ }
+{
+    let e = widened(
+        x.low * y.low,
+        x.low * y.high,
+        x.high * y.low,
+        x.high * y.high,
+    );
+    kept(x.good, kept(y.good, e))
+}
+
+// None, where the divisor's low end is not above 0.
+pub fn divide(x: Ends, y: Ends) -> Ends
+    ensures { λ r. ⌜ endsOf r ≡ dividePairs binary64 (endsOf x) (endsOf y) ⌝ }
+{
+    let e = widened(
+        x.low / y.low,
+        x.low / y.high,
+        x.high / y.low,
+        x.high / y.high,
+    );
+    kept(x.good, kept(y.good, kept(0.0 < y.low, e)))
+}
+
+// The largest absolute end.
+pub fn largest_end(x: Ends) -> f64
+    ensures { λ r. ⌜ r ≡ largestAbsolute (x .low) (x .high) ⌝ }
+{
+    higher(float::abs(x.low), float::abs(x.high))
+}
