@@ -255,9 +255,17 @@ fn generators_are_fixed_by_their_seed() {
     assert_eq!(checksum(&groups), GROUPS_1_20);
 }
 
+/// The source's `seed` never ends between two infinite coordinates, and `build` has none.
+#[test]
+fn seed_cases_are_finite() {
+    for case in generate::group("seed", 60, 2000).unwrap() {
+        assert!(case.cells.iter().all(|v| v.is_finite()));
+    }
+}
+
 /// Recorded; a change of a generator changes them, and the stored list with them.
 const REQUESTS_1_200: u64 = 0xEE59_68FF_F28F_F0FA;
-const GROUPS_1_20: u64 = 0x8E22_3024_8031_48FF;
+const GROUPS_1_20: u64 = 0x9989_524C_B15D_12F2;
 
 #[test]
 fn refusal_14_prints_its_ratio() {

@@ -159,6 +159,10 @@ pub fn seed(r: &mut Random) -> Case {
             y[i * d + axis] = 1.7e308 * x.sqrt();
         }
     }
+    // `build` hands over finite coordinates only; between infinite ones the source's scan never ends.
+    for v in &mut y {
+        *v = v.clamp(-f64::MAX, f64::MAX);
+    }
     Case::seed(d, &s, &y)
 }
 
