@@ -1,0 +1,5 @@
+-- Laws about the definitions.
+pub mod Placing
+pub mod Turns
+pub mod Solution
+pub mod Fitting

@@ -1,0 +1,3 @@
+-- Laws about the definitions.
+pub mod Point
+pub mod Rooms
