@@ -1,0 +1,6 @@
+-- The laws that other crates may cite.
+pub mod Anys
+pub mod Counts
+pub mod Difference
+pub mod Examples
+pub mod Normalised

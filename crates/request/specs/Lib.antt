@@ -1,0 +1,4 @@
+-- Definitions that the contracts cite.
+pub mod Any
+pub mod Parameters
+pub mod Points
