@@ -68,19 +68,19 @@ module _ {A B : Type 0} (o : Operations A) (e : Operations B) (R : A → B → T
   binomial-keeps : (k j : ℕ) → k ≤ 5 → j ≤ 5 → R (o .whole (choose k j)) (e .whole (choose k j))
   binomial-keeps k j hk hj = K .whole (choose k j) (choose-small k j hk hj)
 
-  power-keeps : (p : ℕ → A) (q : ℕ → B) (u w : A) (v z : B) (j : ℕ) → j ≤ 5 → ((k : ℕ) → R (p k) (q k)) → R u v → R w z → R (power o p u w j) (power e q v z j)
+  pub power-keeps : (p : ℕ → A) (q : ℕ → B) (u w : A) (v z : B) (j : ℕ) → j ≤ 5 → ((k : ℕ) → k ≤ 5 → R (p k) (q k)) → R u v → R w z → R (power o p u w j) (power e q v z j)
   unfolding power
   power-keeps p q u w v z j l h U W =
       K .times _ _ _ _
-      (total-keeps j (6 - j) _ _ (λ k a b. K .times _ _ _ _ (K .times _ _ _ _ (binomial-keeps k j (omega arith) l) (h k)) (raised-keeps u v (k - j) U)))
+      (total-keeps j (6 - j) _ _ (λ k a b. K .times _ _ _ _ (K .times _ _ _ _ (binomial-keeps k j (omega arith) l) (h k (omega arith))) (raised-keeps u v (k - j) U)))
       (raised-keeps w z j W)
 
-  without-keeps : (c r : A) (d s : B) (p : ℕ → A) (q : ℕ → B) (j : ℕ) → R c d → R r s → R (p j) (q j) → R (without o c r p j) (without e d s q j)
+  pub without-keeps : (c r : A) (d s : B) (p : ℕ → A) (q : ℕ → B) (j : ℕ) → R c d → R r s → R (p j) (q j) → R (without o c r p j) (without e d s q j)
   without-keeps c r d s p q zero hc hr h = K .minus _ _ _ _ h hc
   without-keeps c r d s p q (suc zero) hc hr h = K .minus _ _ _ _ h hr
   without-keeps c r d s p q (suc (suc j)) hc hr h = h
 
-  bernstein-keeps : (p : ℕ → A) (q : ℕ → B) (k : ℕ) → k ≤ 5 → ((j : ℕ) → j ≤ 5 → R (p j) (q j)) → R (bernstein o p k) (bernstein e q k)
+  pub bernstein-keeps : (p : ℕ → A) (q : ℕ → B) (k : ℕ) → k ≤ 5 → ((j : ℕ) → j ≤ 5 → R (p j) (q j)) → R (bernstein o p k) (bernstein e q k)
   unfolding bernstein
   bernstein-keeps p q k l h =
       total-keeps 0 (suc k) _ _ (λ j a b. K .over _ _ _ _ (K .times _ _ _ _ (h j (omega arith)) (binomial-keeps k j l (omega arith))) (binomial-keeps 5 j (omega arith) (omega arith)))
@@ -93,7 +93,7 @@ module _ {A B : Type 0} (o : Operations A) (e : Operations B) (R : A → B → T
       = λ a b c d. K .over _ _ _ _ (minus a b) (minus c d) in
       bernstein-keeps (differencePower o x) (differencePower e x) k l (λ j m. without-keeps (lineAtLeft o x) (lineRise o x) (lineAtLeft e x) (lineRise e x) _ _ j
       (K .plus _ _ _ _ (K .number _) (K .times _ _ _ _ (ratio _ _ _ _) (minus _ _))) (K .times _ _ _ _ (ratio _ _ _ _) (minus _ _))
-      (power-keeps (λ k. o .number (x .coefficient k)) (λ k. e .number (x .coefficient k)) (offset o x) (scale o x) (offset e x) (scale e x) j m (λ k. K .number _) (ratio _ _ _ _) (ratio _ _ _ _)))
+      (power-keeps (λ k. o .number (x .coefficient k)) (λ k. e .number (x .coefficient k)) (offset o x) (scale o x) (offset e x) (scale e x) j m (λ k _. K .number _) (ratio _ _ _ _) (ratio _ _ _ _)))
 
 -- ---- end pairs enclose
 -- z lies in the pair, where there is one

@@ -1,4 +1,7 @@
 -- The laws.
+pub mod Answers
+pub mod Certified
+pub mod Coefficients
 pub mod Distance
 pub mod Enclosure
 pub mod Exact
@@ -7,3 +10,6 @@ pub mod Largest
 pub mod Overlap
 pub mod Pairs
 pub mod Rising
+pub mod Standing
+pub mod Steps
+pub mod Sums

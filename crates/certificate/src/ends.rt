@@ -4,7 +4,7 @@ ghost use mathlib.Core.Bool.{cond};
 ghost use mathlib.Core.Path.{_≡_};
 ghost use lib.Ieee.{binary64};
 ghost use Rattle.fraction.specs.Pair.{addPairs, dividePairs, finiteEnds, highest, largestAbsolute, lowest, multiplyPairs, none, outward, point, subtractPairs};
-ghost use Rattle.certificate.specs.Ends.{endsOf};
+ghost use Rattle.certificate.specs.Structs.{endsOf};
 
 // The pair from `low` to `high`, if `good`; otherwise none.
 pub struct Ends {

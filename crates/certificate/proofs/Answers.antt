@@ -1,0 +1,64 @@
+-- Answers computed from the definition alone: each refusal, with what the checks after it would refuse too, so that their order shows; and one figure.
+use mathlib.Core.Path.{_≡_, refl}
+use mathlib.Core.List.{List, [], _∷_}
+use Prim.Native.Nat.{ℕ}
+use lib.ListN.{replicate}
+use lib.Ieee.{Float, binary64, ofBits, div, ofInt, le, sub, lt, eq, mul, add, neg, isNan, toBits}
+use Rattle.window.specs.Cells.{+0, zeros}
+use Rattle.arith.specs.Loop.{each, turns}
+use Rattle.fraction.specs.Pair.{highest, lowest, addPairs, dividePairs, multiplyPairs, subtractPairs, finiteEnds, outward, moved, largestAbsolute}
+use Rattle.fraction.specs.NextNumber.{nextDown, nextUp}
+use Rattle.request.specs.declared.parameters.Spacing.{Spacing}
+use Rattle.request.specs.declared.parameters.Spacing.the-variants.{Listed, Even}
+use Rattle.request.specs.Any.{any}
+use Rattle.request.specs.Parameters.{parameterOf, miscounted, lengthOf, normalisedOf, misplaced, unreliable}
+use Rattle.request.specs.Points.{unfit}
+use Rattle.curve.specs.declared.Curve.{Curve}
+use Rattle.curve.specs.declared.Mode.the-variants.{Error}
+use Rattle.curve.specs.First.{firstOf}
+use Rattle.curve.specs.Form.{Slices, slices, axesFormed, setFormed, othersFormed, rangeFormed, wellFormed}
+use Rattle.certificate.specs.Certify.{certifyOf, outcome}
+use Rattle.certificate.specs.Figure.{figure, figureOf}
+use Rattle.certificate.specs.Intersection.{bernstein, power}
+
+abbrev float : ℕ → Float
+float = ofBits binary64
+
+-- 1, infinity, and -1.5e308 with 1.5e308, whose difference is infinite
+abbrev one : Float
+one = float 0x3ff0_0000_0000_0000
+
+abbrev infinite : Float
+infinite = float 0x7ff0_0000_0000_0000
+
+abbrev wide : List Float
+wide = float 0xffea_b36d_48e1_acf0 ∷ float 0x7fea_b36d_48e1_acf0 ∷ []
+
+-- a curve of d axes, of which axis 0 is selected; with d = 1 and one segment from 0 to 1 it is well formed
+abbrev curve : ℕ → ℕ → Curve
+curve d segments = record { d = d; k = 1; axes = replicate 16 0; start = +0; end = one; mode = Error; segments = segments; «other_segments» = 0 }
+
+abbrev flat : Slices
+flat = slices (+0 ∷ one ∷ []) (zeros 6) [] []
+
+-- document 01's number of each answer: two refusals at least are due in each row but the last two
+abbrev number : Curve → List Float → ℕ → Spacing → List Float → ℕ → ℕ
+number c points n spacing parameters axis = certifyOf c flat points n spacing parameters axis .number
+
+pub numbers : number (curve 17 0) (infinite ∷ []) 2 Listed (one ∷ one ∷ []) 1
+    ∷ number (curve 1 0) (infinite ∷ []) 2 Listed (one ∷ one ∷ []) 1
+    ∷ number (curve 1 0) (infinite ∷ +0 ∷ []) 2 Listed (one ∷ one ∷ []) 1
+    ∷ number (curve 1 0) (+0 ∷ +0 ∷ []) 2 Listed (one ∷ one ∷ []) 1
+    ∷ number (curve 1 0) (+0 ∷ +0 ∷ []) 2 Listed wide 1
+    ∷ number (curve 1 0) (+0 ∷ +0 ∷ []) 2 Even [] 1
+    ∷ number (curve 1 1) (+0 ∷ +0 ∷ []) 2 Even [] 1
+    ∷ number (curve 1 1) (+0 ∷ +0 ∷ []) 2 Even [] 0
+    ∷ []
+    ≡ 18 ∷ 20 ∷ 1 ∷ 5 ∷ 6 ∷ 24 ∷ 3 ∷ 0 ∷ []
+unfolding certifyOf unfit any misplaced miscounted parameterOf unreliable lengthOf normalisedOf wellFormed axesFormed firstOf setFormed othersFormed rangeFormed ofBits div ofInt le sub lt eq
+numbers = refl
+
+-- the figure of the curve 1/2 against the line 0
+pub half : certifyOf (curve 1 1) (slices (+0 ∷ one ∷ []) (float 0x3fe0_0000_0000_0000 ∷ zeros 5) [] []) (+0 ∷ +0 ∷ []) 2 Even [] 0 ≡ outcome 0 (figure (float 0x3fe0_0000_0000_0012))
+unfolding certifyOf unfit any misplaced miscounted parameterOf unreliable lengthOf normalisedOf wellFormed axesFormed firstOf setFormed othersFormed rangeFormed ofBits div ofInt le sub lt eq figureOf each turns highest lowest bernstein addPairs dividePairs multiplyPairs subtractPairs power finiteEnds outward moved mul add nextDown nextUp isNan toBits neg largestAbsolute
+half = refl

@@ -1,0 +1,147 @@
+-- What a certificate says: the distance rule, for the selected axis that was asked for.
+use mathlib.Core.Path.{_≡_, refl, sym, ap, subst, _∙_}
+use mathlib.Core.Bool.{Bool, true, false, not, cond, _&&_, _||_}
+use mathlib.Core.List.{List}
+use Prim.Native.Nat.{ℕ, zero, suc, _+_, _-_, _*_, _≤_, _<_}
+use native.Mathlib.Omega.{arith}
+use borrow.Author.Tests.{eqb-true, ltb-false, ltb-true, not-false}
+use lib.Dec.{T, eqb, leb, ltb}
+use lib.ListN.{length, getD}
+use lib.Ieee.{Float, binary64, eq, lt, ofBits}
+use lib.Ieee.Bits.{is-true}
+use lib.Ieee.Fits.{and-l, and-r}
+use Rattle.window.specs.Cells.{+0, at}
+use Rattle.request.specs.declared.parameters.Spacing.{Spacing}
+use Rattle.request.specs.Parameters.{Doubles, misplaced, normalisedOf, unreliable}
+use Rattle.request.specs.Points.{unfit}
+use Rattle.request.proofs.Anys.{or-none}
+use Rattle.request.proofs.Counts.{waypoint-count}
+use Rattle.request.proofs.Normalised.{normalised-first, normalised-last, normalised-rises}
+use Rattle.curve.specs.declared.Curve.{Curve}
+use Rattle.curve.specs.First.{firstOf}
+use Rattle.curve.specs.Form.{Slices, rises, setFormed, wellFormed}
+use Rattle.curve.specs.Places.{positionOf}
+use Rattle.curve.proofs.Firsts.{every-at}
+use Rattle.curve.proofs.Formed.{axes-good, formed, set-sizes}
+use Rattle.certificate.specs.Certify.{Outcome, certifiedAxis, certifyOf, outcome}
+use Rattle.certificate.specs.Distance.{DistanceRule, Rises}
+use Rattle.certificate.specs.Figure.{Figure, figure, figureOf, noFigure}
+use Rattle.certificate.proofs.Distance.{distance-theorem}
+
+-- ---- a set of segments that is well formed
+-- its breaks rise strictly from 0 to 1
+set-rises : (m n : ℕ) (breaks coefficients : List Float) → setFormed m n breaks coefficients ≡ true → Rises n (at breaks)
+unfolding setFormed
+set-rises m n b c h =
+    let t = leb 1 n && leb n 20000 && eqb (length b) (n + 1) && eqb (length c) (6 * (n * m)) in
+    let zero = eq (at b 0) +0 in
+    let one = eq (at b n) (ofBits binary64 0x3ff0_0000_0000_0000) in
+    let all : T (t && zero && rises b n && one) = subst T (sym h) tt in
+    let below = and-l (t && zero && rises b n) one all in
+    record {
+      from-zero = and-r t zero (and-l (t && zero) (rises b n) below);
+      rising = λ i l. subst T (sym (every-at (λ i. lt (at b i) (at b (i + 1))) n (is-true (rises b n) (and-r (t && zero) (rises b n) below)) i l)) tt;
+      to-one = and-r (t && zero && rises b n) one all;
+    }
+
+-- ---- the place of an axis
+-- the first number that passes a test does pass it
+first-passes : (test : ℕ → Bool) (n : ℕ) → firstOf n test < n → test (firstOf n test) ≡ true
+unfolding firstOf
+first-passes test zero l = absurd (omega arith)
+first-passes test (suc n) l = go (ltb (firstOf n test) n) refl (test n) refl l (first-passes test n)
+  where
+    go : (b : Bool) → ltb (firstOf n test) n ≡ b → (t : Bool) → test n ≡ t → cond b (firstOf n test) (cond t n (suc n)) < suc n
+        → (firstOf n test < n → test (firstOf n test) ≡ true) → test (cond b (firstOf n test) (cond t n (suc n))) ≡ true
+    go true e t f g again = again (ltb-true (firstOf n test) n e)
+    go false e true f g again = f
+    go false e false f g again = absurd (omega arith)
+
+-- a selected axis is one of the curve's
+selected-below : (axes : List ℕ) (k d a : ℕ) → ((i : ℕ) → i < k → getD axes i 0 < d) → positionOf axes k a < k → a < d
+selected-below axes k d a h l =
+    let i = positionOf axes k a in
+    subst (λ (x : ℕ). x < d) (eqb-true (getD axes i 0) a (first-passes (λ i. eqb (getD axes i 0) a) k l)) (h i l)
+
+-- ---- what is not refused
+-- an answer that is no refusal passed the check, and is what follows it
+passed : (b : Bool) (k : ℕ) (next : Outcome) (f : Figure) → cond b (outcome (suc k) noFigure) next ≡ outcome 0 f → (b ≡ false) × (next ≡ outcome 0 f)
+passed true k next f h = let e : suc k ≡ 0 = ap (λ (o : Outcome). o .number) h in absurd (omega arith)
+passed false k next f h = (refl, h)
+
+module _ (c : Curve) (s : Slices) (points : List Float) (n : ℕ) (spacing : Spacing) (parameters : List Float) (axis : ℕ) where
+  pub record Accepted : Type 0 where
+    pub d-domain : c .d ≤ 16
+    pub n-domain : n ≤ 20000
+    pub cells : length points ≡ c .d * n
+    pub points-fit : unfit (c .d) n points ≡ false
+    pub placed : misplaced spacing parameters n ≡ false
+    pub reliable : unreliable spacing parameters n ≡ false
+    pub well-formed : wellFormed c s ≡ true
+    pub selected : positionOf (c .axes) (c .k) axis < c .k
+
+  -- the checks that a certificate passed, and its figure
+  pub accepted : (f : Figure) → certifyOf c s points n spacing parameters axis ≡ outcome 0 f → Accepted × (figureOf (certifiedAxis c s points n spacing parameters axis) ≡ f)
+  unfolding certifyOf
+  accepted f h =
+      let e18 = passed (ltb 16 (c .d) || ltb 20000 n) 17 _ f h in
+      let e20 = passed (not (eqb (length points) (c .d * n))) 19 _ f (e18 .1) in
+      let e1 = passed (unfit (c .d) n points) 0 _ f (e20 .1) in
+      let e5 = passed (misplaced spacing parameters n) 4 _ f (e1 .1) in
+      let e6 = passed (unreliable spacing parameters n) 5 _ f (e5 .1) in
+      let e24 = passed (not (wellFormed c s)) 23 _ f (e6 .1) in
+      let e3 = passed (not (ltb (positionOf (c .axes) (c .k) axis) (c .k))) 2 _ f (e24 .1) in
+      let d = or-none (ltb 16 (c .d)) (ltb 20000 n) (e18 .0) in (
+        record {
+          d-domain = ltb-false 16 (c .d) (d .0);
+          n-domain = ltb-false 20000 n (d .1);
+          cells = eqb-true (length points) (c .d * n) (not-false (eqb (length points) (c .d * n)) (e20 .0));
+          points-fit = e1 .0;
+          placed = e5 .0;
+          reliable = e6 .0;
+          well-formed = not-false (wellFormed c s) (e24 .0);
+          selected = ltb-true (positionOf (c .axes) (c .k) axis) (c .k) (not-false (ltb (positionOf (c .axes) (c .k) axis) (c .k)) (e3 .0));
+        },
+        ap (λ (o : Outcome). o .certified) (e3 .1),
+      )
+
+  module _ (A : Accepted) where
+    pub lengths : (c .k ≤ 16) × (2 ≤ length (s .breaks)) × (length (s .breaks) ≤ 20001) × (length (s .coefficients) ≡ 6 * ((length (s .breaks) - 1) * c .k))
+    lengths =
+        let F = formed c s (A .well-formed) in
+        let z = set-sizes (c .k) (c .segments) (s .breaks) (s .coefficients) (F .set-formed) in
+        let e : length (s .breaks) - 1 ≡ c .segments = omega (arith, z .breaks-length) in
+        (omega (arith, F .k-high, F .d-high), omega (arith, z .some, z .breaks-length), omega (arith, z .most, z .breaks-length), z .coefficients-length ∙ ap (λ (m : ℕ). 6 * (m * c .k)) (sym e))
+
+    pub breaks-rise : Rises (length (s .breaks) - 1) (at (s .breaks))
+    breaks-rise =
+        let F = formed c s (A .well-formed) in
+        let z = set-sizes (c .k) (c .segments) (s .breaks) (s .coefficients) (F .set-formed) in
+        let e : c .segments ≡ length (s .breaks) - 1 = omega (arith, z .breaks-length) in
+        subst (λ (m : ℕ). Rises m (at (s .breaks))) e (set-rises (c .k) (c .segments) (s .breaks) (s .coefficients) (F .set-formed))
+
+    pub parameters-rise : Doubles parameters → Rises (n - 1) (normalisedOf spacing parameters n)
+    parameters-rise doubles =
+        let two = waypoint-count (c .d) n points (A .points-fit) in
+        record {
+          from-zero = normalised-first spacing parameters n two doubles (A .placed) (A .reliable);
+          rising = normalised-rises spacing parameters n two doubles (A .placed) (A .reliable);
+          to-one = normalised-last spacing parameters n two doubles (A .placed) (A .reliable);
+        }
+
+    pub axis-below : axis < c .d
+    axis-below =
+        selected-below (c .axes) (c .k) (c .d) axis (λ i l. axes-good (c .axes) (c .k) (c .d) (formed c s (A .well-formed) .axes-formed) i l .0) (A .selected)
+
+-- The theorem about the certificate. Whatever the curve with its slices, the points, the parameters and the axis: if the answer is the figure F, then
+-- the curve is well formed and the distance rule holds for the axis and F. By its contract `certify` answers as `certifyOf` does, and the cells of its
+-- slices are f64s, as `Doubles` asks of the parameters.
+pub certificate-theorem : (c : Curve) (s : Slices) (points : List Float) (n : ℕ) (spacing : Spacing) (parameters : List Float) (axis : ℕ) (F : Float) → Doubles parameters
+    → certifyOf c s points n spacing parameters axis ≡ outcome 0 (figure F) → (wellFormed c s ≡ true) × DistanceRule (certifiedAxis c s points n spacing parameters axis) F
+certificate-theorem c s points n spacing parameters axis F doubles h =
+    let a = accepted c s points n spacing parameters axis (figure F) h in
+    let A = a .0 in (
+      A .well-formed,
+      distance-theorem (certifiedAxis c s points n spacing parameters axis) F (breaks-rise c s points n spacing parameters axis A)
+          (parameters-rise c s points n spacing parameters axis A doubles) (a .1),
+    )

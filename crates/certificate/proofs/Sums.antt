@@ -1,0 +1,82 @@
+-- What the code of an intersection is proved by: laws of its sums and powers, of its array of six pairs, and of its table of binomials.
+use mathlib.Core.Bool.{false}
+use mathlib.Core.List.{List, [], _∷_}
+use mathlib.Core.Path.{_∙_, _≡_, ap, refl}
+use Prim.Native.Nat.{ℕ, zero, suc, _+_, _<_}
+use native.Mathlib.Numerals.{add-one}
+use native.Mathlib.Omega.{arith}
+use lib.Ieee.{Float, binary64, nan, round}
+use lib.ListN.{getD}
+use Rattle.fraction.specs.Binomial.{choose}
+use Rattle.fraction.specs.Pair as pairs
+use Rattle.certificate.specs.Operations.{Operations, ends}
+use Rattle.certificate.specs.Intersection.{bernstein, raised, total}
+use Rattle.certificate.specs.Structs.{Holds, endsOf, pairAt}
+use Rattle.certificate.specs.declared.ends.Ends.{Ends}
+use Rattle.certificate.proofs.Enclosure.{Keeps, bernstein-keeps}
+
+-- ---- sums and powers
+module _ {A : Type 0} (o : Operations A) where
+  -- no term
+  pub total-none : (first n : ℕ) (f : ℕ → A) → n ≡ 0 → o .whole 0 ≡ total o first n f
+  unfolding total
+  total-none first n f e = rw e
+
+  -- one more term, f i
+  pub total-more : (first n m i : ℕ) (f : ℕ → A) (s t r : A) → first + n ≡ i → suc n ≡ m → s ≡ total o first n f → t ≡ f i → r ≡ o .plus s t → r ≡ total o first m f
+  unfolding total
+  total-more first n m i f s t r a b p q e = rw (e, p, q, ← a, ← b)
+
+  -- one more factor
+  pub raised-more : (u : A) (k : ℕ) (s r : A) → s ≡ raised o u k → r ≡ o .times s u → r ≡ raised o u (k + 1)
+  unfolding raised
+  raised-more u k s r p e = rw (add-one, e, p)
+
+-- each operation keeps equality
+pub same-keeps : {A : Type 0} (o : Operations A) → Keeps o o (_≡_ {A = A})
+same-keeps o =
+    record {
+      number = λ x. refl;
+      whole = λ n l. refl;
+      plus = λ a c b d p q. rw (p, q);
+      minus = λ a c b d p q. rw (p, q);
+      times = λ a c b d p q. rw (p, q);
+      over = λ a c b d p q. rw (p, q);
+    }
+
+-- ---- an array of six pairs
+pub holds-six : (p q r s t u : Ends) (f : ℕ → pairs.Ends) → endsOf p ≡ f 0 → endsOf q ≡ f 1 → endsOf r ≡ f 2 → endsOf s ≡ f 3 → endsOf t ≡ f 4 → endsOf u ≡ f 5
+    → Holds (p ∷ q ∷ r ∷ s ∷ t ∷ u ∷ []) f
+holds-six p q r s t u f a b c d e g zero l = a
+holds-six p q r s t u f a b c d e g (suc zero) l = b
+holds-six p q r s t u f a b c d e g (suc (suc zero)) l = c
+holds-six p q r s t u f a b c d e g (suc (suc (suc zero))) l = d
+holds-six p q r s t u f a b c d e g (suc (suc (suc (suc zero)))) l = e
+holds-six p q r s t u f a b c d e g (suc (suc (suc (suc (suc zero))))) l = g
+holds-six p q r s t u f a b c d e g (suc (suc (suc (suc (suc (suc j)))))) l = absurd (omega arith)
+
+-- the Bernstein coefficients of the pairs that it holds
+pub holds-bernstein : (l : List Ends) (f : ℕ → pairs.Ends) → Holds l f → (k : ℕ) → k < 6 → bernstein ends (pairAt l) k ≡ bernstein ends f k
+holds-bernstein l f h k m = bernstein-keeps ends ends (_≡_ {A = pairs.Ends}) (same-keeps ends) (pairAt l) f k (omega arith) (λ j n. h j (omega arith))
+
+-- ---- the table of binomials
+-- f i, f (i + 1), .., n of them
+unfoldable pub listed : {A : Type 0} → (ℕ → A) → ℕ → ℕ → List A
+listed f i zero = []
+listed f i (suc n) = f i ∷ listed f (suc i) n
+
+listed-at : {A : Type 0} (f : ℕ → A) (i n k : ℕ) (d : A) → k < n → getD (listed f i n) k d ≡ f (i + k)
+unfolding listed
+listed-at f i zero k d l = absurd (omega arith)
+listed-at f i (suc n) zero d l = ap f (omega arith)
+listed-at f i (suc n) (suc k) d l = listed-at f (suc i) n k d (omega arith) ∙ ap f (omega arith)
+
+-- C(k, j) at j of row k, as f64
+unfoldable pub binomials : List (List Float)
+binomials = listed (λ k. listed (λ j. round binary64 false (choose k j) 1) 0 6) 0 6
+
+pub binomial-at : (k j : ℕ) → k < 6 → j < 6 → getD (getD binomials k []) j nan ≡ round binary64 false (choose k j) 1
+unfolding binomials
+binomial-at k j hk hj =
+    let z : (n : ℕ) → 0 + n ≡ n = λ n. omega arith in
+    ap (λ (r : List Float). getD r j nan) (listed-at _ 0 6 k [] hk) ∙ listed-at _ 0 6 j nan hj ∙ rw (z j, z k)

@@ -1,0 +1,60 @@
+-- The certificate of an axis: what the entry point answers.
+use mathlib.Core.Bool.{cond, not, _||_}
+use mathlib.Core.List.{List}
+use Prim.Native.Nat.{ℕ, _*_}
+use lib.Dec.{eqb, ltb}
+use lib.ListN.{length}
+use lib.Ieee.{Float}
+use Rattle.request.specs.declared.parameters.Spacing.{Spacing}
+use Rattle.request.specs.Parameters.{misplaced, unreliable}
+use Rattle.request.specs.Points.{unfit}
+use Rattle.curve.specs.declared.Curve.{Curve}
+use Rattle.curve.specs.Form.{Slices, wellFormed}
+use Rattle.curve.specs.Places.{positionOf}
+use Rattle.certificate.specs.Axis.{axisOf}
+use Rattle.certificate.specs.Figure.{Axis, Figure, figure, figureOf, noFigure}
+use Rattle.certificate.specs.declared.certify.Certificate.{Certificate}
+use Rattle.certificate.specs.declared.certify.Certificate.the-variants as answers
+use Rattle.certificate.specs.declared.certify.Refusal.{Refusal}
+use Rattle.certificate.specs.declared.certify.Refusal.the-variants.{AboveDomain, PointCells, BadPoints, BadParameters, BadRange, Malformed, NotSelected}
+
+-- document 01's number, 0 where nothing is refused; and the figure, or none
+pub record Outcome : Type 0 where
+  pub number : ℕ
+  pub certified : Figure
+
+abbrev pub outcome : ℕ → Figure → Outcome
+outcome n f = record { number = n; certified = f }
+
+-- the selected axis that is certified: "p the curve's coefficients, and d the curve's own d"
+abbrev pub certifiedAxis : Curve → Slices → List Float → ℕ → Spacing → List Float → ℕ → Axis
+certifiedAxis c s points n spacing parameters axis =
+    axisOf (s .breaks) (s .coefficients) (c .k) (positionOf (c .axes) (c .k) axis) points (c .d) axis n spacing parameters
+
+-- "Certifying: 18, 20, 1, 5, 6, 24, 3": 18 d or n above the domain, 20 "point cells differ from d times n", 3 "an axis not selected"
+unfoldable pub certifyOf : Curve → Slices → List Float → ℕ → Spacing → List Float → ℕ → Outcome
+certifyOf c s points n spacing parameters axis =
+    cond (ltb 16 (c .d) || ltb 20000 n) (outcome 18 noFigure)
+    (cond (not (eqb (length points) (c .d * n))) (outcome 20 noFigure)
+    (cond (unfit (c .d) n points) (outcome 1 noFigure)
+    (cond (misplaced spacing parameters n) (outcome 5 noFigure)
+    (cond (unreliable spacing parameters n) (outcome 6 noFigure)
+    (cond (not (wellFormed c s)) (outcome 24 noFigure)
+    (cond (not (ltb (positionOf (c .axes) (c .k) axis) (c .k))) (outcome 3 noFigure)
+    (outcome 0 (figureOf (certifiedAxis c s points n spacing parameters axis)))))))))
+
+-- document 01's number of a refusal
+abbrev pub refusalNumber : Refusal → ℕ
+refusalNumber AboveDomain = 18
+refusalNumber PointCells = 20
+refusalNumber BadPoints = 1
+refusalNumber BadParameters = 5
+refusalNumber BadRange = 6
+refusalNumber Malformed = 24
+refusalNumber NotSelected = 3
+
+-- and of an answer, with its figure
+abbrev pub outcomeOf : Certificate → Outcome
+outcomeOf (answers.Figure x) = outcome 0 (figure x)
+outcomeOf answers.None = outcome 0 noFigure
+outcomeOf (answers.Refused r) = outcome (refusalNumber r) noFigure

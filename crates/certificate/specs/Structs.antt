@@ -1,0 +1,49 @@
+-- What the code's structs and enums stand for.
+use Prim.Native.Nat.{ℕ, _<_}
+use mathlib.Core.Bool.{cond, false}
+use mathlib.Core.List.{List}
+use mathlib.Core.Path.{_≡_}
+use lib.Ieee.{nan}
+use lib.ListN.{getD}
+use Rattle.window.specs.Cells.{at}
+use Rattle.fraction.specs.Pair.{none, pair}
+use Rattle.fraction.specs.Pair as pairs
+use Rattle.certificate.specs.Figure as figures
+use Rattle.certificate.specs.Figure.{figure, noFigure}
+use Rattle.certificate.specs.Intersection as intersections
+use Rattle.certificate.specs.declared.ends.Ends.{Ends}
+use Rattle.certificate.specs.declared.intersection.Figure.{Figure}
+use Rattle.certificate.specs.declared.intersection.Figure.the-variants.{Known, None}
+use Rattle.certificate.specs.declared.intersection.Intersection.{Intersection}
+
+-- the ends, if the struct says that there are any
+abbrev pub endsOf : Ends → pairs.Ends
+endsOf e = cond (e .good) (pair (e .low) (e .high)) none
+
+-- the numbers of an intersection
+abbrev pub intersectionOf : Intersection → intersections.Intersection
+intersectionOf x =
+    record {
+      start = x .start;
+      end = x .end;
+      coefficient = λ k. at (x .coefficients) k;
+      left = x .left;
+      right = x .right;
+      from = x .from;
+      to = x .to;
+      first = x .first;
+      second = x .second;
+    }
+
+-- the figure, or none
+abbrev pub figureIn : Figure → figures.Figure
+figureIn (Known x) = figure x
+figureIn None = noFigure
+
+-- the pair at j of an array
+abbrev pub pairAt : List Ends → ℕ → pairs.Ends
+pairAt l j = endsOf (getD l j (record { low = nan; high = nan; good = false }))
+
+-- an array of six holds the pairs f 0 .. f 5
+abbrev pub Holds : List Ends → (ℕ → pairs.Ends) → Type 0
+Holds l f = (j : ℕ) → j < 6 → pairAt l j ≡ f j

@@ -1,0 +1,203 @@
+// The figure of one intersection of a waypoint interval with a segment: document 01, "The certified
+// figure". The six powers of curve minus line, their Bernstein coefficients, and the largest absolute
+// end, all in pairs of ends.
+ghost use mathlib.Core.Path.{_≡_};
+ghost use Prim.Native.Nat.{_-_, _<_, _≤_};
+ghost use Rattle.window.specs.Cells.{at};
+ghost use Rattle.fraction.specs.Binomial.{choose};
+ghost use Rattle.certificate.specs.Operations.{ends};
+ghost use Rattle.certificate.specs.Intersection.{bernstein, differencePower, lineAtLeft, lineRise, offset, power, raised, scale};
+ghost use Rattle.certificate.specs.Figure.{absoluteEnd, intersectionFigure, larger};
+ghost use Rattle.certificate.specs.Structs.{Holds, endsOf, figureIn, intersectionOf, pairAt};
+use crate::ends;
+use crate::ends::Ends;
+
+// The numbers that an intersection is computed from.
+pub struct Intersection {
+    // the segment [a, b] and its coefficients
+    pub start: f64,
+    pub end: f64,
+    pub coefficients: [f64; 6],
+    // [left, right]
+    pub left: f64,
+    pub right: f64,
+    // the waypoint interval: its parameters and its waypoints
+    pub from: f64,
+    pub to: f64,
+    pub first: f64,
+    pub second: f64,
+}
+
+// A figure, or none.
+pub enum Figure {
+    Known(f64),
+    None,
+}
+
+// The powers of curve minus line.
+struct Powers {
+    ends: [Ends; 6],
+}
+
+// C(k, j) at j of row k.
+const CHOOSE: [[f64; 6]; 6] = [
+    [1., 0., 0., 0., 0., 0.],
+    [1., 1., 0., 0., 0., 0.],
+    [1., 2., 1., 0., 0., 0.],
+    [1., 3., 3., 1., 0., 0.],
+    [1., 4., 6., 4., 1., 0.],
+    [1., 5., 10., 10., 5., 1.],
+];
+
+// The larger of two; none, where one is none.
+pub fn larger(x: Figure, y: Figure) -> Figure
+    ensures { λ r. ⌜ figureIn r ≡ larger (figureIn x) (figureIn y) ⌝ }
+{
+    let Figure::Known(a) = x else {
+        return Figure::None;
+    };
+    let Figure::Known(b) = y else {
+        return Figure::None;
+    };
+    Figure::Known(ends::higher(a, b))
+}
+
+// The largest absolute end of a pair.
+fn absolute_end(e: Ends) -> Figure
+    ensures { λ r. ⌜ figureIn r ≡ absoluteEnd (endsOf e) ⌝ }
+{
+    if e.good {
+        return Figure::Known(ends::largest_end(e));
+    }
+    Figure::None
+}
+
+// A binomial coefficient.
+fn binomial(k: usize, j: usize) -> Ends
+    requires { ⌜ (k < 6) × (j < 6) ⌝ }
+    ensures { λ r. ⌜ endsOf r ≡ ends .whole (choose k j) ⌝ }
+{
+    ends::both(CHOOSE[k][j])
+}
+
+// a - b, of two numbers that are read.
+fn difference(a: f64, b: f64) -> Ends
+    ensures { λ r. ⌜ endsOf r ≡ ends .minus (ends .number a) (ends .number b) ⌝ }
+{
+    ends::subtract(ends::finite_ends(a, a), ends::finite_ends(b, b))
+}
+
+// "U = (left - a)/(b - a)"
+fn offset(x: Intersection) -> Ends
+    ensures { λ r. ⌜ endsOf r ≡ offset ends (intersectionOf x) ⌝ }
+{
+    ends::divide(difference(x.left, x.start), difference(x.end, x.start))
+}
+
+// "W = (right - left)/(b - a)"
+fn scale(x: Intersection) -> Ends
+    ensures { λ r. ⌜ endsOf r ≡ scale ends (intersectionOf x) ⌝ }
+{
+    ends::divide(difference(x.right, x.left), difference(x.end, x.start))
+}
+
+// What power 0 loses: "y_i + ((left - s_i)/L)·D".
+fn line_at_left(x: Intersection) -> Ends
+    ensures { λ r. ⌜ endsOf r ≡ lineAtLeft ends (intersectionOf x) ⌝ }
+{
+    let part = ends::divide(difference(x.left, x.from), difference(x.to, x.from));
+    let rise = ends::multiply(part, difference(x.second, x.first));
+    ends::add(ends::finite_ends(x.first, x.first), rise)
+}
+
+// What power 1 loses: "((right - left)/L)·D".
+fn line_rise(x: Intersection) -> Ends
+    ensures { λ r. ⌜ endsOf r ≡ lineRise ends (intersectionOf x) ⌝ }
+{
+    let part = ends::divide(difference(x.right, x.left), difference(x.to, x.from));
+    ends::multiply(part, difference(x.second, x.first))
+}
+
+// u^k: "Powers multiply up from 1".
+fn raise(u: Ends, k: usize) -> Ends
+    ensures { λ r. ⌜ endsOf r ≡ raised ends (endsOf u) k ⌝ }
+{
+    let mut e = ends::both(1.0);
+    let mut i = 0;
+    while i < k {
+        e = ends::multiply(e, u);
+        i += 1;
+    }
+    e
+}
+
+// C(k, j)·p·u^(k - j).
+fn term(p: f64, u: Ends, k: usize, j: usize) -> Ends
+    requires { ⌜ (k < 6) × (j ≤ k) ⌝ }
+    ensures { λ r. ⌜ endsOf r ≡ ends .times (ends .times (ends .whole (choose k j)) (ends .number p)) (raised ends (endsOf u) (k - j)) ⌝ }
+{
+    let c = ends::multiply(binomial(k, j), ends::finite_ends(p, p));
+    ends::multiply(c, raise(u, k - j))
+}
+
+// Power j: the sum of the terms from k = j on, times w^j.
+fn power(p: [f64; 6], u: Ends, w: Ends, j: usize) -> Ends
+    requires { ⌜ j < 6 ⌝ }
+    ensures { λ r. ⌜ endsOf r ≡ power ends (λ k. ends .number (at p k)) (endsOf u) (endsOf w) j ⌝ }
+{
+    let mut sum = ends::both(0.0);
+    let mut k = j;
+    while k < 6 {
+        sum = ends::add(sum, term(p[k], u, k, j));
+        k += 1;
+    }
+    ends::multiply(sum, raise(w, j))
+}
+
+// The powers of curve minus line.
+fn difference_powers(x: Intersection) -> Powers
+    ensures { λ r. ⌜ Holds (r .ends) (differencePower ends (intersectionOf x)) ⌝ }
+{
+    let p = x.coefficients;
+    let u = offset(x);
+    let w = scale(x);
+    Powers {
+        ends: [
+            ends::subtract(power(p, u, w, 0), line_at_left(x)),
+            ends::subtract(power(p, u, w, 1), line_rise(x)),
+            power(p, u, w, 2),
+            power(p, u, w, 3),
+            power(p, u, w, 4),
+            power(p, u, w, 5),
+        ],
+    }
+}
+
+// Bernstein coefficient k: the sum over j up to k of power j·C(k, j)/C(5, j).
+fn bernstein(q: Powers, k: usize) -> Ends
+    requires { ⌜ k < 6 ⌝ }
+    ensures { λ r. ⌜ endsOf r ≡ bernstein ends (pairAt (q .ends)) k ⌝ }
+{
+    let mut sum = ends::both(0.0);
+    let mut j = 0;
+    while j < k + 1 {
+        let c = ends::multiply(q.ends[j], binomial(k, j));
+        sum = ends::add(sum, ends::divide(c, binomial(5, j)));
+        j += 1;
+    }
+    sum
+}
+
+// The largest absolute end over the six Bernstein coefficients.
+pub fn intersection_figure(x: Intersection) -> Figure
+    ensures { λ r. ⌜ figureIn r ≡ intersectionFigure (intersectionOf x) ⌝ }
+{
+    let q = difference_powers(x);
+    let mut f = Figure::Known(0.0);
+    let mut k = 0;
+    while k < 6 {
+        f = larger(f, absolute_end(bernstein(q, k)));
+        k += 1;
+    }
+    f
+}

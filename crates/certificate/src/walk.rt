@@ -1,0 +1,135 @@
+// The walk over both lists, the waypoint intervals and the segments of an axis. Both rise from 0 to 1,
+// so each step goes on to the next segment or to the next interval, and every intersection is met.
+ghost use mathlib.Core.Bool.{cond};
+ghost use mathlib.Core.Path.{_≡_};
+ghost use Prim.Native.Nat.{_*_, _+_, _-_, _<_, _≤_};
+ghost use lib.Ieee.{lt};
+ghost use lib.ListN.{drop, length, take};
+ghost use Rattle.window.specs.Cells.{at};
+ghost use Rattle.request.specs.declared.parameters.Spacing.the-variants.{Listed};
+ghost use Rattle.request.specs.Parameters.{normalisedOf};
+ghost use Rattle.certificate.specs.Axis.{axisOf, intersectionAt};
+ghost use Rattle.certificate.specs.Distance.{Rises};
+ghost use Rattle.certificate.specs.Figure.{figureOf, intersectionFigure, larger};
+ghost use Rattle.certificate.specs.Structs.{figureIn, intersectionOf};
+use crate::ends;
+use crate::intersection;
+use crate::intersection::Figure;
+use crate::intersection::Intersection;
+use request::parameters;
+use request::parameters::Spacing;
+
+// The six coefficients from a cell on.
+fn six(coefficients: &[f64], from: usize) -> [f64; 6]
+    requires { ⌜ from + 6 ≤ length (now coefficients) ⌝ }
+    ensures { λ r. ⌜ r ≡ take 6 (drop from (now (coefficients .entry))) ⌝ }
+{
+    [
+        coefficients[from],
+        coefficients[from + 1],
+        coefficients[from + 2],
+        coefficients[from + 3],
+        coefficients[from + 4],
+        coefficients[from + 5],
+    ]
+}
+
+// Interval i, which lies between the two parameters, with segment m.
+fn intersect(
+    breaks: &[f64],
+    coefficients: &[f64],
+    k: usize,
+    place: usize,
+    points: &[f64],
+    d: usize,
+    axis: usize,
+    i: usize,
+    m: usize,
+    from: f64,
+    to: f64,
+) -> Intersection
+    requires { ⌜ (m + 1 < length (now breaks)) × (place < k) × (6 * (m * k + k) ≤ length (now coefficients)) × (axis < d) × (i < 20000) × ((i + 1) * d + d ≤ length (now points)) ⌝ }
+    ensures { λ r. ⌜ r ≡ intersectionAt (now (breaks .entry)) (now (coefficients .entry)) k place (now (points .entry)) d axis i m from to ⌝ }
+{
+    Intersection {
+        start: breaks[m],
+        end: breaks[m + 1],
+        coefficients: six(coefficients, 6 * (m * k + place)),
+        left: ends::higher(breaks[m], from),
+        right: ends::lower(breaks[m + 1], to),
+        from,
+        to,
+        first: points[i * d + axis],
+        second: points[(i + 1) * d + axis],
+    }
+}
+
+// The largest so far with that of an intersection, if "left below right".
+fn with_intersection(x: Intersection, so_far: Figure) -> Figure
+    ensures { λ r. ⌜ figureIn r ≡ cond (lt (x .left) (x .right)) (larger (figureIn «so_far») (intersectionFigure (intersectionOf x))) (figureIn «so_far») ⌝ }
+{
+    if x.left < x.right {
+        return intersection::larger(so_far, intersection::intersection_figure(x));
+    }
+    so_far
+}
+
+// The parameter where interval i ends. After the last interval there is none, and it does not matter.
+fn end_of(spacing: Spacing, list: &[f64], n: usize, i: usize) -> f64
+    requires { ⌜ (2 ≤ n) × (n ≤ 20000) × (i < n) × (spacing ≡ Listed → n ≤ length (now list)) ⌝ }
+    ensures { λ r. ⌜ (i + 1 < n → r ≡ normalisedOf spacing (now (list .entry)) n (i + 1)) ⌝ }
+{
+    if i + 1 < n {
+        return parameters::normalised(spacing, list, n, i + 1);
+    }
+    1.0
+}
+
+// The certified figure of an axis.
+pub(crate) fn walk(
+    breaks: &[f64],
+    coefficients: &[f64],
+    k: usize,
+    place: usize,
+    points: &[f64],
+    d: usize,
+    axis: usize,
+    n: usize,
+    spacing: Spacing,
+    parameters: &[f64],
+) -> Figure
+    requires { ⌜ (place < k) × (k ≤ 16) × (2 ≤ length (now breaks)) × (length (now breaks) ≤ 20001) × (length (now coefficients) ≡ 6 * ((length (now breaks) - 1) * k))
+        × (axis < d) × (d ≤ 16) × (2 ≤ n) × (n ≤ 20000) × (length (now points) ≡ d * n) × (spacing ≡ Listed → length (now parameters) ≡ n) ⌝ }
+    requires { ⌜ Rises (length (now breaks) - 1) (at (now breaks)) × Rises (n - 1) (normalisedOf spacing (now parameters) n) ⌝ }
+    ensures { λ r. ⌜ figureIn r ≡ figureOf (axisOf (now (breaks .entry)) (now (coefficients .entry)) k place (now (points .entry)) d axis n spacing (now (parameters .entry))) ⌝ }
+{
+    let mut so_far = Figure::Known(0.0);
+    let mut i = 0;
+    let mut m = 0;
+    let mut from = parameters::normalised(spacing, parameters, n, 0);
+    let mut to = parameters::normalised(spacing, parameters, n, 1);
+    while i < n - 1 {
+        let x = intersect(
+            breaks,
+            coefficients,
+            k,
+            place,
+            points,
+            d,
+            axis,
+            i,
+            m,
+            from,
+            to,
+        );
+        so_far = with_intersection(x, so_far);
+        if breaks[m + 1] < to {
+            m += 1;
+        } else {
+            i += 1;
+            from = to;
+            to = end_of(spacing, parameters, n, i);
+        }
+    }
+    so_far
+}
