@@ -1,6 +1,7 @@
 //! Answers one case by calling the source, and prints the answer as one line of text.
 
 use crate::case::{ALL_AXES, AXIS_WORDS, Case, Curve, Kind, Pieces, Row, unpack};
+use crate::certificate::{Certificate, Question};
 use crate::diag::PathError;
 use crate::path::OutOfRangeMode;
 use crate::path::smoothing::{SmoothingConfig, SmoothingTolerance, reach};
@@ -8,9 +9,10 @@ use crate::refusal::Refusal;
 use crate::request::Request;
 use std::fmt::Write;
 
-/// What a case is answered with: whole numbers, then cells; or a refusal.
+/// What a case is answered with: whole numbers, then cells; a figure or none; or a refusal.
 pub enum Answer {
     Given(Vec<usize>, Vec<f64>),
+    Figure(Option<f64>),
     Refused(Refusal),
 }
 
@@ -20,6 +22,10 @@ impl Answer {
         let mut line = kind.name().to_string();
         let (whole, cells) = match self {
             Self::Given(whole, cells) => (whole, cells),
+            Self::Figure(figure) => {
+                line.push_str(if figure.is_some() { " figure" } else { " none" });
+                (&Vec::new(), &figure.iter().copied().collect())
+            }
             Self::Refused(refusal) => {
                 line.push_str(" refused");
                 (&vec![refusal.number], &refusal.ratio.into_iter().collect())
@@ -133,6 +139,7 @@ pub fn answer(case: &Case) -> Result<Answer, String> {
         Kind::Regions => regions(input),
         Kind::Build => build(input),
         Kind::Evaluate => evaluate(input),
+        Kind::Certify => certify(input),
     }
     .map_err(|e| format!("{}: {e}", case.kind.name()))
 }
@@ -412,5 +419,39 @@ fn pieces(input: &mut Input, segments: usize, axes: usize) -> Result<Pieces, Str
     Ok(Pieces {
         breaks: input.cells(segments + 1)?.to_vec(),
         coefficients: input.cells(6 * axes * segments)?.to_vec(),
+    })
+}
+
+fn certify(mut input: Input) -> Result<Answer, String> {
+    let [d, k, segments, other_segments, n, rest @ ..] = input.whole::<16>()?;
+    let [w0, w1, w2, w3, counts @ .., word] = rest;
+    let (axis, mode) = (word % 256, word / 256);
+    require(mode <= 1, || format!("parameter mode {mode}"))?;
+    let question = Question {
+        d,
+        k,
+        axes: unpack(&[w0, w1, w2, w3], k.min(4 * AXIS_WORDS)),
+        start: input.cell()?,
+        end: input.cell()?,
+        segments,
+        other_segments,
+        breaks: input.cells(counts[0])?.to_vec(),
+        coefficients: input.cells(counts[1])?.to_vec(),
+        other_breaks: input.cells(counts[2])?.to_vec(),
+        other_coefficients: input.cells(counts[3])?.to_vec(),
+        n,
+        points: input.cells(counts[4])?.to_vec(),
+        listed: mode == 1,
+        parameters: input.cells(counts[5])?.to_vec(),
+        axis,
+    };
+    input.end()?;
+    Ok(match question.certify() {
+        Certificate::Figure(figure) => Answer::Figure(Some(figure)),
+        Certificate::None => Answer::Figure(None),
+        Certificate::Refused(number) => Answer::Refused(Refusal {
+            number,
+            ratio: None,
+        }),
     })
 }

@@ -1,6 +1,7 @@
 //! A case: its kind, its whole numbers and its cells. README.md's table says what
 //! the numbers and cells of each kind are; the functions here put them in that order.
 
+use crate::certificate::Question;
 use crate::path::smoothing::SmoothingTolerance;
 use crate::request::Request;
 
@@ -33,11 +34,12 @@ pub enum Kind {
     SortDedup = 62,
     Build = 70,
     Evaluate = 80,
+    Certify = 90,
 }
 
 impl Kind {
     /// Every kind with its name.
-    pub const ALL: [(Kind, &'static str); 26] = [
+    pub const ALL: [(Kind, &'static str); 27] = [
         (Kind::Clear, "clear"),
         (Kind::Copy, "copy"),
         (Kind::Sqrt, "sqrt"),
@@ -64,6 +66,7 @@ impl Kind {
         (Kind::SortDedup, "sort_dedup"),
         (Kind::Build, "build"),
         (Kind::Evaluate, "evaluate"),
+        (Kind::Certify, "certify"),
     ];
 
     pub fn name(self) -> &'static str {
@@ -293,5 +296,33 @@ impl Case {
                 queries,
             ],
         )
+    }
+
+    pub fn certify(question: &Question) -> Self {
+        let slices = [
+            &question.breaks,
+            &question.coefficients,
+            &question.other_breaks,
+            &question.other_coefficients,
+            &question.points,
+            &question.parameters,
+        ];
+        let counts = [
+            question.d,
+            question.k,
+            question.segments,
+            question.other_segments,
+            question.n,
+        ];
+        let whole = [
+            &counts[..],
+            &pack(&question.axes),
+            &slices.map(Vec::len),
+            &pack(&[question.axis, usize::from(question.listed)])[..1],
+        ];
+        let ends = vec![question.start, question.end];
+        let cells = [&[&ends], &slices[..]].concat();
+        let cells: Vec<_> = cells.into_iter().flatten().copied().collect();
+        Self::new(Kind::Certify, &whole.concat(), &[&cells])
     }
 }

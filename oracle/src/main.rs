@@ -7,6 +7,7 @@ pub(crate) use standin::DMatrixView;
 
 mod answer;
 mod case;
+mod certificate;
 mod generate;
 mod list;
 mod random;

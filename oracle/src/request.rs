@@ -98,6 +98,16 @@ pub fn small_lane(r: &mut Random) -> Request {
     request.limit_work()
 }
 
+/// A lane of few axes with many waypoints, whose fits have dense spans, and windows that leave
+/// controls out.
+pub fn long_lane(r: &mut Random) -> Request {
+    let d = r.pick(&[1, 1, 1, 1, 2, 3]);
+    let n = r.between(12, 110 / d);
+    let mut request = lane(r, d, n);
+    request.config.max_refinements = r.between(0, 8);
+    request.limit_work()
+}
+
 fn dimension(r: &mut Random) -> usize {
     match r.below(10) {
         0..=4 => 1,
@@ -208,7 +218,7 @@ fn row(r: &mut Random, n: usize, scale: f64) -> Vec<f64> {
 }
 
 /// Listed parameters that rise strictly before they are normalised.
-fn parameters(r: &mut Random, n: usize) -> Vec<f64> {
+pub fn parameters(r: &mut Random, n: usize) -> Vec<f64> {
     let start = r.pick(&[0., 0., -3.5, 100., 1e6]);
     let (mut x, style) = (start, r.below(10));
     let step = r.scaled(-6, 3).abs();
@@ -314,7 +324,7 @@ fn faulty_tolerance(r: &mut Random, axes: usize) -> SmoothingTolerance {
 }
 
 /// Parameters that do not rise, once normalised at the latest, or not `n` of them.
-fn faulty_parameters(r: &mut Random, n: usize) -> Vec<f64> {
+pub fn faulty_parameters(r: &mut Random, n: usize) -> Vec<f64> {
     let mut list = parameters(r, n);
     match r.below(8) {
         0 => list.push(1e9),

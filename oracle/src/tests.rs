@@ -3,6 +3,7 @@
 
 use crate::answer::{Answer, answer, digits};
 use crate::case::{Case, Kind};
+use crate::certificate::{Certificate, Question};
 use crate::path::smoothing::{SmoothingTolerance, reach};
 use crate::random::{Random, power_of_two};
 use crate::refusal::Refusal;
@@ -240,6 +241,148 @@ fn requests_reach_every_refusal_but_12() {
     }
 }
 
+/// A straight curve of one axis beside another, with a corner of 0.95 between its waypoints.
+fn corner() -> Question {
+    Question {
+        d: 2,
+        k: 1,
+        axes: vec![1],
+        start: 0.,
+        end: 1.,
+        segments: 1,
+        other_segments: 1,
+        breaks: vec![0., 1.],
+        coefficients: vec![0.; 6],
+        other_breaks: vec![0., 1.],
+        other_coefficients: vec![0.; 6],
+        n: 3,
+        points: vec![0., 0., 0., 0.95, 0., 0.],
+        listed: false,
+        parameters: Vec::new(),
+        axis: 1,
+    }
+}
+
+fn number(question: &Question) -> usize {
+    match question.certify() {
+        Certificate::Refused(number) => number,
+        _ => 0,
+    }
+}
+
+/// Faults put in one by one, the last to be met first, give "18, 20, 1, 5, 6, 24, 3" from the end.
+#[test]
+fn certifying_checks_in_order() {
+    let mut question = corner();
+    assert_eq!(number(&question), 0);
+    question.axis = 0;
+    assert_eq!(number(&question), 3);
+    question.breaks[1] = 2.;
+    assert_eq!(number(&question), 24);
+    question.listed = true;
+    question.parameters = vec![-1e308, 0., 1e308];
+    assert_eq!(number(&question), 6);
+    question.parameters[1] = f64::NAN;
+    assert_eq!(number(&question), 5);
+    question.points[0] = f64::INFINITY;
+    assert_eq!(number(&question), 1);
+    question.points.pop();
+    assert_eq!(number(&question), 20);
+    question.n = 20_001;
+    assert_eq!(number(&question), 18);
+}
+
+#[test]
+fn figure_is_the_largest_end() {
+    let figure = |question: &Question| match question.certify() {
+        Certificate::Figure(figure) => figure,
+        other => panic!("{other:?}"),
+    };
+    // Half of the corner's lines lie on each side of it, so that both intersections have its 0.95.
+    let at_corner = figure(&corner());
+    assert!(at_corner > 0.95 && at_corner < 0.95 * (1. + power_of_two(-46)));
+    // Exact results are moved outward too: zeros all over give a figure above 0.
+    let mut flat = corner();
+    flat.points.fill(0.);
+    let figure_of_zeros = figure(&flat);
+    assert!(figure_of_zeros > 0. && figure_of_zeros < power_of_two(-1000));
+    // The curve's start and end, and its other axes, have no part in it.
+    let mut elsewhere = corner();
+    elsewhere.start = -3.;
+    elsewhere.other_coefficients.fill(f64::NAN);
+    assert_eq!(figure(&elsewhere).to_bits(), at_corner.to_bits());
+    // One coefficient that is not finite, or a product that overflows, gives none.
+    for v in [f64::NAN, f64::INFINITY, 1e308] {
+        let mut none = corner();
+        none.coefficients[5] = v;
+        assert!(matches!(none.certify(), Certificate::None));
+    }
+}
+
+#[test]
+fn certify_cases_reach_every_answer() {
+    let mut found = [0; 25];
+    let (mut figures, mut none) = (0, 0);
+    for case in generate::group("certify", 90, 2000).unwrap() {
+        match answer(&case).unwrap() {
+            Answer::Figure(Some(_)) => figures += 1,
+            Answer::Figure(None) => none += 1,
+            Answer::Refused(refusal) => found[refusal.number] += 1,
+            Answer::Given(..) => panic!("no answer of this kind"),
+        }
+    }
+    for number in [1, 3, 5, 6, 18, 20, 24] {
+        assert!(found[number] > 20, "refused {number}: {}", found[number]);
+    }
+    assert!(figures > 800 && none > 50);
+}
+
+/// Whatever the whole numbers are, there is an answer or a message.
+#[test]
+fn odd_certify_cases_end() {
+    let mut r = Random::new(9);
+    for case in generate::group("certify", 9, 400).unwrap() {
+        for _ in 0..50 {
+            let mut odd = case.clone();
+            let place = r.below(odd.whole.len());
+            odd.whole[place] = match r.below(4) {
+                0 => r.next() as u32,
+                1 => odd.whole[place].wrapping_add(1),
+                2 => odd.whole[place].wrapping_sub(1),
+                _ => odd.whole[place] ^ 1 << r.below(32),
+            };
+            let _ = answer(&odd);
+        }
+    }
+}
+
+/// The figure of a curve that `build` returns is about the error that `build` reports.
+#[test]
+fn figure_of_a_built_curve_is_its_error() {
+    for row in [[0., 0.95, 0.], [0., 3., -2.], [1., 1.5, 2.]] {
+        let built = reach::build(&one_row(&row)).unwrap();
+        let question = Question {
+            d: 1,
+            k: 1,
+            axes: vec![0],
+            segments: built.counts[0],
+            other_segments: 0,
+            breaks: built.curve.selected.breaks,
+            coefficients: built.curve.selected.coefficients,
+            other_breaks: Vec::new(),
+            other_coefficients: Vec::new(),
+            points: row.to_vec(),
+            axis: 0,
+            ..corner()
+        };
+        let Certificate::Figure(figure) = question.certify() else {
+            panic!("no figure");
+        };
+        let error = built.max_errors[0];
+        assert!((figure - error).abs() < 1e-13, "{figure} {error}");
+    }
+}
+
 /// Fowler, Noll and Vo's checksum, 1a, of 64 bits.
 fn checksum(bytes: &[u8]) -> u64 {
     bytes.iter().fold(0xCBF2_9CE4_8422_2325, |sum, byte| {
@@ -265,7 +408,7 @@ fn seed_cases_are_finite() {
 
 /// Recorded; a change of a generator changes them, and the stored list with them.
 const REQUESTS_1_200: u64 = 0xEE59_68FF_F28F_F0FA;
-const GROUPS_1_20: u64 = 0x9989_524C_B15D_12F2;
+const GROUPS_1_20: u64 = 0xE4D9_D708_31C6_8F7A;
 
 #[test]
 fn refusal_14_prints_its_ratio() {

@@ -8,7 +8,7 @@ use crate::random::Random;
 use crate::request;
 
 /// Breaks of at most `most` segments, which rise strictly from 0 to 1.
-fn breaks(r: &mut Random, most: usize) -> Vec<f64> {
+pub fn breaks(r: &mut Random, most: usize) -> Vec<f64> {
     let count = r.below(most);
     let mut breaks: Vec<_> = (0..count).map(|_| r.unit()).collect();
     breaks.extend([0., 1.]);
@@ -17,19 +17,24 @@ fn breaks(r: &mut Random, most: usize) -> Vec<f64> {
     breaks
 }
 
-/// Pieces for `d` axes; one in a few has huge coefficients.
+/// Pieces for `d` axes.
 fn pieces(r: &mut Random, d: usize, most: usize) -> Pieces {
     let breaks = breaks(r, most);
+    let count = 6 * d * (breaks.len() - 1);
+    Pieces {
+        breaks,
+        coefficients: any_coefficients(r, count),
+    }
+}
+
+/// Coefficients, in a few curves huge ones.
+pub fn any_coefficients(r: &mut Random, count: usize) -> Vec<f64> {
     let size = match r.below(8) {
         0 => 1e307,
         1 => 1e150,
         _ => 1.,
     };
-    let count = 6 * d * (breaks.len() - 1);
-    Pieces {
-        breaks,
-        coefficients: (0..count).map(|_| r.plain() * size).collect(),
-    }
+    (0..count).map(|_| r.plain() * size).collect()
 }
 
 /// Steps of real lanes, and curves of any pieces against waypoints of which some stand at

@@ -1,10 +1,12 @@
 //! Cases of the normal system, of `fit` and of `seed`.
 
 use super::splines::{axes, controls, knots};
-use super::traced;
+use super::{traced, traced_where};
 use crate::case::{Case, Kind, Row};
 use crate::path::smoothing::reach;
 use crate::random::{Random, power_of_two};
+use crate::request;
+use std::array::from_fn;
 
 /// Systems of interpolation, and rows of basis values or of any values on any window.
 /// Too few rows give 9 or 10, huge targets 11.
@@ -73,13 +75,49 @@ fn window(r: &mut Random, low: usize, high: usize) -> (usize, usize) {
     }
 }
 
-/// Steps of real lanes, and any window on samples of which some stand at knots.
+/// Steps of real lanes: any, those with a dense span, and refits that leave controls out. And any
+/// window on samples of which some stand at knots.
 pub fn fit(r: &mut Random) -> Case {
     match r.below(20) {
-        0 => return crowded(r),
-        1..=12 => return traced(r, Kind::Fit),
-        _ => {}
+        0 => crowded(r),
+        1..=5 => traced(r, Kind::Fit),
+        6..=8 => traced_long(r, |w| w.dense),
+        9 | 10 => traced_long(r, |w| w.dense && w.part),
+        11 => traced_long(r, |w| w.a > 1),
+        _ => any_fit(r),
     }
+}
+
+/// A fit of a lane with many waypoints, whose window is as wanted.
+fn traced_long(r: &mut Random, wanted: fn(Window) -> bool) -> Case {
+    let most = r.pick(&[150, 200, 300, 400]);
+    let wanted = |case: &Case| wanted(window_of(case));
+    traced_where(r, Kind::Fit, most, request::long_lane, wanted)
+}
+
+/// The window of a fit: its first control, whether it leaves out a control that may change, and
+/// whether it reaches a dense span.
+struct Window {
+    a: usize,
+    part: bool,
+    dense: bool,
+}
+
+fn window_of(case: &Case) -> Window {
+    let [d, n, a, z, knots] = from_fn(|i| case.whole[i] as usize);
+    let (t, m) = (&case.cells[1..=knots], knots - 6);
+    let s = &case.cells[1 + knots + m * d..][..n];
+    let samples = |left, right| s.iter().filter(|v| left <= **v && **v < right).count();
+    Window {
+        a,
+        part: a > 1 || z < m - 1,
+        dense: t[a..=z + 5].windows(2).any(|v| samples(v[0], v[1]) >= 8),
+    }
+}
+
+/// Any window on any knots. Half have a dense span: in the window, where at times no other is, or
+/// next after it, so that the sample at the window's right end is a row.
+fn any_fit(r: &mut Random) -> Case {
     let d = r.pick(&[1, 1, 1, 1, 2, 3, 16]);
     let t = knots(r, if d > 3 { 1 } else { 6 });
     let m = t.len() - 6;
@@ -88,10 +126,24 @@ pub fn fit(r: &mut Random) -> Case {
         1 => r.between(4, 40),
         _ => r.between(1, 10),
     };
-    let s = samples(r, &t, count);
+    let mut s = samples(r, &t, count);
+    let (mut a, mut z) = window(r, 1, m - 1);
+    if d < 16 && r.chance(50) {
+        let mut span = r.between(a.max(5), (z + 4).min(m - 1));
+        if m > 7 && r.chance(40) {
+            z = r.between(2, m - 6);
+            a = r.between(1, z - 1);
+            span = z + 5;
+        }
+        let (left, width) = (t[span], t[span + 1] - t[span]);
+        s.push(left);
+        s.extend((0..r.between(7, 9)).map(|_| left + width * r.unit()));
+        s.sort_by(f64::total_cmp);
+        s.dedup();
+    }
     let y = coordinates(r, d, s.len());
     let strength = 0.001 * power_of_two(-2 * r.below(6) as i32);
-    Case::fit(d, window(r, 1, m - 1), strength, &t, &c, &s, &y)
+    Case::fit(d, (a, z), strength, &t, &c, &s, &y)
 }
 
 /// A first fit with nearly all waypoints next to 0, on which pivots run out (10).

@@ -1,0 +1,333 @@
+//! Cases of `certify`: curves with waypoints, and input that is turned away.
+
+use super::curves::{any_coefficients, breaks};
+use super::most_cells;
+use super::systems::{coordinates, samples};
+use crate::case::Case;
+use crate::certificate::Question;
+use crate::path::smoothing::reach;
+use crate::random::{Random, power_of_two};
+use crate::request;
+
+/// Numbers that are not finite, or overflow soon.
+const HUGE: [f64; 6] = [
+    f64::NAN,
+    f64::INFINITY,
+    f64::NEG_INFINITY,
+    1e300,
+    1e308,
+    f64::MAX,
+];
+
+/// Curves that `build` returns with their own waypoints or others, and curves of any pieces; one in
+/// three is turned away.
+pub fn certify(r: &mut Random) -> Case {
+    let most = 2 * most_cells(r);
+    loop {
+        let Some(mut question) = (if r.chance(60) {
+            built(r)
+        } else {
+            Some(made(r))
+        }) else {
+            continue;
+        };
+        if r.chance(35) {
+            change(r, &mut question);
+        }
+        if r.chance(35) {
+            let times = r.pick(&[1, 1, 1, 2, 3]);
+            for _ in 0..times {
+                let number = r.pick(&[18, 20, 1, 5, 6, 24, 24, 24, 3, 3]);
+                damage(r, &mut question, number);
+            }
+        }
+        let case = Case::certify(&question);
+        if case.cells.len() <= most {
+            return case;
+        }
+    }
+}
+
+/// Curves that `build` returns, with their waypoints.
+pub fn certify_built(r: &mut Random) -> Case {
+    let most = 4 * most_cells(r);
+    loop {
+        if let Some(question) = built(r) {
+            let case = Case::certify(&question);
+            if case.cells.len() <= most {
+                return case;
+            }
+        }
+    }
+}
+
+/// An accepted request and one of its selected axes.
+fn built(r: &mut Random) -> Option<Question> {
+    let request = if r.chance(50) {
+        request::small_lane(r)
+    } else {
+        request::draw(r)
+    };
+    let curve = reach::build(&request).ok()?.curve;
+    let other = curve.other.as_ref();
+    Some(Question {
+        d: request.d,
+        k: curve.axes.len(),
+        axis: r.pick(&curve.axes),
+        axes: curve.axes,
+        start: curve.start,
+        end: curve.end,
+        segments: curve.selected.segments(),
+        other_segments: other.map_or(0, |p| p.segments()),
+        other_breaks: other.map_or(Vec::new(), |p| p.breaks.clone()),
+        other_coefficients: other.map_or(Vec::new(), |p| p.coefficients.clone()),
+        breaks: curve.selected.breaks,
+        coefficients: curve.selected.coefficients,
+        n: request.n,
+        points: request.points,
+        listed: request.config.parameters.is_some(),
+        parameters: request.config.parameters.unwrap_or_default(),
+    })
+}
+
+/// A well-formed curve of any pieces with any waypoints, of which some stand at breaks.
+fn made(r: &mut Random) -> Question {
+    let d = r.pick(&[1, 1, 1, 2, 2, 3, 4, 16]);
+    let axes = request::selection(r, d);
+    let k = axes.len();
+    let axis = r.pick(&axes);
+    let breaks = places(r);
+    let segments = breaks.len() - 1;
+    let others = if k < d { r.between(1, 3) } else { 0 };
+    let other_breaks = (0..=others).map(|i| i as f64 / others as f64);
+    let count = r.below(6);
+    let s = match r.below(4) {
+        0 => breaks.clone(),
+        1 => samples(r, &[], count),
+        _ => samples(r, &breaks, count),
+    };
+    let n = s.len();
+    let (start, length) = r.pick(&[
+        (0., 1.),
+        (0., 1.),
+        (0., 4.),
+        (0., power_of_two(-1000)),
+        (-3.5, 12.),
+        (1e6, 1.),
+        (-1e307, 2e307),
+        (0., 1e-310),
+    ]);
+    let mut question = Question {
+        d,
+        k,
+        axes,
+        start,
+        end: start + length,
+        segments,
+        other_segments: others,
+        coefficients: any_coefficients(r, 6 * k * segments),
+        other_breaks: other_breaks
+            .take(if k < d { others + 1 } else { 0 })
+            .collect(),
+        other_coefficients: any_coefficients(r, 6 * (d - k) * others),
+        breaks,
+        n,
+        points: coordinates(r, d, n),
+        listed: r.chance(75),
+        parameters: s.iter().map(|v| start + v * length).collect(),
+        axis,
+    };
+    if r.chance(30) {
+        straighten(r, &mut question, &s);
+    }
+    question
+}
+
+/// Strictly rising from 0 to 1: one segment, even ones, any, or some that are tiny.
+fn places(r: &mut Random) -> Vec<f64> {
+    let count = r.between(1, 5);
+    let mut list: Vec<f64> = match r.below(5) {
+        0 => vec![0., 1.],
+        1 => (0..=count).map(|i| i as f64 / count as f64).collect(),
+        2 => breaks(r, 5),
+        _ => {
+            let middle = r.pick(&[0., 0.5, 0.3, 1.]);
+            let width = power_of_two(r.pick(&[-40, -40, -45, -52, -53]));
+            let steps = (0..count).map(|i| middle + (i as f64 - 2.) * width);
+            let steps = steps.filter(|v| *v > 0. && *v < 1.);
+            [0., 1.].into_iter().chain(steps).collect()
+        }
+    };
+    if r.chance(8) {
+        let tiny = power_of_two(-(r.between(60, 1022) as i32));
+        list.push(r.pick(&[tiny, tiny, 5e-324, 1e-323, 1e-310]));
+    }
+    list.sort_by(f64::total_cmp);
+    list.dedup();
+    if r.chance(15) {
+        list[0] = -0.;
+    }
+    list
+}
+
+/// Puts the selected axes and their waypoints on one line, so that rounding alone parts them; in
+/// some of them next to it. At times all is 0, or next to the smallest or the largest numbers.
+fn straighten(r: &mut Random, question: &mut Question, s: &[f64]) {
+    let scale = r.pick(&[1., 1., 1., 1., 0., 1e-320, 1e300]);
+    let (first, rise) = (r.plain() * scale, r.plain() * scale);
+    let noise = scale * r.pick(&[0., 0., power_of_two(-50), 1e-6]);
+    question.listed = true;
+    for v in &mut question.points {
+        *v = first;
+    }
+    for (i, s) in s.iter().enumerate() {
+        for axis in &question.axes {
+            question.points[i * question.d + axis] += s * rise + noise * r.signed();
+        }
+    }
+    let rows = question.coefficients.as_chunks_mut().0;
+    for (row, p) in rows.iter_mut().enumerate() {
+        let m = row / question.k;
+        let (a, b) = (question.breaks[m], question.breaks[m + 1]);
+        *p = [first + a * rise, (b - a) * rise, 0., 0., 0., 0.];
+    }
+}
+
+/// Changes a question so that another figure or none is due, or shows what the figure does not
+/// depend on.
+fn change(r: &mut Random, question: &mut Question) {
+    let (d, n) = (question.d, question.n);
+    let place = r.below(question.coefficients.len());
+    let point = r.below(question.points.len());
+    match r.below(12) {
+        0 => question.coefficients[place] = r.pick(&HUGE),
+        1 => question.coefficients[place] = r.float(),
+        2 => question.points[point] = r.scaled(900, 1023),
+        3 => question.points[point] += r.plain(),
+        4 => question.points[point] = question.points[point].next_up(),
+        5 => question.points = coordinates(r, d, n),
+        6 => question.listed = false,
+        7 => {
+            question.listed = true;
+            question.parameters = request::parameters(r, n);
+        }
+        8 => {
+            for v in &mut question.coefficients {
+                *v = f64::from_bits(r.next() >> r.between(12, 63)) * r.sign();
+            }
+        }
+        9 => question.breaks[0] = -0.,
+        10 => (question.start, question.end) = (-7., 9.5),
+        // A segment's end moved to the next number: strictly between two waypoints.
+        _ if question.segments > 1 => {
+            let place = r.between(1, question.segments - 1);
+            question.breaks[place] = question.breaks[place].next_up();
+        }
+        _ => {}
+    }
+}
+
+/// Damages a question so that it is turned away with the number, if with none that comes before.
+fn damage(r: &mut Random, question: &mut Question, number: usize) {
+    match number {
+        18 if r.chance(50) => question.d = r.pick(&[17, 17, 18, 255]),
+        18 => question.n = r.pick(&[20_001, 20_001, 1 << 20]),
+        20 => match r.below(4) {
+            0 => question.points.push(1.),
+            1 => question.points.clear(),
+            2 => question.n += 1,
+            _ => {
+                question.points.pop();
+            }
+        },
+        1 => damage_points(r, question),
+        5 | 6 => {
+            question.listed = true;
+            question.parameters = request::faulty_parameters(r, question.n.clamp(2, 40));
+        }
+        24 => damage_curve(r, question),
+        // Another axis, or one that is not below d.
+        _ => {
+            let others = (0..question.d.min(16)).filter(|a| !question.axes.contains(a));
+            let others: Vec<_> = others.chain([question.d.min(200) + r.below(3)]).collect();
+            question.axis = r.pick(&others);
+        }
+    }
+}
+
+/// No axis, fewer than two waypoints, or a point of any axis that is not finite.
+fn damage_points(r: &mut Random, question: &mut Question) {
+    match r.below(4) {
+        0 => {
+            question.d = 0;
+            question.points.clear();
+        }
+        1 => {
+            question.n = r.below(2);
+            question.points.truncate(question.d * question.n);
+        }
+        _ => {
+            if !question.points.is_empty() {
+                let place = r.below(question.points.len());
+                question.points[place] = r.pick(&HUGE[..3]);
+            }
+        }
+    }
+}
+
+/// Makes a curve that is not well formed.
+fn damage_curve(r: &mut Random, question: &mut Question) {
+    if question.breaks.is_empty() {
+        return;
+    }
+    let last = question.breaks.len() - 1;
+    let place = r.below(last + 1);
+    let not_finite = r.pick(&HUGE[..3]);
+    match r.below(28) {
+        0 => question.k = 0,
+        1 => question.k = question.d.min(200) + 1,
+        2 => question.k = r.pick(&[16, 17, 255]),
+        3 => question.axes[0] = question.d.min(200) + r.below(2),
+        4 => {
+            question.axes.truncate(15);
+            question.axes.push(question.axes[0]);
+            question.k = question.axes.len();
+        }
+        5 => question.segments += 1,
+        6 => question.segments = question.segments.saturating_sub(1),
+        7 => question.segments = r.pick(&[0, 20_001, 1 << 20]),
+        8 => question.other_segments += 1,
+        9 => question.other_segments = 0,
+        10 => question.breaks.push(2.),
+        11 => {
+            question.breaks.pop();
+        }
+        12 => question.coefficients.push(0.),
+        13 => {
+            question.coefficients.pop();
+        }
+        14 => question.other_breaks.push(1.),
+        15 => question.other_breaks.clear(),
+        16 => question.other_coefficients.push(0.),
+        17 => {
+            question.other_coefficients.pop();
+        }
+        18 => question.breaks[place] = not_finite,
+        19 => question.breaks[0] = r.pick(&[5e-324, -5e-324, 0.25]),
+        20 => question.breaks[last] = r.pick(&[1f64.next_up(), 1f64.next_down(), 0.]),
+        21 => question.breaks.insert(place, question.breaks[place]),
+        22 => {
+            // One segment more, of no width.
+            question.breaks.insert(place, question.breaks[place]);
+            question
+                .coefficients
+                .extend(vec![0.; 6 * question.k.min(16)]);
+            question.segments += 1;
+        }
+        23 => question.start = not_finite,
+        24 => question.end = not_finite,
+        25 => question.end = question.start,
+        26 => (question.start, question.end) = (question.end, question.start),
+        _ => (question.start, question.end) = (-1e308, 1e308),
+    }
+}
