@@ -3,6 +3,8 @@
 // lines. A module's cases stand in a file of their own here, with one function for each kind.
 mod audits;
 mod cases;
+mod certificates;
+mod fits;
 mod knots;
 mod leaves;
 mod list;
@@ -28,11 +30,13 @@ fn answer(head: Head, cells: &[f64], work: &mut [f64], out: &mut [u8], at: usize
         22 | 23 | 24 => splines::basis(head, cells, out, at),
         25 | 26 => splines::spline(head, cells, work, out, at),
         30 => systems::normal(head, cells, work, out, at),
+        40 => fits::fit(head, cells, work, out, at),
         50 => audits::audit(head, cells, work, out, at),
         60 => knots::seeded(head, cells, work, out, at),
         61 => knots::regions(head, cells, out, at),
         62 => knots::sort_dedup(cells, work, out, at),
         80 => queries::evaluate(head, cells, out, at),
+        90 => certificates::certify(head, cells, out, at),
         _ => output::unanswered(at),
     }
 }

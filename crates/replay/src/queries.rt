@@ -94,7 +94,7 @@ fn byte_of(word: u64, j: usize) -> usize {
 }
 
 // The axes, four to a whole number, from the sixth number on.
-fn axes_of(wholes: &[u64; 16]) -> Axes {
+pub(crate) fn axes_of(wholes: &[u64; 16]) -> Axes {
     let mut listed = [0; 16];
     let mut i = 0;
     while i < 16 {

@@ -2,14 +2,10 @@
 use mathlib.Core.Path.{refl}
 use Prim.Native.Nat.{ℕ, _-_, _*_, _≤_}
 use native.Mathlib.Omega.{arith}
-use native.Mathlib.Nat.{mul-le-mul-right}
 use borrow.Author.Needs.{needs}
+use Rattle.replay.proofs.Sizes.{product}
 use Rattle.replay.proofs.audits.layout.Statement.{statement}
 use Rattle.replay.proofs.audits.layout.Tie as tie
-
-product : (n d : ℕ) → n ≤ 65536 → d ≤ 16 → n * d ≤ 1048576
-product n d h g =
-    let e : n * d ≤ 65536 * d = mul-le-mul-right d h in omega arith
 
 -- the three products of a layout
 record Small (d n m : ℕ) : Type 0 where

@@ -1,0 +1,2 @@
+-- Laws about the cases.
+mod Sizes
