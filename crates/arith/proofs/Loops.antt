@@ -1,6 +1,6 @@
 -- The laws of the loops of `specs/Loop`: where no turn is left, how a turn is taken off the front, and what every turn keeps. A code loop's invariant
 -- says that the turns left, from the state now, give what the whole loop gives: the first law is then its exit, the second its step.
-use mathlib.Core.Path.{_≡_, refl, ap}
+use mathlib.Core.Path.{_≡_, refl, sym, ap, _∙_}
 use Prim.Native.Nat.{ℕ, zero, suc, _+_, _-_, _≤_, _<_}
 use native.Mathlib.Omega.{arith}
 use mathlib.Core.Bool.{Bool, true, false}
@@ -16,6 +16,10 @@ pub each-turn : {S : Type 0} (f : ℕ → S → S) (a b : ℕ) (s : S) → a < b
 unfolding turns each
 each-turn f a b s h =
     let e : b - a ≡ suc (b - (a + 1)) = omega arith in rw e
+
+-- where a turn was taken, the turns left give what they gave before it
+pub each-next : {S : Type 0} (f : ℕ → S → S) (a b : ℕ) {s s′ r : S} → a < b → s′ ≡ f a s → each f a b s ≡ r → each f (a + 1) b s′ ≡ r
+each-next f a b {s = s} h e g = ap (each f (a + 1) b) e ∙ sym (each-turn f a b s h) ∙ g
 
 pub whilst-done : {S : Type 0} (p : S → Bool) (f : S → S) (n : ℕ) (s : S) → p s ≡ false → whilst p f n s ≡ s
 unfolding whilst
@@ -49,6 +53,26 @@ turns-keep P f k (suc n) a s h = turns-keep P f k n (a + 1) (f a s) (k a s h)
 pub each-keeps : {S : Type 0} (P : S → Type 0) (f : ℕ → S → S) (a b : ℕ) (s : S) → ((i : ℕ) (s : S) → P s → P (f i s)) → P s → P (each f a b s)
 unfolding each
 each-keeps P f a b s k h = turns-keep P f k (b - a) a s h
+
+turns-run : {S : Type 0} (P : ℕ → S → Type 0) (f : ℕ → S → S) (a b : ℕ) → ((i : ℕ) (s : S) → a ≤ i → i < b → P i s → P (i + 1) (f i s)) → (n i : ℕ) (s : S) → a ≤ i → i + n ≡ b → P i s → P b (turns f n i s)
+unfolding turns
+turns-run P f a b k zero i s g l h = let q : i ≡ b = omega arith in rw q at h
+turns-run P f a b k (suc n) i s g l h = turns-run P f a b k n (i + 1) (f i s) (omega arith) (omega arith) (k i s g (omega arith) h)
+
+-- what holds before turn a, and goes from before each turn i to after it, holds after all of them
+pub each-runs : {S : Type 0} (P : ℕ → S → Type 0) (f : ℕ → S → S) (a b : ℕ) (s : S) → a ≤ b → ((i : ℕ) (s : S) → a ≤ i → i < b → P i s → P (i + 1) (f i s)) → P a s → P b (each f a b s)
+unfolding each
+each-runs P f a b s l k h = turns-run P f a b k (b - a) a s (omega arith) (omega arith) h
+
+turns-same : {S : Type 0} (f g : ℕ → S → S) (n a : ℕ) (s : S) → ((i : ℕ) (s : S) → a ≤ i → i < a + n → f i s ≡ g i s) → turns f n a s ≡ turns g n a s
+unfolding turns
+turns-same f g zero a s h = refl
+turns-same f g (suc n) a s h = turns-same f g n (a + 1) (f a s) (λ i s l k. h i s (omega arith) (omega arith)) ∙ ap (turns g n (a + 1)) (h a s (omega arith) (omega arith))
+
+-- the same turns, the same result
+pub each-same : {S : Type 0} (f g : ℕ → S → S) (a b : ℕ) (s : S) → ((i : ℕ) (s : S) → a ≤ i → i < b → f i s ≡ g i s) → each f a b s ≡ each g a b s
+unfolding each
+each-same f g a b s h = turns-same f g (b - a) a s (λ i s l k. h i s l (omega arith))
 
 pub till-done : {S R : Type 0} (f : ℕ → S → Step S R) (out : S → R) (a b : ℕ) (s : S) → b ≤ a → till f out a b s ≡ out s
 unfolding tries till

@@ -25,7 +25,7 @@ use Rattle.fraction.proofs.Sum.{sum-equal, sum-scale, sum-last}
 use Rattle.book.specs.Fractions.{fractions}
 use Rattle.polynomial.specs.Piece.{addTerm, piecePower, errorOf, addShare, bernsteinOf}
 use Rattle.book.specs.Audit.{lineAt, pieceErrors}
-use Rattle.book.proofs.Loops.{each-runs}
+use Rattle.arith.proofs.Loops.{each-runs}
 use Rattle.book.proofs.Terms.{n0, n1, powerTerm}
 use Rattle.book.proofs.Binomials.{choose-is}
 use Rattle.book.proofs.WholePowers.{power-of-is}

@@ -16,7 +16,7 @@ use Rattle.fraction.specs.RationalRing.{rationalRing}
 use Rattle.fraction.specs.Ring.{_⊕_, _⊖_, solve, v0, v1, v2}
 use Rattle.book.specs.Basis.{knot, Nondecreasing}
 use Rattle.book.specs.Fractions.{fractions, fractionsBy}
-use Rattle.book.proofs.Loops.{each-same}
+use Rattle.arith.proofs.Loops.{each-same}
 use Rattle.book.proofs.Order.{wider}
 use Rattle.book.proofs.Values.{Level, step-is, start}
 
@@ -32,7 +32,7 @@ module _ (divide : ℚ → ℚ → ℚ) (agree : (a b : ℚ) → Above b → div
   row-any : (l r : List ℚ) (j : ℕ) (b : List ℚ) → ((i : ℕ) → i < j → Above (getD r (i + 1) 𝟘 +q getD l (j - i) 𝟘)) → innerLoop any l r j b ≡ innerLoop fractions l r j b
   unfolding innerLoop
   row-any l r j b h =
-      rw (each-same (innerTurn any l r j) (innerTurn fractions l r j) 0 j (record { row = b; saved = 𝟘 }) (omega arith) (λ i k a. turn-any l r j i k (h i a)))
+      rw (each-same (innerTurn any l r j) (innerTurn fractions l r j) 0 j (record { row = b; saved = 𝟘 }) (λ i k l′ a. turn-any l r j i k (h i a)))
 
   coef-any : (b : List ℚ) (at : ℕ) (saved : List ℚ) (left right : ℚ) (k : ℕ) (s : Expansion ℚ) → Above (left +q right) → expansionTurn any b at saved left right k s ≡ expansionTurn fractions b at saved left right k s
   unfolding expansionTurn previousOf
@@ -41,7 +41,7 @@ module _ (divide : ℚ → ℚ → ℚ) (agree : (a b : ℚ) → Above b → div
   blend-any : (b : List ℚ) (at : ℕ) (saved : List ℚ) (left right : ℚ) (j : ℕ) → Above (left +q right) → expand any b at saved left right j ≡ expand fractions b at saved left right j
   unfolding expand
   blend-any b at saved left right j h =
-      each-same (expansionTurn any b at saved left right) (expansionTurn fractions b at saved left right) 0 (j + 1) _ (omega arith) (λ k s a. coef-any b at saved left right k s h)
+      each-same (expansionTurn any b at saved left right) (expansionTurn fractions b at saved left right) 0 (j + 1) _ (λ k s l a. coef-any b at saved left right k s h)
 
   put-any : (b : List ℚ) (at : ℕ) (next : List ℚ) → putRow any b at next ≡ putRow fractions b at next
   unfolding putRow putTurn
@@ -58,8 +58,8 @@ module _ (divide : ℚ → ℚ → ℚ) (agree : (a b : ℚ) → Above b → div
     unfolding degreeTurn rowTurn
     level-any j b l h =
         rw (
-          each-same (rowTurn any t span x j) (rowTurn fractions t span x j) 0 j (record { rows = b; saved = replicate 6 𝟘 }) (omega arith)
-              (λ r s a.
+          each-same (rowTurn any t span x j) (rowTurn fractions t span x j) 0 j (record { rows = b; saved = replicate 6 𝟘 })
+              (λ r s l a.
               let i = span + 1 - j + r in
               let e : knot t (span + r + 1) -q knot t i ≡ x -q knot t i +q (knot t (span + r + 1) -q x) = solve rationalRing (knot t i ∷ x ∷ knot t (span + r + 1) ∷ []) (v2 ⊖ v0) (v1 ⊖ v0 ⊕ (v2 ⊖ v1)) tt in
               rw (blend-any (s .rows) (6 * r) (s .saved) (x -q knot t i) (knot t (span + r + 1) -q x) j (subst Above e (width i (span + r + 1) (omega arith) (omega arith) (omega arith))), put-any)),

@@ -4,8 +4,7 @@ pub mod Audit
 -- The definitions computed.
 pub mod Examples
 pub mod Corners
--- Laws that prove the theorems: of loops, terms and the order,
-pub mod Loops
+-- Laws that prove the theorems: of terms and the order,
 pub mod Terms
 pub mod Order
 -- of the basis functions and their readings,

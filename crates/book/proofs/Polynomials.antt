@@ -9,7 +9,6 @@ use lib.Dec.{T, T-not}
 use lib.ListN.{length, getD, length-append, List·getD-append}
 use lib.Seq.{getD-append-add, getD-append-seam}
 use Rattle.arith.specs.Loop.{each}
-use Rattle.arith.proofs.Loops.{each-done}
 use Rattle.arith.proofs.Rows.{row-end}
 use Rattle.bspline.specs.Powers.{powersOf}
 use Rattle.bspline.specs.Segments.{segmentOf, spanSegments, spanTurn, polynomialOf, Polynomial}
@@ -25,7 +24,7 @@ use Rattle.fraction.proofs.Rational.{≤q-add, difference-above}
 use Rattle.book.specs.Fractions.{fractions}
 use Rattle.book.specs.Basis.{knot, Nondecreasing, onSpan, halfOpen, closedAtEnd}
 use Rattle.book.specs.Curve.{curve, axisOf, breakOf, segmentValue}
-use Rattle.book.proofs.Loops.{each-runs}
+use Rattle.arith.proofs.Loops.{each-done, each-runs}
 use Rattle.book.proofs.Terms.{n0, n1}
 use Rattle.book.proofs.Order.{antisymmetric, not-both, rises}
 use Rattle.book.proofs.Readings.{closed-last, closed-before}

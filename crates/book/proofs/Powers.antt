@@ -17,7 +17,7 @@ use Rattle.fraction.specs.RationalRing.{rationalRing}
 use Rattle.fraction.specs.Ring.{var, _⊕_, _⊖_, _⊗_, solve, combine, v0, v1, v2, v3, v4, v5, v6, v7, v8}
 use Rattle.book.specs.Basis.{knot, basis, onSpan}
 use Rattle.book.specs.Fractions.{fractions}
-use Rattle.book.proofs.Loops.{each-runs}
+use Rattle.arith.proofs.Loops.{each-runs}
 use Rattle.book.proofs.Recurrence.{rising, basis-step, on-here, before-support, after-support}
 use Rattle.book.proofs.Terms.{n0, n1, hornerTerm}
 

@@ -16,7 +16,7 @@ use Rattle.fraction.specs.RationalRing.{rationalRing}
 use Rattle.fraction.specs.Ring.{con, _⊕_, _⊖_, _⊗_, solve, v0, v1, v2}
 use Rattle.book.specs.Basis.{knot, basis, onSpan}
 use Rattle.book.specs.Fractions.{fractions}
-use Rattle.book.proofs.Loops.{each-runs}
+use Rattle.arith.proofs.Loops.{each-runs}
 use Rattle.book.proofs.Recurrence.{rising, falling, basis-step, on-here, before-support, after-support}
 
 -- the code divides by right + left, b - x and x - a: that is b - a

@@ -13,7 +13,7 @@ use Rattle.certificate.specs.Operations.{ends}
 use Rattle.certificate.specs.Intersection.{Intersection, differenceBernstein, differencePower, lineAtLeft, lineRise, offset, power, scale}
 use Rattle.certificate.specs.Figure.{absoluteEnd, figure, intersectionFigure, larger}
 use Rattle.certificate.proofs.Enclosure.{bernstein-keeps, power-keeps, without-keeps}
-use Rattle.certificate.proofs.Steps.{each-same}
+use Rattle.arith.proofs.Loops.{each-same}
 use Rattle.certificate.proofs.Sums.{same-keeps}
 
 -- ---- the part

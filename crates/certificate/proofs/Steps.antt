@@ -9,7 +9,7 @@ use lib.Dec.{T}
 use lib.Ieee.{Float, lt}
 use lib.Ieee.Scale.{finite}
 use Rattle.arith.specs.Loop.{each, turns}
-use Rattle.arith.proofs.Loops.{each-done, each-turn}
+use Rattle.arith.proofs.Loops.{each-done, each-same, each-turn}
 use Rattle.window.specs.Cells.{+0}
 use Rattle.fraction.specs.Pair.{highest, lowest}
 use Rattle.fraction.specs.Rational.{_<q_, _≤q_, ℚ}
@@ -22,16 +22,6 @@ use Rattle.certificate.specs.Figure.{Axis, Figure, figure, figureOf, int
 use Rattle.certificate.proofs.Rising.{last-is, lt-value, never, rises-finite, rises-to}
 
 -- ---- loops
--- turns that are the same
-turns-same : {S : Type 0} (f g : ℕ → S → S) (n a : ℕ) (s : S) → ((i : ℕ) (s : S) → a ≤ i → i < a + n → f i s ≡ g i s) → turns f n a s ≡ turns g n a s
-unfolding turns
-turns-same f g zero a s h = refl
-turns-same f g (suc n) a s h = turns-same f g n (a + 1) (f a s) (λ i s l k. h i s (omega arith) (omega arith)) ∙ ap (turns g n (a + 1)) (h a s (omega arith) (omega arith))
-
-pub each-same : {S : Type 0} (f g : ℕ → S → S) (a b : ℕ) (s : S) → ((i : ℕ) (s : S) → a ≤ i → i < b → f i s ≡ g i s) → each f a b s ≡ each g a b s
-unfolding each
-each-same f g a b s h = turns-same f g (b - a) a s (λ i s l k. h i s l (omega arith))
-
 -- turns that leave the state
 turns-idle : {S : Type 0} (f : ℕ → S → S) (n a : ℕ) (s : S) → ((i : ℕ) → a ≤ i → i < a + n → f i s ≡ s) → turns f n a s ≡ s
 unfolding turns

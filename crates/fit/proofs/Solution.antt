@@ -4,12 +4,11 @@ use mathlib.Core.List.{List}
 use Prim.Native.Nat.{ℕ, _+_, _-_, _≤_, _<_}
 use native.Mathlib.Omega.{arith}
 use lib.ListN.{length, set, length-set}
-use lib.Ieee.{Float, binary64, add}
+use lib.Ieee.{Float, nan, binary64, add}
 use Rattle.window.specs.Window.{window, splice}
 use Rattle.window.specs.Cells.{at}
-use Rattle.window.proofs.Windows.{length-window, window-same, window-after, splice-splice}
+use Rattle.window.proofs.Windows.{length-window, window-cell, window-same, window-after, splice-splice}
 use Rattle.fit.specs.Fit.{addTurn}
-use Rattle.fitting_rows.proofs.Rooms.{at-window}
 
 -- The controls lie from c up to e, the solution behind them, from `right` on. w is w₀ with other controls, and its control `from` + i gets cell i of the solution.
 module _ (c e right count : ℕ) (w w₀ : List Float) (lies : c ≤ e) (apart : e ≤ right) (room : right + count ≤ length w₀) (same : length w ≡ length w₀)
@@ -22,7 +21,7 @@ module _ (c e right count : ℕ) (w w₀ : List Float) (lies : c ≤ e) (apart :
 
   solution-kept : at w (right + i) ≡ at (window right (right + count) w₀) i
   solution-kept =
-      sym (at-window right (right + count) w i (omega arith))
+      sym (window-cell right (right + count) w i nan (omega arith))
       ∙ ap (λ (l : List Float). at l i) (ap (window right (right + count)) kept ∙ window-after c e (window c e w) w₀ right (right + count) apart lies (omega arith) long)
 
   pub controls-added : window c e (splice c e written w) ≡ addTurn (window right (right + count) w₀) from i (window c e w)

@@ -1,11 +1,10 @@
 -- One turn of each loop of the assembly, as the code takes it.
-use mathlib.Core.Path.{_≡_, refl, sym, ap, _∙_}
+use mathlib.Core.Path.{_≡_, refl, sym, _∙_}
 use mathlib.Core.Bool.{Bool, true, false}
 use Prim.Native.Nat.{ℕ, _+_, _-_, _≤_, _<_}
 use native.Mathlib.Omega.{arith}
 use lib.Ieee.{Float, binary64, add, mul}
 use Rattle.arith.specs.Loop.{each}
-use Rattle.arith.proofs.Loops.{each-turn}
 use Rattle.window.specs.Cells.{at}
 use Rattle.bspline.proofs.InsertPlaced.{span-within}
 use Rattle.normal.specs.System.{System}
@@ -30,10 +29,6 @@ node-start x from h r m =
 pub penalty-start : (x : Arrays) (strength : Float) (span r : ℕ) → penaltyRowOf x strength span r .start ≡ span - 5
 unfolding penaltyRowOf rowOf
 penalty-start x strength span r = refl
-
--- where a turn was taken, the turns left give what they gave before it
-pub next-turn : {S : Type 0} (f : ℕ → S → S) (i last : ℕ) {n n′ r : S} → i < last → n′ ≡ f i n → each f i last n ≡ r → each f (i + 1) last n′ ≡ r
-next-turn f i last h e g = ap (each f (i + 1) last) e ∙ sym (each-turn f i last _ h) ∙ g
 
 module _ (x : Arrays) (a z : ℕ) where
   pub row-counted : (row : Row) (rows : ℕ) (s : System) → assembled (rows + 1) (added x a z row s) ≡ counted x a z row (assembled rows s)

@@ -3,20 +3,14 @@ use mathlib.Core.Path.{_≡_, _∙_}
 use mathlib.Core.List.{List}
 use Prim.Native.Nat.{ℕ, _+_, _-_, _*_, _≤_, _<_}
 use native.Mathlib.Omega.{arith}
-use lib.ListN.{length, drop}
-use lib.Seq.{getD-take, getD-drop}
-use lib.Ieee.{Float, nan}
+use lib.ListN.{length}
+use lib.Ieee.{Float}
 use Rattle.arith.proofs.Rows.{rows-le, row-end}
 use Rattle.window.specs.Cells.{at}
-use Rattle.window.specs.Window.{window}
 use Rattle.window.proofs.Windows.{length-window}
 use Rattle.fitting_rows.specs.declared.Place.{Place}
 use Rattle.fitting_rows.specs.Arrays.{Placed, arraysAt}
 use Rattle.fitting_rows.specs.Pieces.{intervalOf}
-
--- a cell of a part is a cell of the whole
-pub at-window : (a e : ℕ) (l : List Float) (i : ℕ) → a + i < e → at (window a e l) i ≡ at l (a + i)
-at-window a e l i h = getD-take (e - a) (drop a l) i nan (omega arith) ∙ getD-drop a l i nan
 
 -- the arrays at p in the cells l
 module _ (p : Place) (l : List Float) (h : Placed p (length l)) where

@@ -4,17 +4,17 @@ use mathlib.Core.List.{List}
 use Prim.Native.Nat.{ℕ, _+_, _-_, _*_, _≤_, _<_}
 use native.Mathlib.Omega.{arith}
 use lib.ListN.{length, take, drop, set}
-use lib.Seq.{drop-set-add, drop-set-lt, take-set-lt, take-set-le, getD-take, getD-drop}
+use lib.Seq.{drop-set-add, drop-set-lt, take-set-lt, take-set-le, getD-take}
 use lib.Ieee.{Float, nan, binary64, sub, mul, div}
 use Rattle.window.specs.Window.{window, splice}
 use Rattle.window.specs.Cells.{at}
-use Rattle.window.proofs.Windows.{window-same, window-before, window-after}
+use Rattle.window.proofs.Windows.{window-cell, window-same, window-before, window-after}
 use Rattle.normal.specs.System.{System, sizeOf, systemOf, withBand, withRight, withScales}
 
 -- ---- a cell of a part
 module _ (a e : ℕ) (l : List Float) where
   read-in : (k : ℕ) → a + k < e → at l (a + k) ≡ at (window a e l) k
-  read-in k h = sym (getD-take (e - a) (drop a l) k nan (omega arith) ∙ getD-drop a l k nan)
+  read-in k h = sym (window-cell a e l k nan h)
 
   set-in : (k : ℕ) (v : Float) → a + k < e → window a e (set l (a + k) v) ≡ set (window a e l) k v
   set-in k v h = rw (drop-set-add a l k v) (take-set-lt (e - a) (drop a l) k v (omega arith))

@@ -1,13 +1,11 @@
 -- What the slice holds once bounds and witnesses are written: the parts that are read are as they were.
 use mathlib.Core.Path.{_≡_, refl, ap, _∙_}
 use mathlib.Core.List.{List}
-use Prim.Native.Nat.{ℕ, _+_, _-_, _*_, _<_}
+use Prim.Native.Nat.{ℕ, _+_, _-_, _*_}
 use native.Mathlib.Omega.{arith}
-use lib.ListN.{length, drop, length-set}
-use lib.Seq.{getD-take, getD-drop}
-use lib.Ieee.{Float, nan}
+use lib.ListN.{length, length-set}
+use lib.Ieee.{Float}
 use Rattle.arith.proofs.Loops.{each-keeps}
-use Rattle.window.specs.Window.{window}
 use Rattle.window.specs.Cells.{at}
 use Rattle.window.proofs.Windows.{splice-window}
 use Rattle.polynomial.specs.declared.audit.Parts.{Parts}
@@ -16,10 +14,6 @@ use Rattle.polynomial.specs.Interval.{intervalOf}
 use Rattle.polynomial.specs.Audit.{boundsWith}
 use Rattle.polynomial.specs.Placed.{Laid, breaksAt, coefficientsAt, parametersAt, pointsAt, boundsAt, witnessAt, intervalAt, withBounds}
 use Rattle.polynomial.proofs.Parts.{Apart, both-length, both-before, both-after, both-first, both-second, both-again}
-
--- a cell of a part
-pub at-window : (a e : ℕ) (l : List Float) (i : ℕ) → a + i < e → at (window a e l) i ≡ at l (a + i)
-at-window a e l i h = getD-take (e - a) (drop a l) i nan (omega arith) ∙ getD-drop a l i nan
 
 -- bounds written leave their number
 pub bounds-length : (row d : ℕ) (cells bounds : List Float) → length (boundsWith row d cells bounds) ≡ length bounds

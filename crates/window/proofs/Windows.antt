@@ -1,16 +1,20 @@
 -- The laws of `window` and `splice`: what a part of a list holds after a part was written.
 use mathlib.Core.Path.{_≡_, refl, sym, ap, _∙_}
 use mathlib.Core.List.{List, [], _∷_, _++_}
-use Prim.Native.Nat.{ℕ, zero, suc, _+_, _-_, _≤_}
+use Prim.Native.Nat.{ℕ, zero, suc, _+_, _-_, _≤_, _<_}
 use native.Mathlib.Omega.{arith}
-use lib.ListN.{length, take, drop, length-drop}
-use lib.Seq.{take-at, drop-at, take-take, drop-drop, length-take-le}
+use lib.ListN.{length, getD, take, drop, length-drop}
+use lib.Seq.{take-at, drop-at, take-take, drop-drop, getD-take, getD-drop, length-take-le}
 use borrow.Rule.Slice.PartMut.{same-len-mid, take-put, drop-put, put-same}
 use Rattle.window.specs.Window.{window, splice}
 
 module _ {A : Type 0} where
   pub length-window : (a e : ℕ) (l : List A) → a ≤ e → e ≤ length l → length (window a e l) ≡ e - a
   length-window a e l p q = length-take-le (e - a) (drop a l) (simp length-drop (omega arith))
+
+  -- a cell of a part is a cell of the whole
+  pub window-cell : (a e : ℕ) (l : List A) (i : ℕ) (d : A) → a + i < e → getD (window a e l) i d ≡ getD l (a + i) d
+  window-cell a e l i d h = getD-take (e - a) (drop a l) i d (omega arith) ∙ getD-drop a l i d
 
   module _ (a e : ℕ) (v l : List A) where
     pub length-splice : a ≤ e → e ≤ length l → length v ≡ e - a → length (splice a e v l) ≡ length l

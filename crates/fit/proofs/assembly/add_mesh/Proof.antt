@@ -6,11 +6,10 @@ use lib.ListN.{length}
 use lib.Ieee.{Float}
 use mathlib.Core.List.{List}
 use Rattle.arith.specs.Loop.{each}
-use Rattle.arith.proofs.Loops.{each-done}
+use Rattle.arith.proofs.Loops.{each-done, each-next}
 use Rattle.fitting_rows.specs.Arrays.{arraysAt}
 use Rattle.fit.specs.Region.{before, systemAt}
 use Rattle.fit.specs.Assembly.{assembled, meshTurn, meshOf}
-use Rattle.fit.proofs.Turns.{next-turn}
 use Rattle.fit.proofs.assembly.add_mesh.Statement.{statement}
 use Rattle.fit.proofs.assembly.add_mesh.Tie as tie
 
@@ -42,7 +41,7 @@ loop-again c =
     let v = c .before .before .add-mesh-piece .ensures in
     let n = assembled (l .count) (systemAt p (a .z - a .a) (l .work)) in
     let e = v .1 .0 ∙ ap (λ (u : List Float). meshTurn (arraysAt p u) (a .a) (a .z) (a .mesh) (l .j) n) (l .inv .4) in
-    (omega arith, omega (arith, v .1 .1), omega (arith, v .1 .1), omega arith, v .0 ∙ l .inv .4, next-turn _ _ _ (omega arith) e (l .inv .5))
+    (omega arith, omega (arith, v .1 .1), omega (arith, v .1 .1), omega arith, v .0 ∙ l .inv .4, each-next _ _ _ (omega arith) e (l .inv .5))
 
 same-length : tie.Need-same-length Inv-loop μ-loop
 same-length c = c .before .loop .inv .3

@@ -6,11 +6,10 @@ use lib.ListN.{length}
 use lib.Ieee.{Float}
 use mathlib.Core.List.{List}
 use Rattle.arith.specs.Loop.{each}
-use Rattle.arith.proofs.Loops.{each-done}
+use Rattle.arith.proofs.Loops.{each-done, each-next}
 use Rattle.fitting_rows.specs.Arrays.{arraysAt}
 use Rattle.fit.specs.Region.{before, systemAt}
 use Rattle.fit.specs.Assembly.{low, high, penaltyTurn, penaltiesOf}
-use Rattle.fit.proofs.Turns.{next-turn}
 use Rattle.fit.proofs.assembly.add_penalties.Statement.{statement}
 use Rattle.fit.proofs.assembly.add_penalties.Tie as tie
 
@@ -44,7 +43,7 @@ loop-again c =
     let l = c .before .before .before .before .before .loop in
     let v = c .before .before .add-penalty .ensures in
     let e = v .1 ∙ ap (λ (u : List Float). penaltyTurn (arraysAt p u) (a .a) (a .z) (a .strength) (l .span) (systemAt p (a .z - a .a) (l .work))) (l .inv .2) in
-    (omega arith, omega arith, v .0 ∙ l .inv .2, next-turn _ _ _ (omega arith) e (l .inv .3))
+    (omega arith, omega arith, v .0 ∙ l .inv .2, each-next _ _ _ (omega arith) e (l .inv .3))
 
 same-length : tie.Need-same-length Inv-loop μ-loop
 same-length c = c .before .loop .inv .1

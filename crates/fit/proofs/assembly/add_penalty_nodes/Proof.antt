@@ -6,12 +6,11 @@ use lib.ListN.{length}
 use lib.Ieee.{Float}
 use mathlib.Core.List.{List}
 use Rattle.arith.specs.Loop.{each}
-use Rattle.arith.proofs.Loops.{each-done}
+use Rattle.arith.proofs.Loops.{each-done, each-next}
 use Rattle.fitting_rows.specs.Arrays.{arraysAt}
 use Rattle.fit.specs.Region.{before, systemAt}
 use Rattle.fitting_rows.specs.Penalty.{penaltyRowOf}
 use Rattle.fit.specs.Assembly.{added, nodesOf}
-use Rattle.fit.proofs.Turns.{next-turn}
 use Rattle.fit.proofs.assembly.add_penalty_nodes.Statement.{statement}
 use Rattle.fit.proofs.assembly.add_penalty_nodes.Tie as tie
 
@@ -40,7 +39,7 @@ loop-again c =
     let v = c .before .before .add-penalty-node .ensures in
     let s = systemAt p (a .z - a .a) (l .work) in
     let e = v .1 ∙ ap (λ (u : List Float). added (arraysAt p u) (a .a) (a .z) (penaltyRowOf (arraysAt p u) (a .strength) (a .span) (l .r)) s) (l .inv .2) in
-    (omega arith, omega arith, v .0 ∙ l .inv .2, next-turn _ _ _ (omega arith) e (l .inv .3))
+    (omega arith, omega arith, v .0 ∙ l .inv .2, each-next _ _ _ (omega arith) e (l .inv .3))
 
 same-length : tie.Need-same-length Inv-loop μ-loop
 same-length c = c .before .loop .inv .1

@@ -6,12 +6,12 @@ use lib.ListN.{length}
 use lib.Ieee.{Float, binary64, sub}
 use mathlib.Core.List.{List}
 use Rattle.arith.specs.Loop.{each}
-use Rattle.arith.proofs.Loops.{each-done}
+use Rattle.arith.proofs.Loops.{each-done, each-next}
 use Rattle.fitting_rows.specs.Arrays.{arraysAt}
 use Rattle.fit.specs.Region.{before, systemAt}
 use Rattle.fitting_rows.specs.Pieces.{nodeRowOf}
 use Rattle.fit.specs.Assembly.{assembled, added, counted, pieceOf}
-use Rattle.fit.proofs.Turns.{next-turn, row-counted}
+use Rattle.fit.proofs.Turns.{row-counted}
 use Rattle.fit.proofs.assembly.add_piece.Statement.{statement}
 use Rattle.fit.proofs.assembly.add_piece.Tie as tie
 
@@ -43,7 +43,7 @@ loop-again c =
     let h = sub binary64 (a .to) (a .from) in
     let s = systemAt p (a .z - a .a) (l .work) in
     let e = ap (assembled (l .count + 1)) (v .1 ∙ ap (λ (u : List Float). added (arraysAt p u) (a .a) (a .z) (nodeRowOf (arraysAt p u) (a .from) h (l .r)) s) (l .inv .3)) ∙ row-counted x (a .a) (a .z) (nodeRowOf x (a .from) h (l .r)) (l .count) s in
-    (omega arith, omega arith, omega arith, v .0 ∙ l .inv .3, next-turn _ _ _ (omega arith) e (l .inv .4))
+    (omega arith, omega arith, omega arith, v .0 ∙ l .inv .3, each-next _ _ _ (omega arith) e (l .inv .4))
 
 same-length : tie.Need-same-length Inv-loop μ-loop
 same-length c = c .before .loop .inv .2

@@ -7,14 +7,14 @@ use lib.ListN.{length}
 use lib.Ieee.{Float}
 use mathlib.Core.List.{List}
 use Rattle.arith.specs.Loop.{each}
-use Rattle.arith.proofs.Loops.{each-done}
+use Rattle.arith.proofs.Loops.{each-done, each-next}
 use Rattle.fitting_rows.specs.Arrays.{arraysAt}
 use Rattle.fit.specs.Region.{before, systemAt}
 use Rattle.fitting_rows.specs.Samples.{denseOf, sampleSpan, sampleRowOf}
 use Rattle.fit.specs.Assembly.{assembled, added, sampleTurn, samplesOf}
 use Rattle.window.specs.Cells.{at}
 use Rattle.fit.proofs.Placing.{placed}
-use Rattle.fit.proofs.Turns.{next-turn, row-counted, sample-counted, sample-passed}
+use Rattle.fit.proofs.Turns.{row-counted, sample-counted, sample-passed}
 use Rattle.fit.proofs.assembly.add_samples.Statement.{statement}
 use Rattle.fit.proofs.assembly.add_samples.Tie as tie
 
@@ -73,11 +73,11 @@ loop-again c =
       omega arith,
       w .2 .ensures .0 ∙ b,
       dense,
-      next-turn _ _ _ go (ap (assembled (l .rows + 1)) (w .2 .ensures .1 ∙ ap (λ (u : List Float). added (arraysAt p u) (a .a) (a .z) (sampleRowOf (arraysAt p u) (l .i) (s .span)) state) b)
+      each-next _ _ _ go (ap (assembled (l .rows + 1)) (w .2 .ensures .1 ∙ ap (λ (u : List Float). added (arraysAt p u) (a .a) (a .z) (sampleRowOf (arraysAt p u) (l .i) (s .span)) state) b)
           ∙ row-counted x (a .a) (a .z) (sampleRowOf x (l .i) (s .span)) (l .rows) state
           ∙ sample-counted x (a .a) (a .z) (l .i) (s .span) (s .dense) (assembled (l .rows) state) span dense (w .0 .taken)) (l .inv .5),
     ))
-    (λ w. rw (w .1, w .2) (omega arith, omega arith, l .inv .2, b, dense, next-turn _ _ _ go (sample-passed x (a .a) (a .z) (l .i) (s .span) (s .dense) (assembled (l .rows) state) span dense (w .0 .left)) (l .inv .5)))
+    (λ w. rw (w .1, w .2) (omega arith, omega arith, l .inv .2, b, dense, each-next _ _ _ go (sample-passed x (a .a) (a .z) (l .i) (s .span) (s .dense) (assembled (l .rows) state) span dense (w .0 .left)) (l .inv .5)))
     (c .if1 .came)
 
 same-length : tie.Need-same-length Inv-loop μ-loop

@@ -6,12 +6,11 @@ use lib.ListN.{length}
 use lib.Ieee.{Float}
 use mathlib.Core.List.{List}
 use Rattle.arith.specs.Loop.{each}
-use Rattle.arith.proofs.Loops.{each-done}
+use Rattle.arith.proofs.Loops.{each-done, each-next}
 use Rattle.fitting_rows.specs.Arrays.{arraysAt}
 use Rattle.fit.specs.Region.{before, systemAt}
 use Rattle.fit.specs.Assembly.{assembled, low, high, sparseTurn, sparseOf}
 use Rattle.window.specs.Cells.{at}
-use Rattle.fit.proofs.Turns.{next-turn}
 use Rattle.fit.proofs.assembly.add_sparse.Statement.{statement}
 use Rattle.fit.proofs.assembly.add_sparse.Tie as tie
 
@@ -47,7 +46,7 @@ loop-again c =
     let v = c .before .before .add-span .ensures in
     let n = assembled (l .count) (systemAt p (a .z - a .a) (l .work)) in
     let e = v .1 .0 ∙ ap (λ (u : List Float). sparseTurn (arraysAt p u) (a .a) (a .z) (l .span) n) (l .inv .3) in
-    (omega arith, omega (arith, v .1 .1), omega arith, v .0 ∙ l .inv .3, next-turn _ _ _ (omega arith) e (l .inv .4))
+    (omega arith, omega (arith, v .1 .1), omega arith, v .0 ∙ l .inv .3, each-next _ _ _ (omega arith) e (l .inv .4))
 
 same-length : tie.Need-same-length Inv-loop μ-loop
 same-length c = c .before .loop .inv .2

@@ -7,13 +7,12 @@ use native.Mathlib.Nat.{mul-le-mul-right}
 use lib.ListN.{length}
 use lib.Ieee.{Float}
 use Rattle.arith.specs.Loop.{each}
-use Rattle.arith.proofs.Loops.{each-done}
+use Rattle.arith.proofs.Loops.{each-done, each-next}
 use Rattle.window.specs.Window.{window, splice}
 use Rattle.window.proofs.Windows.{length-window, window-at, splice-window}
 use Rattle.normal.specs.System.{sizeOf}
 use Rattle.fit.specs.Region.{before, systemAt}
 use Rattle.fit.specs.Fit.{addTurn, addedTo}
-use Rattle.fit.proofs.Turns.{next-turn}
 use Rattle.fit.proofs.Solution.{controls-added, others-kept}
 use Rattle.fit.proofs.window_fit.add_solution.Statement.{statement}
 use Rattle.fit.proofs.window_fit.add_solution.Tie as tie
@@ -69,7 +68,7 @@ loop-again c =
     let go = c .before .before .before .before .before .loop-test .taken in
     let kept = others-kept (p .controls) e right (n * d) (l .work) (a .work .now) (omega arith) (omega arith) (omega arith) (l .inv .1) (l .inv .2) (a .a * d) (l .i) go in
     let added = controls-added (p .controls) e right (n * d) (l .work) (a .work .now) (omega arith) (omega arith) (omega arith) (l .inv .1) (l .inv .2) (a .a * d) (l .i) go in
-    (omega arith, omega arith, rw (v .ensures) kept, rw (v .ensures) (next-turn _ _ _ go added (l .inv .3)))
+    (omega arith, omega arith, rw (v .ensures) kept, rw (v .ensures) (each-next _ _ _ go added (l .inv .3)))
 
 same-length : tie.Need-same-length Inv-loop μ-loop
 same-length c = c .before .loop .inv .1

@@ -6,12 +6,11 @@ use borrow.Author.Needs.{needs}
 use lib.Ieee.{Float, nan, le}
 use Rattle.window.specs.Window.{window}
 use Rattle.window.specs.Cells.{at}
-use Rattle.window.proofs.Windows.{length-window}
+use Rattle.window.proofs.Windows.{length-window, window-cell}
 use Rattle.fit.specs.Region.{before}
 use Rattle.fitting_rows.specs.Samples.{below}
 use Rattle.fitting_rows.specs.Pieces.{atOrBelow}
 use Rattle.fitting_rows.proofs.Point.{point-within}
-use Rattle.fitting_rows.proofs.Rooms.{at-window}
 use Rattle.fit.proofs.window_fit.reach_of.Statement.{statement}
 use Rattle.fit.proofs.window_fit.reach_of.Tie as tie
 
@@ -22,8 +21,8 @@ returns c =
     let w = a .cells .now in
     let t = window (p .knots) (p .knots + (p .count + 6)) w in
     let s = window (p .parameters) (p .parameters + p .samples) w in
-    let lo = sym (at-window (p .knots) (p .knots + (p .count + 6)) w (a .a) (omega arith)) in
-    let hi = sym (at-window (p .knots) (p .knots + (p .count + 6)) w (a .z + 5) (omega arith)) in
+    let lo = sym (window-cell (p .knots) (p .knots + (p .count + 6)) w (a .a) nan (omega arith)) in
+    let hi = sym (window-cell (p .knots) (p .knots + (p .count + 6)) w (a .z + 5) nan (omega arith)) in
     let first = c .before .before .partition-point-lt .ensures in
     let last = c .partition-point-le .ensures in
     let h = point-within nan (λ (v : Float). le v (at w (p .knots + (a .z + 5)))) s in

@@ -3,10 +3,10 @@ use mathlib.Core.Path.{_≡_, ap}
 use Prim.Native.Nat.{ℕ, _+_, _-_, _*_}
 use native.Mathlib.Omega.{arith}
 use lib.ListN.{length}
+use lib.Ieee.{nan}
 use Rattle.arith.proofs.Rows.{row-end}
-use Rattle.window.proofs.Windows.{length-window}
+use Rattle.window.proofs.Windows.{length-window, window-cell}
 use Rattle.polynomial.specs.Placed.{breaksAt}
-use Rattle.polynomial.proofs.Placed.{at-window}
 use Rattle.polynomial.proofs.audit.interval_at.Statement.{statement}
 use Rattle.polynomial.proofs.audit.interval_at.Tie as tie
 
@@ -111,7 +111,7 @@ returns c =
     let p = a .p in
     let w = a .work .now in
     let n = length-window (p .breaks) (p .breaks + p .segments + 1) w (omega arith) (omega arith) in
-    let cell = at-window (p .witness) (p .witness + (p .count - 1)) w (a .i) (omega arith) in (
+    let cell = window-cell (p .witness) (p .witness + (p .count - 1)) w (a .i) nan (omega arith) in (
       rw cell (c .audit-interval .ensures .0),
       omega arith,
     )

@@ -2,11 +2,10 @@
 use mathlib.Core.Path.{sym, ap, _∙_}
 use Prim.Native.Nat.{_+_}
 use native.Mathlib.Omega.{arith}
-use lib.Ieee.{Float}
-use Rattle.window.proofs.Windows.{length-window}
+use lib.Ieee.{Float, nan}
+use Rattle.window.proofs.Windows.{length-window, window-cell}
 use Rattle.polynomial.specs.Span.{spanOf}
 use Rattle.polynomial.specs.Placed.{breaksAt}
-use Rattle.polynomial.proofs.Placed.{at-window}
 use Rattle.polynomial.proofs.audit.span_at.Statement.{statement}
 use Rattle.polynomial.proofs.audit.span_at.Tie as tie
 
@@ -15,7 +14,7 @@ returns c =
     let a = c .before .before .before .before .before .args in
     let w = a .work .now in
     let n = length-window (a .p .breaks) (a .p .breaks + a .p .segments + 1) w (omega arith) (omega arith) in
-    let cell = at-window (a .p .parameters) (a .p .parameters + a .p .count) w (a .i) (omega arith) in
+    let cell = window-cell (a .p .parameters) (a .p .parameters + a .p .count) w (a .i) nan (omega arith) in
     (c .span .ensures ∙ ap (λ (x : Float). spanOf (breaksAt (a .p) w) x) (sym cell), omega arith)
 
 pub span-at-spec : {M : Type 1} → statement M
