@@ -31,6 +31,18 @@ if command -v cargo > /dev/null && [ -f "$source" ]; then
             fail "crates/replay/$name is not what the oracle makes of oracle/lists.txt: run oracle/store.sh"
     done
     echo "the oracle's tests pass, and the stored list is the oracle's: $(wc -l < crates/replay/stdout) lines"
+    if command -v python3 > /dev/null; then
+        grep '^certify' oracle/lists.txt > "$scratch/recipe"
+        oracle/target/release/oracle list "$scratch/recipe" > "$scratch/list"
+        oracle/target/release/oracle answer < "$scratch/list" > "$scratch/answers"
+        python3 oracle/distance.py "$scratch/list" "$scratch/answers" > "$scratch/log" || {
+            cat "$scratch/log" >&2
+            fail "a certified figure differs from its second computation, or a distance lies above it"
+        }
+        echo "the certified figures are those of the second computation, and no exact distance lies above them"
+    else
+        echo "skipped: python3 is not at hand; the certified figures are not computed a second time"
+    fi
 else
     echo "skipped: cargo or $source is not at hand; the stored list is replayed as it is"
 fi
