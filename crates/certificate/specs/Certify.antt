@@ -1,17 +1,19 @@
 -- The certificate of an axis: what the entry point answers.
-use mathlib.Core.Bool.{cond, not, _||_}
+use mathlib.Core.Bool.{true, cond, not, _||_}
+use mathlib.Core.Path.{_≡_}
 use mathlib.Core.List.{List}
-use Prim.Native.Nat.{ℕ, _*_}
+use Prim.Native.Nat.{ℕ, _-_, _*_}
 use lib.Dec.{eqb, ltb}
 use lib.ListN.{length}
 use lib.Ieee.{Float}
 use Rattle.request.specs.declared.parameters.Spacing.{Spacing}
-use Rattle.request.specs.Parameters.{misplaced, unreliable}
+use Rattle.request.specs.Parameters.{misplaced, normalisedOf, unreliable}
 use Rattle.request.specs.Points.{unfit}
 use Rattle.curve.specs.declared.Curve.{Curve}
 use Rattle.curve.specs.Form.{Slices, wellFormed}
 use Rattle.curve.specs.Places.{positionOf}
 use Rattle.certificate.specs.Axis.{axisOf}
+use Rattle.certificate.specs.Distance.{DistanceRule, Rises}
 use Rattle.certificate.specs.Figure.{Axis, Figure, figure, figureOf, noFigure}
 use Rattle.certificate.specs.declared.certify.Certificate.{Certificate}
 use Rattle.certificate.specs.declared.certify.Certificate.the-variants as answers
@@ -58,3 +60,10 @@ abbrev pub outcomeOf : Certificate → Outcome
 outcomeOf (answers.Figure x) = outcome 0 (figure x)
 outcomeOf answers.None = outcome 0 noFigure
 outcomeOf (answers.Refused r) = outcome (refusalNumber r) noFigure
+
+-- What the figure F says: the curve is well formed, the normalised parameters rise strictly from 0 to 1, and the distance rule holds; with the rule, the
+-- axis's coefficients and its waypoints are finite.
+pub record Certified (c : Curve) (s : Slices) (points : List Float) (n : ℕ) (spacing : Spacing) (parameters : List Float) (axis : ℕ) (F : Float) : Type 0 where
+  pub well-formed : wellFormed c s ≡ true
+  pub parameters-rise : Rises (n - 1) (normalisedOf spacing parameters n)
+  pub distance : DistanceRule (certifiedAxis c s points n spacing parameters axis) F

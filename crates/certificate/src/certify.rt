@@ -3,8 +3,7 @@
 ghost use mathlib.Core.Path.{_≡_};
 ghost use Rattle.curve.specs.Form.{slices};
 ghost use lib.Ieee.{Float};
-ghost use Rattle.certificate.specs.Certify.{certifiedAxis, certifyOf, outcome, outcomeOf};
-ghost use Rattle.certificate.specs.Distance.{DistanceRule};
+ghost use Rattle.certificate.specs.Certify.{Certified, certifyOf, outcome, outcomeOf};
 ghost use Rattle.certificate.specs.Figure.{figure};
 ghost use Rattle.certificate.specs.Structs.{figureIn};
 use crate::intersection::Figure;
@@ -125,8 +124,8 @@ pub fn certify(
 ) -> Certificate
     ensures { λ r. ⌜ outcomeOf r ≡ certifyOf curve (slices (now (breaks .entry)) (now (coefficients .entry)) (now («other_breaks» .entry)) (now («other_coefficients» .entry)))
         (now (points .entry)) n spacing (now (parameters .entry)) axis ⌝ }
-    ensures { λ r. ⌜ ((F : Float) → outcomeOf r ≡ outcome 0 (figure F) → DistanceRule (certifiedAxis curve (slices (now (breaks .entry)) (now (coefficients .entry)) (now («other_breaks» .entry)) (now («other_coefficients» .entry)))
-        (now (points .entry)) n spacing (now (parameters .entry)) axis) F) ⌝ }
+    ensures { λ r. ⌜ ((F : Float) → outcomeOf r ≡ outcome 0 (figure F) → Certified curve (slices (now (breaks .entry)) (now (coefficients .entry)) (now («other_breaks» .entry)) (now («other_coefficients» .entry)))
+        (now (points .entry)) n spacing (now (parameters .entry)) axis F) ⌝ }
 {
     checked(
         curve,
