@@ -18,10 +18,9 @@ use Rattle.request.proofs.Anys.{or-none}
 use Rattle.request.proofs.Counts.{waypoint-count}
 use Rattle.request.proofs.Normalised.{normalised-first, normalised-last, normalised-rises}
 use Rattle.curve.specs.declared.Curve.{Curve}
-use Rattle.curve.specs.First.{firstOf}
 use Rattle.curve.specs.Form.{Slices, rises, setFormed, wellFormed}
 use Rattle.curve.specs.Places.{positionOf}
-use Rattle.curve.proofs.Firsts.{every-at}
+use Rattle.curve.proofs.Firsts.{every-at, first-passes}
 use Rattle.curve.proofs.Formed.{axes-good, formed, set-sizes}
 use Rattle.certificate.specs.Certify.{Certified, Outcome, certifiedAxis, certifyOf, outcome}
 use Rattle.certificate.specs.Distance.{Rises}
@@ -45,18 +44,6 @@ set-rises m n b c h =
     }
 
 -- ---- the place of an axis
--- the first number that passes a test does pass it
-first-passes : (test : ℕ → Bool) (n : ℕ) → firstOf n test < n → test (firstOf n test) ≡ true
-unfolding firstOf
-first-passes test zero l = absurd (omega arith)
-first-passes test (suc n) l = go (ltb (firstOf n test) n) refl (test n) refl l (first-passes test n)
-  where
-    go : (b : Bool) → ltb (firstOf n test) n ≡ b → (t : Bool) → test n ≡ t → cond b (firstOf n test) (cond t n (suc n)) < suc n
-        → (firstOf n test < n → test (firstOf n test) ≡ true) → test (cond b (firstOf n test) (cond t n (suc n))) ≡ true
-    go true e t f g again = again (ltb-true (firstOf n test) n e)
-    go false e true f g again = f
-    go false e false f g again = absurd (omega arith)
-
 -- a selected axis is one of the curve's
 selected-below : (axes : List ℕ) (k d a : ℕ) → ((i : ℕ) → i < k → getD axes i 0 < d) → positionOf axes k a < k → a < d
 selected-below axes k d a h l =

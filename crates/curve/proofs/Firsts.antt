@@ -5,7 +5,7 @@ use Prim.Native.Nat.{ℕ, zero, suc, _+_, _≤_, _<_}
 use native.Mathlib.Omega.{arith}
 use native.Mathlib.Decide.{decLt}
 use native.Mathlib.Numerals.{add-one}
-use borrow.Author.Tests.{lt-ltb, le-ltb, eq-eqb, ne-eqb, eqb-true, ltb-false, not-false}
+use borrow.Author.Tests.{lt-ltb, le-ltb, eq-eqb, ne-eqb, eqb-true, ltb-true, ltb-false, not-false}
 use lib.Dec.{ltb}
 use Rattle.curve.specs.First.{firstOf, every}
 
@@ -34,6 +34,12 @@ module _ (test : ℕ → Bool) where
       go true t h = omega arith
       go false true h = omega arith
       go false false h = omega arith
+
+  -- none passes
+  pub first-all : (n : ℕ) → ((j : ℕ) → j < n → test j ≡ false) → firstOf n test ≡ n
+  unfolding firstOf
+  first-all zero h = refl
+  first-all (suc n) h = rw (first-all n (λ j l. h j (omega arith)), le-ltb n n (omega arith), h n (omega arith))
 
   -- one number more is tested
   pub first-more : (n : ℕ) → firstOf n test ≡ n → firstOf (suc n) test ≡ cond (test n) n (suc n)
@@ -76,3 +82,15 @@ module _ (test : ℕ → Bool) where
   every-at n h i l =
       let e = eqb-true (firstOf n (λ i. not (test i))) n h in
       not-false (test i) (first-before (λ i. not (test i)) n i (omega arith))
+
+-- the first number that passes a test does pass it
+pub first-passes : (test : ℕ → Bool) (n : ℕ) → firstOf n test < n → test (firstOf n test) ≡ true
+unfolding firstOf
+first-passes test zero l = absurd (omega arith)
+first-passes test (suc n) l = go (ltb (firstOf n test) n) refl (test n) refl l (first-passes test n)
+  where
+    go : (b : Bool) → ltb (firstOf n test) n ≡ b → (t : Bool) → test n ≡ t → cond b (firstOf n test) (cond t n (suc n)) < suc n
+        → (firstOf n test < n → test (firstOf n test) ≡ true) → test (cond b (firstOf n test) (cond t n (suc n))) ≡ true
+    go true e t f g again = again (ltb-true (firstOf n test) n e)
+    go false e true f g again = f
+    go false e false f g again = absurd (omega arith)

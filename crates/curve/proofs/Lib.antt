@@ -1,6 +1,10 @@
 -- Laws that the proofs cite.
 
+pub mod Order
+pub mod BitOrder
+pub mod Searching
 pub mod Firsts
+pub mod Counting
 pub mod Placing
 pub mod Formed
 pub mod Parts

@@ -3,6 +3,7 @@
 pub mod First
 pub mod Places
 pub mod Form
+pub mod Search
 pub mod Segment
 pub mod Range
 pub mod Row

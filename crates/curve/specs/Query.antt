@@ -20,13 +20,17 @@ use Rattle.curve.specs.Segment.{located, axisAt}
 use Rattle.curve.specs.Row.{putAt}
 use Rattle.curve.specs.Range.{rangedOf}
 
+-- `end - start`
+abbrev pub lengthOf : Curve → Float
+lengthOf c = sub binary64 (c .end) (c .start)
+
 -- `let u = (x - start) / (end - start)`
 abbrev pub normalised : Curve → Float → Float
-normalised c x = div binary64 (sub binary64 x (c .start)) (sub binary64 (c .end) (c .start))
+normalised c x = div binary64 (sub binary64 x (c .start)) (lengthOf c)
 
 -- `let scale = 1. / (end - start)`
 abbrev pub scaleOf : Curve → Float
-scaleOf c = div binary64 (ofBits binary64 0x3ff0_0000_0000_0000) (sub binary64 (c .end) (c .start))
+scaleOf c = div binary64 (ofBits binary64 0x3ff0_0000_0000_0000) (lengthOf c)
 
 -- axis a at x, from start to end: its value with its three derivatives
 unfoldable pub axisOf : Curve → Slices → Float → ℕ → Derivatives

@@ -12,6 +12,10 @@ abbrev pub beyondOf : Mode → Float → Ranged
 beyondOf Error end = record { refused = true; at = end }
 beyondOf Clamp end = record { refused = false; at = end }
 
+-- from start to end
+abbrev pub within : Float → Ranged
+within x = record { refused = false; at = x }
+
 -- whether the query at x is refused, and otherwise where the curve answers it
 unfoldable pub rangedOf : Curve → Float → Ranged
 rangedOf c x =

@@ -4,6 +4,7 @@ ghost use Prim.Native.Nat.{_+_, _-_, _*_, _≤_, _<_};
 ghost use lib.ListN.{length};
 ghost use Rattle.curve.specs.Form.{slices, axesFormed, rises, setFormed, othersFormed, rangeFormed, wellFormed};
 use crate::Curve;
+use crate::count::one_if;
 use crate::place::position;
 
 // Whether the first k axes are distinct and below d.
@@ -25,20 +26,18 @@ fn axes_formed(axes: &[usize; 16], k: usize, d: usize) -> bool
     true
 }
 
-// Whether each of the first n breaks is below the next.
+// Whether each of the first n breaks is below the next: those that are, are counted.
 fn rise(breaks: &[f64], n: usize) -> bool
     requires { ⌜ n < length (now breaks) ⌝ }
     ensures { λ r. ⌜ r ≡ rises (now (breaks .entry)) n ⌝ }
 {
+    let mut below = 0;
     let mut i = 0;
     while i < n {
-        if breaks[i] < breaks[i + 1] {
-            i += 1;
-        } else {
-            return false;
-        }
+        below += one_if(breaks[i] < breaks[i + 1]);
+        i += 1;
     }
-    true
+    below == n
 }
 
 // Whether n segments with m axes each are well formed.

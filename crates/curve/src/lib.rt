@@ -3,7 +3,9 @@
 // the breaks and the coefficients of the selected axes, and those of the other axes. Coefficients lie
 // segment after segment, within it axis after axis, six each, from power 0 up.
 pub mod form; // form.rt: whether a curve is well formed
+mod count; // count.rt: counts without a branch
 pub mod place; // place.rt: where each axis stands in its set
+mod search; // search.rt: the segment of a parameter
 mod segment; // segment.rt: one axis on one segment
 mod range; // range.rt: parameters outside start to end
 mod row; // row.rt: the axes of one query, written

@@ -6,14 +6,18 @@ ghost use lib.Dec.{leb};
 ghost use lib.ListN.{length, getD};
 ghost use Rattle.curve.specs.Form.{slices, wellFormed};
 ghost use Rattle.curve.specs.Places.{placeOf};
-ghost use Rattle.curve.specs.Row.{putAt};
-ghost use Rattle.curve.specs.Query.{columnOf, columnsOf, firstRefused, shortOf, outputs, outcome, evaluateOf, evaluateAllOf, numberOf, numberOfAll, refusedAt};
+ghost use Rattle.window.specs.Cells.{at};
+ghost use Rattle.polynomial.specs.Span.{spanOf};
+ghost use Rattle.curve.specs.Range.{within, rangedOf};
+ghost use Rattle.curve.specs.Segment.{located};
+ghost use Rattle.curve.specs.Row.{putAt, rowOf};
+ghost use Rattle.curve.specs.Query.{lengthOf, scaleOf, columnsOf, firstRefused, shortOf, outputs, outcome, evaluateOf, evaluateAllOf, numberOf, numberOfAll, refusedAt};
 use crate::Curve;
 use crate::form;
 use crate::place;
-use crate::place::Places;
 use crate::range;
 use crate::row;
+use crate::search;
 use crate::segment;
 
 // The answer to a query. A refusal has written nothing.
@@ -58,15 +62,19 @@ fn short(order: usize, needed: usize, q: usize, dq: usize, ddq: usize, dddq: usi
     dddq < needed
 }
 
-// The axes of a well-formed curve at x, from start to end, from the cell `at` of each slice on.
+// The axes at u, from 0 to 1, which lies on these segments, from the cell `at` of each slice on.
 fn write_at<'a>(
-    curve: Curve,
-    places: Places,
+    k: usize,
+    m: usize,
+    table: &[usize; 16],
     breaks: &[f64],
     coefficients: &'a [f64],
     other_breaks: &[f64],
     other_coefficients: &'a [f64],
-    x: f64,
+    u: f64,
+    span: usize,
+    other_span: usize,
+    scale: f64,
     order: usize,
     at: usize,
     q: &mut [f64],
@@ -74,28 +82,24 @@ fn write_at<'a>(
     ddq: &mut [f64],
     dddq: &mut [f64],
 )
-    requires { ⌜ wellFormed curve (slices (now breaks) (now coefficients) (now «other_breaks») (now «other_coefficients»)) ≡ true ⌝ }
-    requires { ⌜ ((a : ℕ) → a < curve .d → getD (places .at) a 0 ≡ placeOf (curve .axes) (curve .k) a) ⌝ }
-    requires { ⌜ (at + curve .d ≤ length (now q)) × (leb 1 order ≡ true → at + curve .d ≤ length (now dq))
-        × (leb 2 order ≡ true → at + curve .d ≤ length (now ddq)) × (leb 3 order ≡ true → at + curve .d ≤ length (now dddq)) ⌝ }
-    ensures { λ _. ⌜ now (q .exit) ≡ putAt true at (columnOf (λ v. v .value) curve (slices (now (breaks .entry)) (now (coefficients .entry)) (now («other_breaks» .entry)) (now («other_coefficients» .entry))) x) (now (q .entry)) ⌝ }
-    ensures { λ _. ⌜ now (dq .exit) ≡ putAt (leb 1 order) at (columnOf (λ v. v .first) curve (slices (now (breaks .entry)) (now (coefficients .entry)) (now («other_breaks» .entry)) (now («other_coefficients» .entry))) x) (now (dq .entry)) ⌝ }
-    ensures { λ _. ⌜ now (ddq .exit) ≡ putAt (leb 2 order) at (columnOf (λ v. v .second) curve (slices (now (breaks .entry)) (now (coefficients .entry)) (now («other_breaks» .entry)) (now («other_coefficients» .entry))) x) (now (ddq .entry)) ⌝ }
-    ensures { λ _. ⌜ now (dddq .exit) ≡ putAt (leb 3 order) at (columnOf (λ v. v .third) curve (slices (now (breaks .entry)) (now (coefficients .entry)) (now («other_breaks» .entry)) (now («other_coefficients» .entry))) x) (now (dddq .entry)) ⌝ }
+    requires { ⌜ (span ≡ spanOf (now breaks) u) × («other_span» ≡ spanOf (now «other_breaks») u) ⌝ }
+    requires { ⌜ (k + m ≤ 16) × (6 * (located (now breaks) u .span * k + k) ≤ length (now coefficients)) × (6 * (located (now «other_breaks») u .span * m + m) ≤ length (now «other_coefficients»)) ⌝ }
+    requires { ⌜ ((a : ℕ) → a < k + m → getD (now table) a 0 < k + m) ⌝ }
+    requires { ⌜ (at + (k + m) ≤ length (now q)) × (leb 1 order ≡ true → at + (k + m) ≤ length (now dq))
+        × (leb 2 order ≡ true → at + (k + m) ≤ length (now ddq)) × (leb 3 order ≡ true → at + (k + m) ≤ length (now dddq)) ⌝ }
+    ensures { λ _. ⌜ now (q .exit) ≡ putAt true at (rowOf (λ v. v .value) (now (coefficients .entry)) (now («other_coefficients» .entry)) k m (now (table .entry)) (located (now (breaks .entry)) u) (located (now («other_breaks» .entry)) u) scale) (now (q .entry)) ⌝ }
+    ensures { λ _. ⌜ now (dq .exit) ≡ putAt (leb 1 order) at (rowOf (λ v. v .first) (now (coefficients .entry)) (now («other_coefficients» .entry)) k m (now (table .entry)) (located (now (breaks .entry)) u) (located (now («other_breaks» .entry)) u) scale) (now (dq .entry)) ⌝ }
+    ensures { λ _. ⌜ now (ddq .exit) ≡ putAt (leb 2 order) at (rowOf (λ v. v .second) (now (coefficients .entry)) (now («other_coefficients» .entry)) k m (now (table .entry)) (located (now (breaks .entry)) u) (located (now («other_breaks» .entry)) u) scale) (now (ddq .entry)) ⌝ }
+    ensures { λ _. ⌜ now (dddq .exit) ≡ putAt (leb 3 order) at (rowOf (λ v. v .third) (now (coefficients .entry)) (now («other_coefficients» .entry)) k m (now (table .entry)) (located (now (breaks .entry)) u) (located (now («other_breaks» .entry)) u) scale) (now (dddq .entry)) ⌝ }
 {
-    let length = curve.end - curve.start;
-    let u = (x - curve.start) / length;
-    let scale = 1.0 / length;
-    let here = segment::locate(breaks, u);
-    let there = segment::locate(other_breaks, u);
-    let k = curve.k;
-    let m = curve.d - k;
+    let here = segment::locate(breaks, u, span);
+    let there = segment::locate(other_breaks, u, other_span);
     row::put_axes(
         coefficients,
         other_coefficients,
         k,
         m,
-        places,
+        table,
         here,
         there,
         scale,
@@ -146,18 +150,16 @@ pub fn evaluate<'a>(
     if ranged.refused {
         return Answer::Outside;
     }
-    let axes = curve.axes;
-    let places = place::find_places(&axes, curve.k, d);
-    write_at(
+    let xs = [x];
+    write_all(
         curve,
-        places,
         breaks,
         coefficients,
         other_breaks,
         other_coefficients,
-        ranged.at,
+        &xs,
+        false,
         order,
-        0,
         q,
         dq,
         ddq,
@@ -166,10 +168,14 @@ pub fn evaluate<'a>(
     Answer::Done
 }
 
-// The place of the first parameter that is refused; their count where none is.
-fn first_refused(curve: Curve, xs: &[f64]) -> usize
+// The place of the first parameter that is refused; their count where none is, as where all are inside.
+fn first_refused(curve: Curve, xs: &[f64], inside: bool) -> usize
+    requires { ⌜ (inside ≡ true → (i : ℕ) → i < length (now xs) → rangedOf curve (at (now xs) i) ≡ within (at (now xs) i)) ⌝ }
     ensures { λ r. ⌜ r ≡ firstRefused curve (now (xs .entry)) ⌝ }
 {
+    if inside {
+        return xs.len();
+    }
     let mut i = 0;
     while i < xs.len() {
         let ranged = range::in_range(curve, xs[i]);
@@ -181,15 +187,19 @@ fn first_refused(curve: Curve, xs: &[f64]) -> usize
     i
 }
 
-// The axes of a well-formed curve at each of the parameters, none of which is refused.
-fn write_all<'a>(
+// The axes of a well-formed curve at each of the parameters, none of which is refused, with the axes'
+// places in `table`. Each search begins at the segments of the parameter before.
+fn write_rows<'a>(
     curve: Curve,
-    places: Places,
+    table: &[usize; 16],
+    whole: f64,
+    scale: f64,
     breaks: &[f64],
     coefficients: &'a [f64],
     other_breaks: &[f64],
     other_coefficients: &'a [f64],
     xs: &[f64],
+    inside: bool,
     order: usize,
     q: &mut [f64],
     dq: &mut [f64],
@@ -197,7 +207,9 @@ fn write_all<'a>(
     dddq: &mut [f64],
 )
     requires { ⌜ wellFormed curve (slices (now breaks) (now coefficients) (now «other_breaks») (now «other_coefficients»)) ≡ true ⌝ }
-    requires { ⌜ ((a : ℕ) → a < curve .d → getD (places .at) a 0 ≡ placeOf (curve .axes) (curve .k) a) ⌝ }
+    requires { ⌜ ((a : ℕ) → a < curve .d → getD (now table) a 0 ≡ placeOf (curve .axes) (curve .k) a) ⌝ }
+    requires { ⌜ (whole ≡ lengthOf curve) × (scale ≡ scaleOf curve) ⌝ }
+    requires { ⌜ (inside ≡ true → (i : ℕ) → i < length (now xs) → rangedOf curve (at (now xs) i) ≡ within (at (now xs) i)) ⌝ }
     requires { ⌜ (length (now xs) * curve .d ≤ length (now q)) × (leb 1 order ≡ true → length (now xs) * curve .d ≤ length (now dq))
         × (leb 2 order ≡ true → length (now xs) * curve .d ≤ length (now ddq)) × (leb 3 order ≡ true → length (now xs) * curve .d ≤ length (now dddq)) ⌝ }
     ensures { λ _. ⌜ now (q .exit) ≡ putAt true 0 (columnsOf (λ v. v .value) curve (slices (now (breaks .entry)) (now (coefficients .entry)) (now («other_breaks» .entry)) (now («other_coefficients» .entry))) (now (xs .entry)) (length (now (xs .entry)))) (now (q .entry)) ⌝ }
@@ -206,17 +218,28 @@ fn write_all<'a>(
     ensures { λ _. ⌜ now (dddq .exit) ≡ putAt (leb 3 order) 0 (columnsOf (λ v. v .third) curve (slices (now (breaks .entry)) (now (coefficients .entry)) (now («other_breaks» .entry)) (now («other_coefficients» .entry))) (now (xs .entry)) (length (now (xs .entry)))) (now (dddq .entry)) ⌝ }
 {
     let d = curve.d;
+    let k = curve.k;
+    let m = d - k;
+    let start = curve.start;
+    let mut span = 0;
+    let mut other_span = 0;
     let mut i = 0;
     while i < xs.len() {
-        let ranged = range::in_range(curve, xs[i]);
+        let u = (range::answered_at(curve, xs[i], inside) - start) / whole;
+        span = search::span(breaks, u, span);
+        other_span = search::span(other_breaks, u, other_span);
         write_at(
-            curve,
-            places,
+            k,
+            m,
+            table,
             breaks,
             coefficients,
             other_breaks,
             other_coefficients,
-            ranged.at,
+            u,
+            span,
+            other_span,
+            scale,
             order,
             i * d,
             q,
@@ -226,6 +249,54 @@ fn write_all<'a>(
         );
         i += 1;
     }
+}
+
+// The axes of a well-formed curve at each of the parameters, none of which is refused.
+fn write_all<'a>(
+    curve: Curve,
+    breaks: &[f64],
+    coefficients: &'a [f64],
+    other_breaks: &[f64],
+    other_coefficients: &'a [f64],
+    xs: &[f64],
+    inside: bool,
+    order: usize,
+    q: &mut [f64],
+    dq: &mut [f64],
+    ddq: &mut [f64],
+    dddq: &mut [f64],
+)
+    requires { ⌜ wellFormed curve (slices (now breaks) (now coefficients) (now «other_breaks») (now «other_coefficients»)) ≡ true ⌝ }
+    requires { ⌜ (inside ≡ true → (i : ℕ) → i < length (now xs) → rangedOf curve (at (now xs) i) ≡ within (at (now xs) i)) ⌝ }
+    requires { ⌜ (length (now xs) * curve .d ≤ length (now q)) × (leb 1 order ≡ true → length (now xs) * curve .d ≤ length (now dq))
+        × (leb 2 order ≡ true → length (now xs) * curve .d ≤ length (now ddq)) × (leb 3 order ≡ true → length (now xs) * curve .d ≤ length (now dddq)) ⌝ }
+    ensures { λ _. ⌜ now (q .exit) ≡ putAt true 0 (columnsOf (λ v. v .value) curve (slices (now (breaks .entry)) (now (coefficients .entry)) (now («other_breaks» .entry)) (now («other_coefficients» .entry))) (now (xs .entry)) (length (now (xs .entry)))) (now (q .entry)) ⌝ }
+    ensures { λ _. ⌜ now (dq .exit) ≡ putAt (leb 1 order) 0 (columnsOf (λ v. v .first) curve (slices (now (breaks .entry)) (now (coefficients .entry)) (now («other_breaks» .entry)) (now («other_coefficients» .entry))) (now (xs .entry)) (length (now (xs .entry)))) (now (dq .entry)) ⌝ }
+    ensures { λ _. ⌜ now (ddq .exit) ≡ putAt (leb 2 order) 0 (columnsOf (λ v. v .second) curve (slices (now (breaks .entry)) (now (coefficients .entry)) (now («other_breaks» .entry)) (now («other_coefficients» .entry))) (now (xs .entry)) (length (now (xs .entry)))) (now (ddq .entry)) ⌝ }
+    ensures { λ _. ⌜ now (dddq .exit) ≡ putAt (leb 3 order) 0 (columnsOf (λ v. v .third) curve (slices (now (breaks .entry)) (now (coefficients .entry)) (now («other_breaks» .entry)) (now («other_coefficients» .entry))) (now (xs .entry)) (length (now (xs .entry)))) (now (dddq .entry)) ⌝ }
+{
+    let axes = curve.axes;
+    let places = place::find_places(&axes, curve.k, curve.d);
+    let table = places.at;
+    let whole = curve.end - curve.start;
+    let scale = 1.0 / whole;
+    write_rows(
+        curve,
+        &table,
+        whole,
+        scale,
+        breaks,
+        coefficients,
+        other_breaks,
+        other_coefficients,
+        xs,
+        inside,
+        order,
+        q,
+        dq,
+        ddq,
+        dddq,
+    );
 }
 
 // The queries at all of `xs`, each as `evaluate` has it, d cells after d cells. The curve is tested once.
@@ -266,20 +337,19 @@ pub fn evaluate_all<'a>(
     if short(order, count * d, q.len(), dq.len(), ddq.len(), dddq.len()) {
         return Answers::Refused(Answer::TooShort);
     }
-    let first = first_refused(curve, xs);
+    let inside = range::all_inside(curve, xs);
+    let first = first_refused(curve, xs, inside);
     if first < count {
         return Answers::OutsideAt(first);
     }
-    let axes = curve.axes;
-    let places = place::find_places(&axes, curve.k, d);
     write_all(
         curve,
-        places,
         breaks,
         coefficients,
         other_breaks,
         other_coefficients,
         xs,
+        inside,
         order,
         q,
         dq,

@@ -1,8 +1,13 @@
 // Parameters outside start to end, in one place.
 ghost use mathlib.Core.Path.{_≡_};
-ghost use Rattle.curve.specs.Range.{beyondOf, rangedOf};
+ghost use mathlib.Core.Bool.{true};
+ghost use Prim.Native.Nat.{ℕ, _<_};
+ghost use lib.ListN.{length};
+ghost use Rattle.window.specs.Cells.{at};
+ghost use Rattle.curve.specs.Range.{beyondOf, within, rangedOf};
 use crate::Curve;
 use crate::Mode;
+use crate::count::one_if;
 
 // Whether a query is refused, and otherwise the parameter at which the curve answers it.
 pub struct Ranged {
@@ -43,4 +48,31 @@ pub fn in_range(curve: Curve, x: f64) -> Ranged
         refused: x != x,
         at: x,
     }
+}
+
+// Whether no parameter is outside start to end: those that are not, are counted. Then none is a NaN.
+pub fn all_inside(curve: Curve, xs: &[f64]) -> bool
+    ensures { λ r. ⌜ (r ≡ true → (i : ℕ) → i < length (now (xs .entry)) → rangedOf curve (at (now (xs .entry)) i) ≡ within (at (now (xs .entry)) i)) ⌝ }
+{
+    let start = curve.start;
+    let end = curve.end;
+    let mut inside = 0;
+    let mut i = 0;
+    while i < xs.len() {
+        inside += one_if(start <= xs[i]) * one_if(xs[i] <= end);
+        i += 1;
+    }
+    inside == xs.len()
+}
+
+// The parameter at which the curve answers the query at x, which is x itself where it is inside.
+pub fn answered_at(curve: Curve, x: f64, inside: bool) -> f64
+    requires { ⌜ (inside ≡ true → rangedOf curve x ≡ within x) ⌝ }
+    ensures { λ r. ⌜ r ≡ rangedOf curve x .at ⌝ }
+{
+    if inside {
+        return x;
+    }
+    let ranged = in_range(curve, x);
+    ranged.at
 }

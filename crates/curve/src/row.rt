@@ -5,7 +5,6 @@ ghost use Prim.Native.Nat.{ℕ, _+_, _*_, _≤_, _<_};
 ghost use lib.Dec.{leb};
 ghost use lib.ListN.{length, getD, set};
 ghost use Rattle.curve.specs.Row.{putAt, rowOf};
-use crate::place::Places;
 use crate::segment;
 use crate::segment::Derivatives;
 use crate::segment::Local;
@@ -49,7 +48,7 @@ pub fn put_axes<'a>(
     other: &'a [f64],
     k: usize,
     m: usize,
-    places: Places,
+    table: &[usize; 16],
     here: Local,
     there: Local,
     scale: f64,
@@ -61,15 +60,14 @@ pub fn put_axes<'a>(
     dddq: &mut [f64],
 )
     requires { ⌜ (k + m ≤ 16) × (6 * (here .span * k + k) ≤ length (now selected)) × (6 * (there .span * m + m) ≤ length (now other)) ⌝ }
-    requires { ⌜ ((a : ℕ) → a < k + m → getD (places .at) a 0 < k + m) ⌝ }
+    requires { ⌜ ((a : ℕ) → a < k + m → getD (now table) a 0 < k + m) ⌝ }
     requires { ⌜ (at + (k + m) ≤ length (now q)) × (leb 1 order ≡ true → at + (k + m) ≤ length (now dq))
         × (leb 2 order ≡ true → at + (k + m) ≤ length (now ddq)) × (leb 3 order ≡ true → at + (k + m) ≤ length (now dddq)) ⌝ }
-    ensures { λ _. ⌜ now (q .exit) ≡ putAt true at (rowOf (λ v. v .value) (now (selected .entry)) (now (other .entry)) k m (places .at) here there scale) (now (q .entry)) ⌝ }
-    ensures { λ _. ⌜ now (dq .exit) ≡ putAt (leb 1 order) at (rowOf (λ v. v .first) (now (selected .entry)) (now (other .entry)) k m (places .at) here there scale) (now (dq .entry)) ⌝ }
-    ensures { λ _. ⌜ now (ddq .exit) ≡ putAt (leb 2 order) at (rowOf (λ v. v .second) (now (selected .entry)) (now (other .entry)) k m (places .at) here there scale) (now (ddq .entry)) ⌝ }
-    ensures { λ _. ⌜ now (dddq .exit) ≡ putAt (leb 3 order) at (rowOf (λ v. v .third) (now (selected .entry)) (now (other .entry)) k m (places .at) here there scale) (now (dddq .entry)) ⌝ }
+    ensures { λ _. ⌜ now (q .exit) ≡ putAt true at (rowOf (λ v. v .value) (now (selected .entry)) (now (other .entry)) k m (now (table .entry)) here there scale) (now (q .entry)) ⌝ }
+    ensures { λ _. ⌜ now (dq .exit) ≡ putAt (leb 1 order) at (rowOf (λ v. v .first) (now (selected .entry)) (now (other .entry)) k m (now (table .entry)) here there scale) (now (dq .entry)) ⌝ }
+    ensures { λ _. ⌜ now (ddq .exit) ≡ putAt (leb 2 order) at (rowOf (λ v. v .second) (now (selected .entry)) (now (other .entry)) k m (now (table .entry)) here there scale) (now (ddq .entry)) ⌝ }
+    ensures { λ _. ⌜ now (dddq .exit) ≡ putAt (leb 3 order) at (rowOf (λ v. v .third) (now (selected .entry)) (now (other .entry)) k m (now (table .entry)) here there scale) (now (dddq .entry)) ⌝ }
 {
-    let table = places.at;
     let d = k + m;
     let mut a = 0;
     while a < d {

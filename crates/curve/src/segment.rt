@@ -2,6 +2,7 @@
 ghost use mathlib.Core.Path.{_≡_};
 ghost use Prim.Native.Nat.{_+_, _-_, _*_, _≤_, _<_};
 ghost use lib.ListN.{length};
+ghost use Rattle.polynomial.specs.Span.{spanOf};
 ghost use Rattle.curve.specs.Segment.{hornerOf, atOf, localOn, located, coefficientsOf, scaledOf, axisAt};
 
 // 0! to 5!
@@ -80,8 +81,9 @@ pub fn on_span(breaks: &[f64], span: usize, x: f64) -> Local
     }
 }
 
-// Where x lies among the breaks. A set without segments has nothing to find.
-pub fn locate(breaks: &[f64], x: f64) -> Local
+// Where x lies among the breaks, on its segment. A set without segments has nothing to find.
+pub fn locate(breaks: &[f64], x: f64, span: usize) -> Local
+    requires { ⌜ span ≡ spanOf (now breaks) x ⌝ }
     ensures { λ r. ⌜ r ≡ located (now (breaks .entry)) x ⌝ }
 {
     if breaks.len() < 2 {
@@ -91,7 +93,6 @@ pub fn locate(breaks: &[f64], x: f64) -> Local
             width: 0.0,
         };
     }
-    let span = polynomial::span::span(breaks, x);
     on_span(breaks, span, x)
 }
 

@@ -1,5 +1,7 @@
 // Proved functions under C names, for the Rust driver in bench/ to link: the same code as in the
 // crates, each with the contract of what it calls.
+pub mod queries; // queries.rt: one query, and many in one call
+
 ghost use mathlib.Core.Path.{_≡_};
 ghost use lib.Ieee.{binary64};
 ghost use lib.Ieee.Scale.{finite};

@@ -41,21 +41,20 @@ returns-4 : tie.Need-returns-4
 unfolding evaluateAllOf checked
 returns-4 c = rw (sym (c .before .before .before .before .before .well-formed .ensures) ∙ not-false _ (c .before .before .before .before .if1 .left), le-ltb 3 _ (c .before .before .before .if2 .left), sym (c .before .short .ensures) ∙ c .if4 .taken)
 
+first-refused-requires : tie.Need-first-refused-requires
+first-refused-requires c κs = c .all-inside .ensures
+
 returns-5 : tie.Need-returns-5
 unfolding evaluateAllOf checked
-returns-5 c = rw (sym (c .before .before .before .before .before .before .before .well-formed .ensures) ∙ not-false _ (c .before .before .before .before .before .before .if1 .left), le-ltb 3 _ (c .before .before .before .before .before .if2 .left), sym (c .before .before .before .short .ensures) ∙ c .before .before .if4 .left, sym (c .before .first-refused .ensures), lt-ltb _ _ (c .if5 .taken))
-
-find-places-requires : tie.Need-find-places-requires
-find-places-requires c κs = let f = formed _ _ (sym (c .before .before .before .before .before .before .before .before .before .well-formed .ensures) ∙ not-false _ (c .before .before .before .before .before .before .before .before .if1 .left)) in
-    (omega (arith, f .k-high, f .d-high), f .d-high)
+returns-5 c = rw (sym (c .before .before .before .before .before .before .before .before .well-formed .ensures) ∙ not-false _ (c .before .before .before .before .before .before .before .if1 .left), le-ltb 3 _ (c .before .before .before .before .before .before .if2 .left), sym (c .before .before .before .before .short .ensures) ∙ c .before .before .before .if4 .left, sym (c .before .first-refused .ensures), lt-ltb _ _ (c .if5 .taken))
 
 write-all-requires : tie.Need-write-all-requires
-write-all-requires c κs = (sym (c .before .before .before .before .before .before .before .before .before .before .before .before .before .before .well-formed .ensures) ∙ not-false _ (c .before .before .before .before .before .before .before .before .before .before .before .before .before .if1 .left), (c .before .before .before .before .find-places .ensures, rooms _ _ _ _ _ _ (sym (c .before .before .before .before .before .before .before .before .before .before .short .ensures) ∙ c .before .before .before .before .before .before .before .before .before .if4 .left)))
+write-all-requires c κs = (sym (c .before .before .before .before .before .before .before .before .before .before .before .before .well-formed .ensures) ∙ not-false _ (c .before .before .before .before .before .before .before .before .before .before .before .if1 .left), (c .before .before .before .before .before .before .all-inside .ensures, rooms _ _ _ _ _ _ (sym (c .before .before .before .before .before .before .before .before .short .ensures) ∙ c .before .before .before .before .before .before .before .if4 .left)))
 
 returns-6 : tie.Need-returns-6
 unfolding evaluateAllOf checked filled
 returns-6 c = let e = c .before .before .before .before .before .before .before .before .write-all .ensures in
-    rw (sym (c .before .before .before .before .before .before .before .before .before .before .before .before .before .before .before .before .before .before .before .before .before .before .before .well-formed .ensures) ∙ not-false _ (c .before .before .before .before .before .before .before .before .before .before .before .before .before .before .before .before .before .before .before .before .before .before .if1 .left), le-ltb 3 _ (c .before .before .before .before .before .before .before .before .before .before .before .before .before .before .before .before .before .before .before .before .before .if2 .left), sym (c .before .before .before .before .before .before .before .before .before .before .before .before .before .before .before .before .before .before .before .short .ensures) ∙ c .before .before .before .before .before .before .before .before .before .before .before .before .before .before .before .before .before .before .if4 .left, sym (c .before .before .before .before .before .before .before .before .before .before .before .before .before .before .before .before .before .first-refused .ensures), le-ltb _ _ (c .before .before .before .before .before .before .before .before .before .before .before .before .before .before .before .before .if5 .left), e .0, e .1 .0, e .1 .1 .0, e .1 .1 .1)
+    rw (sym (c .before .before .before .before .before .before .before .before .before .before .before .before .before .before .before .before .before .before .before .before .before .well-formed .ensures) ∙ not-false _ (c .before .before .before .before .before .before .before .before .before .before .before .before .before .before .before .before .before .before .before .before .if1 .left), le-ltb 3 _ (c .before .before .before .before .before .before .before .before .before .before .before .before .before .before .before .before .before .before .before .if2 .left), sym (c .before .before .before .before .before .before .before .before .before .before .before .before .before .before .before .before .before .short .ensures) ∙ c .before .before .before .before .before .before .before .before .before .before .before .before .before .before .before .before .if4 .left, sym (c .before .before .before .before .before .before .before .before .before .before .before .before .before .before .first-refused .ensures), le-ltb _ _ (c .before .before .before .before .before .before .before .before .before .before .before .before .before .if5 .left), e .0, e .1 .0, e .1 .1 .0, e .1 .1 .1)
 
 pub evaluate-all-spec : {M : Type 1} → statement M
 evaluate-all-spec =
@@ -70,8 +69,8 @@ evaluate-all-spec =
     (λ c κs. search needs)
     returns-4
     (λ c κs. search needs)
+    first-refused-requires
     returns-5
-    find-places-requires
     write-all-requires
     (λ c. search needs)
     (λ c. search needs)

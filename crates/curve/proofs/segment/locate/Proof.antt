@@ -2,7 +2,6 @@
 use mathlib.Core.Path.{_∙_}
 use native.Mathlib.Omega.{arith}
 use borrow.Author.Tests.{lt-ltb, le-ltb}
-use borrow.Author.Needs.{needs}
 use Rattle.curve.specs.Segment.{located}
 use Rattle.curve.proofs.segment.locate.Statement.{statement}
 use Rattle.curve.proofs.segment.locate.Tie as tie
@@ -12,11 +11,11 @@ unfolding located
 returns c = rw (lt-ltb _ _ (c .if1 .taken))
 
 on-span-requires : tie.Need-on-span-requires
-on-span-requires c κs = omega (arith, c .span .ensures)
+on-span-requires c κs = omega (arith, c .before .before .pre)
 
 returns-2 : tie.Need-returns-2
 unfolding located
-returns-2 c = rw (le-ltb _ _ (c .before .before .if1 .left)) (c .on-span .ensures ∙ rw (c .before .span .ensures))
+returns-2 c = rw (le-ltb _ _ (c .before .if1 .left)) (c .on-span .ensures ∙ rw (c .before .before .before .pre))
 
 pub locate-spec : {M : Type 1} → statement M
-locate-spec = tie.close (tie.spec returns (λ c κs. search needs) on-span-requires returns-2)
+locate-spec = tie.close (tie.spec returns on-span-requires returns-2)

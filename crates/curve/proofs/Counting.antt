@@ -1,0 +1,69 @@
+-- A count of the numbers that pass a test tells whether every one does.
+use mathlib.Core.Path.{_≡_, refl, sym, ap, _∙_}
+use mathlib.Core.Bool.{Bool, true, false, not, _&&_, cond}
+use Prim.Native.Nat.{ℕ, suc, _+_, _*_, _≤_, _<_}
+use native.Mathlib.Omega.{arith}
+use native.Mathlib.Decide.{decLt}
+use native.Mathlib.Numerals.{add-one}
+use borrow.Author.Tests.{eq-eqb, ne-eqb, eqb-true}
+use lib.Dec.{eqb}
+use mir.Val.{boolByte}
+use Rattle.curve.specs.First.{firstOf, every}
+use Rattle.curve.proofs.Order.{clash}
+use Rattle.curve.proofs.Firsts.{first-next, first-le, first-more, first-stays}
+
+-- c of the numbers below i pass: all do exactly where c is i
+abbrev pub Counted : (ℕ → Bool) → ℕ → ℕ → Type 0
+Counted test i c = (c ≤ i) × (eqb c i ≡ every i test)
+
+pub counted-none : (test : ℕ → Bool) → Counted test 0 0
+unfolding firstOf
+counted-none test = (omega arith, refl)
+
+module _ (test : ℕ → Bool) (i c : ℕ) (h : Counted test i c) where
+  abbrev fails : ℕ → Bool
+  fails j = not (test j)
+
+  abbrev first : ℕ
+  first = firstOf i fails
+
+  -- one before i does not pass
+  earlier : first < i → eqb (firstOf (i + 1) fails) (i + 1) ≡ false
+  earlier l = rw (add-one, first-stays fails i l) (ne-eqb first (suc i) (λ e. absurd (omega arith)))
+
+  one-more : (b : Bool) → test i ≡ b → Counted test (i + 1) (c + cond b 1 0)
+  one-more true t = elim (decLt c i) [
+    | yes l ↦ (omega (arith, h .0), ne-eqb (c + 1) (i + 1) (λ e. absurd (omega arith)) ∙ sym (earlier (under l)))
+    | no l ↦
+        let e : c ≡ i = omega (arith, h .0) in
+        let f = eqb-true first i (sym (h .1) ∙ eq-eqb c i e) in
+        (omega (arith, h .0), eq-eqb (c + 1) (i + 1) (omega arith) ∙ sym (eq-eqb (firstOf (i + 1) fails) (i + 1) (first-next fails i f (ap not t))))
+  ]
+    where
+      under : c < i → first < i
+      under l = elim (decLt first i) [
+        | yes g ↦ g
+        | no g ↦ clash (eq-eqb first i (omega (arith, first-le fails i))) (sym (h .1) ∙ ne-eqb c i (λ e. absurd (omega arith)))
+      ]
+  one-more false t = elim (decLt first i) [
+    | yes l ↦ (omega (arith, h .0), ne-eqb (c + 0) (i + 1) (λ e. absurd (omega (arith, h .0))) ∙ sym (earlier l))
+    | no l ↦
+        let f : first ≡ i = omega (arith, first-le fails i) in
+        let g : firstOf (i + 1) fails ≡ i = rw (add-one, first-more fails i f, ap not t) in
+        (omega (arith, h .0), ne-eqb (c + 0) (i + 1) (λ e. absurd (omega (arith, h .0))) ∙ sym (ne-eqb (firstOf (i + 1) fails) (i + 1) (λ e. absurd (omega arith))))
+  ]
+
+  pub counted-next : Counted test (i + 1) (c + cond (test i) 1 0)
+  counted-next = one-more (test i) refl
+
+-- 1 where both pass
+pub both : (a b : Bool) → cond a 1 0 * cond b 1 0 ≡ cond (a && b) 1 0
+both true true = refl
+both true false = refl
+both false true = refl
+both false false = refl
+
+-- what a `bool` is as a number
+pub byte-is : (b : Bool) → (boolByte b ≡ cond b 1 0) × (boolByte b ≤ 1)
+byte-is true = (refl, omega arith)
+byte-is false = (refl, omega arith)

@@ -1,0 +1,72 @@
+-- `search::passed` meets its contract. The invariant: of the breaks tried so far the first c are at or below x, and the others are not.
+use mathlib.Core.Path.{_≡_}
+use Prim.Native.Nat.{ℕ, _+_, _-_, _*_, _≤_, _<_}
+use native.Mathlib.Nat.{mul-le-mul-right, mul-pos}
+use native.Mathlib.Omega.{arith}
+use lib.ListN.{length}
+use Rattle.curve.proofs.Searching.{at-least, above-first, Passing, passing-next}
+use Rattle.curve.proofs.search.passed.Statement.{statement}
+use Rattle.curve.proofs.search.passed.Tie as tie
+
+abbrev Inv-loop : tie.InvT-loop
+Inv-loop breaks x base step m c₀ j₀ c j = (1 ≤ j) × (j ≤ m) × Passing breaks x base step j c
+
+abbrev μ-loop : tie.MeasureT-loop
+μ-loop breaks x base step m c₀ j₀ c j = m - j
+
+-- the j-th is one of them
+reach : (j m step : ℕ) → j < m → j * step ≤ (m - 1) * step
+reach j m step l = mul-le-mul-right step (omega arith)
+
+loop-holds : tie.Need-loop-holds Inv-loop μ-loop
+loop-holds c = (omega arith, omega arith, (omega arith, λ h. absurd (omega arith), λ h. absurd (omega arith)))
+
+mul-at-or-below : tie.Need-mul-at-or-below Inv-loop μ-loop
+mul-at-or-below c = let h = reach (c .before .loop .j) (c .before .before .before .args .m) (c .before .before .before .args .step) (c .loop-test .taken) in omega (arith, h, c .before .before .before .pre .4)
+
+add-at-or-below : tie.Need-add-at-or-below Inv-loop μ-loop
+add-at-or-below c = let h = reach (c .before .loop .j) (c .before .before .before .args .m) (c .before .before .before .args .step) (c .loop-test .taken) in omega (arith, h, c .before .before .before .pre .4)
+
+mul-at-or-below-2 : tie.Need-mul-at-or-below-2 Inv-loop μ-loop
+mul-at-or-below-2 c = let h = reach (c .before .loop .j) (c .before .before .before .args .m) (c .before .before .before .args .step) (c .loop-test .taken) in omega (arith, h, c .before .before .before .pre .4)
+
+shared-slice-read-at-or-below : tie.Need-shared-slice-read-at-or-below Inv-loop μ-loop
+shared-slice-read-at-or-below c = let h = reach (c .before .before .loop .j) (c .before .before .before .before .args .m) (c .before .before .before .before .args .step) (c .before .loop-test .taken) in omega (arith, h, c .before .before .before .before .pre .4)
+
+at-or-below-requires : tie.Need-at-or-below-requires Inv-loop μ-loop
+at-or-below-requires c κs = let h = reach (c .before .before .loop .j) (c .before .before .before .before .args .m) (c .before .before .before .before .args .step) (c .before .loop-test .taken) in
+    (at-least (c .before .before .before .before .args .breaks .now) (c .before .before .before .before .pre .0) (c .before .before .before .before .args .base + c .before .before .loop .j * c .before .before .before .before .args .step) (omega (arith, h, c .before .before .before .before .pre .4)), c .before .before .before .before .pre .1)
+
+add-c : tie.Need-add-c Inv-loop μ-loop
+add-c c = omega (arith, c .before .before .before .loop .inv .2 .0, c .at-or-below .ensures .0)
+
+loop-again : tie.Need-loop-again Inv-loop μ-loop
+loop-again c = let a = c .before .before .before .before .before .args in
+    let p = c .before .before .before .before .before .pre in
+    let l = c .before .before .before .loop in
+    let e = c .at-or-below .ensures in
+    let h = reach (l .j) (a .m) (a .step) (c .before .before .loop-test .taken) in
+    let i : a .base + l .j * a .step < length (a .breaks .now) = omega (arith, h, p .4) in
+    let z : 0 < l .j * a .step = mul-pos (l .inv .0) (p .2) in
+    (omega arith, omega arith, passing-next (a .breaks .now) (p .0) (a .x) (a .base) (a .step) (l .j) (l .c) i (l .inv .2) (c .at-or-below .result) (e .0) (e .1) (λ n. e .2 n (above-first (a .breaks .now) (p .0) (a .base + l .j * a .step) (omega (arith, z)) i)))
+
+returns : tie.Need-returns Inv-loop μ-loop
+returns c = let e : c .before .loop .j ≡ c .before .before .before .args .m = omega arith in rw (← e) (c .before .loop .inv .2)
+
+pub passed-spec : {M : Type 1} → statement M
+passed-spec =
+    tie.close
+    (tie.spec
+    Inv-loop
+    μ-loop
+    loop-holds
+    mul-at-or-below
+    add-at-or-below
+    mul-at-or-below-2
+    shared-slice-read-at-or-below
+    at-or-below-requires
+    add-c
+    (λ c. omega arith)
+    (λ c. omega arith)
+    loop-again
+    returns)
