@@ -7,7 +7,7 @@ use std::{env, fs};
 /// The source file's place, relative to this folder, unless `SMOOTHING_RS` names another.
 const DEFAULT_SOURCE: &str = "../../shared/docs/src/path/smoothing.rs";
 
-fn main() {
+pub fn main() {
     let here = PathBuf::from(env::var("CARGO_MANIFEST_DIR").unwrap());
     let out = PathBuf::from(env::var("OUT_DIR").unwrap());
     let source = here.join(env::var("SMOOTHING_RS").unwrap_or(DEFAULT_SOURCE.to_string()));
