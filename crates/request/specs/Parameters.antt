@@ -1,5 +1,5 @@
 -- The parameters of a request, as the source's `build` makes and tests them.
-use mathlib.Core.Bool.{Bool, false, not, _||_}
+use mathlib.Core.Bool.{Bool, true, false, not, _||_}
 use mathlib.Core.List.{List}
 use Prim.Native.Nat.{ℕ, _+_, _-_}
 use lib.Dec.{T, eqb}
@@ -38,6 +38,11 @@ module _ (spacing : Spacing) (list : List Float) (n : ℕ) where
   -- `(v - start) / length`
   unfoldable pub normalisedOf : ℕ → Float
   normalisedOf i = div binary64 (sub binary64 (parameterOf spacing list n i) (parameterOf spacing list n 0)) lengthOf
+
+  -- parameter i, or its normalised one
+  abbrev pub valueOf : Bool → ℕ → Float
+  valueOf true = normalisedOf
+  valueOf false = parameterOf spacing list n
 
   -- 5, "parameters of wrong count, non-finite or not strictly rising":
   -- `parameters.len() != n || parameters.iter().any(|v| !v.is_finite()) || parameters.windows(2).any(|v| v[1] <= v[0])`

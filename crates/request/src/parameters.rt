@@ -5,7 +5,7 @@ ghost use Prim.Native.Nat.{_≤_, _<_};
 ghost use lib.ListN.{length};
 ghost use lib.Ieee.Scale.{finite};
 ghost use Rattle.request.specs.declared.parameters.Spacing.the-variants.{Listed};
-ghost use Rattle.request.specs.Parameters.{parameterOf, miscounted, anyFall, lengthOf, normalisedOf, misplaced, unreliable};
+ghost use Rattle.request.specs.Parameters.{parameterOf, miscounted, anyFall, lengthOf, normalisedOf, valueOf, misplaced, unreliable};
 ghost use Rattle.request.specs.Any.{any};
 
 // Where the parameters come from: a list, which stands beside it, or even spacing.
@@ -67,29 +67,25 @@ fn not_finite(spacing: Spacing, list: &[f64], n: usize) -> bool
     false
 }
 
-// Whether a parameter is at or below the one before it.
-fn falls(spacing: Spacing, list: &[f64], n: usize) -> bool
-    requires { ⌜ (2 ≤ n) × (n ≤ 20000) × (spacing ≡ Listed → n ≤ length (now list)) ⌝ }
-    ensures { λ r. ⌜ r ≡ anyFall n (parameterOf spacing (now (list .entry)) n) ⌝ }
+// Parameter i; the normalised one where `normal`.
+fn value(spacing: Spacing, list: &[f64], n: usize, i: usize, normal: bool) -> f64
+    requires { ⌜ (2 ≤ n) × (n ≤ 20000) × (i < n) × (spacing ≡ Listed → n ≤ length (now list)) ⌝ }
+    ensures { λ r. ⌜ r ≡ valueOf spacing (now (list .entry)) n normal i ⌝ }
 {
-    let mut i = 0;
-    while i < n - 1 {
-        if parameter(spacing, list, n, i + 1) <= parameter(spacing, list, n, i) {
-            return true;
-        }
-        i += 1;
+    if normal {
+        return normalised(spacing, list, n, i);
     }
-    false
+    parameter(spacing, list, n, i)
 }
 
-// Whether a normalised parameter is at or below the one before it.
-fn normalised_falls(spacing: Spacing, list: &[f64], n: usize) -> bool
+// Whether one of them is at or below the one before it.
+fn falls(spacing: Spacing, list: &[f64], n: usize, normal: bool) -> bool
     requires { ⌜ (2 ≤ n) × (n ≤ 20000) × (spacing ≡ Listed → n ≤ length (now list)) ⌝ }
-    ensures { λ r. ⌜ r ≡ anyFall n (normalisedOf spacing (now (list .entry)) n) ⌝ }
+    ensures { λ r. ⌜ r ≡ anyFall n (valueOf spacing (now (list .entry)) n normal) ⌝ }
 {
     let mut i = 0;
     while i < n - 1 {
-        if normalised(spacing, list, n, i + 1) <= normalised(spacing, list, n, i) {
+        if value(spacing, list, n, i + 1, normal) <= value(spacing, list, n, i, normal) {
             return true;
         }
         i += 1;
@@ -108,7 +104,7 @@ pub fn misplaced(spacing: Spacing, list: &[f64], n: usize) -> bool
     if not_finite(spacing, list, n) {
         return true;
     }
-    falls(spacing, list, n)
+    falls(spacing, list, n, false)
 }
 
 // Whether their range is refused (6).
@@ -117,7 +113,7 @@ pub fn unreliable(spacing: Spacing, list: &[f64], n: usize) -> bool
     ensures { λ r. ⌜ r ≡ unreliable spacing (now (list .entry)) n ⌝ }
 {
     if float::is_finite(length(spacing, list, n)) {
-        return normalised_falls(spacing, list, n);
+        return falls(spacing, list, n, true);
     }
     true
 }
