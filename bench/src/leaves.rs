@@ -32,7 +32,10 @@ impl Tally {
     }
 
     fn print(&self, name: &str) {
-        println!("{name:10} {:>11} inputs {:>3} differences", self.inputs, self.differences);
+        println!(
+            "{name:10} {:>11} inputs {:>3} differences",
+            self.inputs, self.differences
+        );
     }
 }
 
@@ -67,12 +70,24 @@ fn roots(random: &mut Random) -> Tally {
 
 /// The other leaves. Of two zeros `max` and `min` give the first, which Rust leaves open; every NaN comes last in the total order.
 fn others(random: &mut Random) {
-    const NAMES: [&str; 8] =
-        ["abs", "max", "min", "total_le", "next_up", "next_down", "is_finite", "powi"];
+    const NAMES: [&str; 8] = [
+        "abs",
+        "max",
+        "min",
+        "total_le",
+        "next_up",
+        "next_down",
+        "is_finite",
+        "powi",
+    ];
     let mut tallies: [Tally; 8] = Default::default();
     for _ in 0..20_000_000 {
         let x = random.number();
-        let y = if random.next().is_multiple_of(8) { x } else { random.number() };
+        let y = if random.next().is_multiple_of(8) {
+            x
+        } else {
+            random.number()
+        };
         let zeros = x == 0. && y == 0.;
         let before = y.is_nan() || (!x.is_nan() && x.total_cmp(&y) != Ordering::Greater);
         let n = (random.next() % 201) as u32;
@@ -89,7 +104,10 @@ fn others(random: &mut Random) {
             same(pamitoye_next_up(x), x.next_up()),
             same(pamitoye_next_down(x), x.next_down()),
             pamitoye_is_finite(x) == x.is_finite(),
-            same(pamitoye_powi(base, n), black_box(base).powi(black_box(n as i32))),
+            same(
+                pamitoye_powi(base, n),
+                black_box(base).powi(black_box(n as i32)),
+            ),
         ];
         for (tally, equal) in tallies.iter_mut().zip(equal) {
             tally.add(equal);
@@ -123,14 +141,23 @@ pub fn run() {
     roots(&mut random).print("sqrt");
     others(&mut random);
     let kinds: [(&str, fn(&mut Random) -> u64); 3] = [
-        ("all exponents", |r| ((1 + r.next() % 2046) << 52) | (r.next() >> 12)),
-        ("1e-3 to 1e3", |r| ((1013 + r.next() % 20) << 52) | (r.next() >> 12)),
+        ("all exponents", |r| {
+            ((1 + r.next() % 2046) << 52) | (r.next() >> 12)
+        }),
+        ("1e-3 to 1e3", |r| {
+            ((1013 + r.next() % 20) << 52) | (r.next() >> 12)
+        }),
         ("subnormals", |r| r.next() >> (12 + r.next() % 40)),
     ];
     for (name, bits) in kinds {
-        let inputs: Vec<f64> = (0..4096).map(|_| f64::from_bits(bits(&mut random))).collect();
+        let inputs: Vec<f64> = (0..4096)
+            .map(|_| f64::from_bits(bits(&mut random)))
+            .collect();
         let ours = time(&inputs, |x| pamitoye_sqrt(x));
         let c = time(&inputs, |x| sqrt(x));
-        println!("sqrt, {name}: {ours:.2} ns a call, C's {c:.2} ns, ratio {:.1}", ours / c);
+        println!(
+            "sqrt, {name}: {ours:.2} ns a call, C's {c:.2} ns, ratio {:.1}",
+            ours / c
+        );
     }
 }

@@ -66,6 +66,31 @@ unsafe extern "C" {
     ) -> u64;
 }
 
+/// A call whose first arguments are the curve's numbers and slices.
+macro_rules! of_curve {
+    ($function:ident, $curve:expr, $($rest:expr),* $(,)?) => {
+        $function(
+            $curve.d,
+            $curve.k,
+            &$curve.axes,
+            $curve.start,
+            $curve.end,
+            $curve.clamp,
+            $curve.breaks.len() - 1,
+            $curve.other_breaks.len().saturating_sub(1),
+            $curve.breaks.as_ptr(),
+            $curve.breaks.len(),
+            $curve.coefficients.as_ptr(),
+            $curve.coefficients.len(),
+            $curve.other_breaks.as_ptr(),
+            $curve.other_breaks.len(),
+            $curve.other_coefficients.as_ptr(),
+            $curve.other_coefficients.len(),
+            $($rest),*
+        )
+    };
+}
+
 /// A curve as plain numbers, and as the source has it.
 struct Case {
     d: usize,
@@ -87,8 +112,9 @@ fn breaks(random: &mut Random, n: usize) -> Vec<f64> {
     if n == 0 {
         return Vec::new();
     }
-    let mut list: Vec<f64> =
-        (0..=n).map(|i| (i as f64 + 0.8 * (random.unit() - 0.5)) / n as f64).collect();
+    let mut list: Vec<f64> = (0..=n)
+        .map(|i| (i as f64 + 0.8 * (random.unit() - 0.5)) / n as f64)
+        .collect();
     list[0] = 0.;
     list[n] = 1.;
     list
@@ -107,7 +133,11 @@ fn wild_breaks(random: &mut Random, n: usize) -> Vec<f64> {
             _ => random.unit().max(f64::MIN_POSITIVE),
         })
         .collect();
-    list.push(if random.next().is_multiple_of(2) { 0. } else { -0. });
+    list.push(if random.next().is_multiple_of(2) {
+        0.
+    } else {
+        -0.
+    });
     list.push(1.);
     list.sort_by(f64::total_cmp);
     list.dedup();
@@ -139,30 +169,28 @@ impl Case {
             (&breaks, &coefficients),
             (&other_breaks, &other_coefficients),
         );
-        Case { d, k, axes, start, end, clamp: false, breaks, coefficients, other_breaks, other_coefficients, source }
+        Case {
+            d,
+            k,
+            axes,
+            start,
+            end,
+            clamp: false,
+            breaks,
+            coefficients,
+            other_breaks,
+            other_coefficients,
+            source,
+        }
     }
 
     /// The port's answers, many in one call.
     fn all(&self, xs: &[f64], out: &mut [Vec<f64>; 4]) -> u64 {
         let [q, dq, ddq, dddq] = out;
         unsafe {
-            pamitoye_evaluate_all(
-                self.d,
-                self.k,
-                &self.axes,
-                self.start,
-                self.end,
-                self.clamp,
-                self.breaks.len() - 1,
-                self.other_breaks.len().saturating_sub(1),
-                self.breaks.as_ptr(),
-                self.breaks.len(),
-                self.coefficients.as_ptr(),
-                self.coefficients.len(),
-                self.other_breaks.as_ptr(),
-                self.other_breaks.len(),
-                self.other_coefficients.as_ptr(),
-                self.other_coefficients.len(),
+            of_curve!(
+                pamitoye_evaluate_all,
+                self,
                 xs.as_ptr(),
                 xs.len(),
                 3,
@@ -184,23 +212,9 @@ impl Case {
         let mut sum = 0;
         for (x, [q, dq, ddq, dddq]) in xs.iter().zip(rows(out, d)) {
             sum += unsafe {
-                pamitoye_evaluate(
-                    d,
-                    self.k,
-                    &self.axes,
-                    self.start,
-                    self.end,
-                    self.clamp,
-                    self.breaks.len() - 1,
-                    self.other_breaks.len().saturating_sub(1),
-                    self.breaks.as_ptr(),
-                    self.breaks.len(),
-                    self.coefficients.as_ptr(),
-                    self.coefficients.len(),
-                    self.other_breaks.as_ptr(),
-                    self.other_breaks.len(),
-                    self.other_coefficients.as_ptr(),
-                    self.other_coefficients.len(),
+                of_curve!(
+                    pamitoye_evaluate,
+                    self,
                     *x,
                     3,
                     q.as_mut_ptr(),
@@ -261,7 +275,11 @@ fn compare(random: &mut Random) {
         let d = 1 + random.next() as usize % 16;
         let k = 1 + random.next() as usize % d;
         let n = 1 + random.next() as usize % 40;
-        let others = if k < d { 1 + random.next() as usize % 40 } else { 0 };
+        let others = if k < d {
+            1 + random.next() as usize % 40
+        } else {
+            0
+        };
         let range = match random.next() % 4 {
             0 => (0., 1.),
             1 => (-1e300 * random.unit(), 1e300 * random.unit() + 1.),
@@ -269,10 +287,21 @@ fn compare(random: &mut Random) {
             _ => (random.unit(), 2. + random.unit()),
         };
         let wild = random.next().is_multiple_of(2);
-        let list = if wild { wild_breaks(random, n) } else { breaks(random, n) };
-        let other = if wild { wild_breaks(random, others) } else { breaks(random, others) };
-        let coefficient: fn(&mut Random) -> f64 =
-            if random.next().is_multiple_of(4) { Random::number } else { Random::unit };
+        let list = if wild {
+            wild_breaks(random, n)
+        } else {
+            breaks(random, n)
+        };
+        let other = if wild {
+            wild_breaks(random, others)
+        } else {
+            breaks(random, others)
+        };
+        let coefficient: fn(&mut Random) -> f64 = if random.next().is_multiple_of(4) {
+            Random::number
+        } else {
+            Random::unit
+        };
         let mut case = Case::new(random, (d, k), range, list, other, coefficient);
         case.clamp = random.next().is_multiple_of(2);
         let length = range.1 - range.0;
@@ -332,11 +361,19 @@ fn measure(random: &mut Random, row: (usize, usize, usize, usize), rounds: usize
     let (list, other) = (breaks(random, n), breaks(random, others));
     let case = Case::new(random, (d, k), range, list, other, Random::unit);
     let drawn: Vec<Vec<f64>> = (0..50)
-        .map(|_| (0..QUERIES).map(|_| range.0 + random.unit() * (range.1 - range.0)).collect())
+        .map(|_| {
+            (0..QUERIES)
+                .map(|_| range.0 + random.unit() * (range.1 - range.0))
+                .collect()
+        })
         .collect();
     let mut rising = drawn.clone();
     rising.iter_mut().for_each(|xs| xs.sort_by(f64::total_cmp));
-    let differences: usize = drawn.iter().chain(&rising).map(|xs| case.differences(xs)).sum();
+    let differences: usize = drawn
+        .iter()
+        .chain(&rising)
+        .map(|xs| case.differences(xs))
+        .sum();
     let room = || -> [Vec<f64>; 4] { std::array::from_fn(|_| vec![0.; QUERIES * d]) };
     let (mut ours, mut theirs) = (room(), room());
     let mut source = |xs: &[f64]| {
@@ -357,15 +394,23 @@ fn measure(random: &mut Random, row: (usize, usize, usize, usize), rounds: usize
         black_box(&mut ours);
     };
     let [a, b] = least(rounds / 10 + 1, &drawn, [&mut each, &mut source]);
-    println!("{line} | {a:8.1} {b:7.1} {:5.2} | {differences} differences", a / b);
+    println!(
+        "{line} | {a:8.1} {b:7.1} {:5.2} | {differences} differences",
+        a / b
+    );
 }
 
 /// All; `rounds` is the second argument of the command.
 pub fn run() {
-    let rounds = std::env::args().nth(2).and_then(|n| n.parse().ok()).unwrap_or(1000);
+    let rounds = std::env::args()
+        .nth(2)
+        .and_then(|n| n.parse().ok())
+        .unwrap_or(1000);
     let mut random = Random(2);
     compare(&mut random);
-    println!("d k segments + others | many, random: ns a query of the port, of the source, ratio | many, rising | single, random");
+    println!(
+        "d k segments + others | many, random: ns a query of the port, of the source, ratio | many, rising | single, random"
+    );
     for row in ROWS {
         measure(&mut random, row, rounds);
     }
