@@ -3,7 +3,7 @@
 use mathlib.Core.Path.{_≡_, refl, sym, ap, _∙_}
 use Prim.Native.Nat.{ℕ, zero, suc, _+_, _-_, _≤_, _<_}
 use native.Mathlib.Omega.{arith}
-use mathlib.Core.Bool.{Bool, true, false}
+use mathlib.Core.Bool.{Bool, true, false, cond}
 use Rattle.arith.specs.Loop.{turns, each, whilst, backs, back, tries, till, Step}
 use Rattle.arith.specs.Loop.Step.{next, stop}
 
@@ -73,6 +73,32 @@ turns-same f g (suc n) a s h = turns-same f g n (a + 1) (f a s) (λ i s l k. h i
 pub each-same : {S : Type 0} (f g : ℕ → S → S) (a b : ℕ) (s : S) → ((i : ℕ) (s : S) → a ≤ i → i < b → f i s ≡ g i s) → each f a b s ≡ each g a b s
 unfolding each
 each-same f g a b s h = turns-same f g (b - a) a s (λ i s l k. h i s l (omega arith))
+
+-- Loops that may end in any turn: I of the state where the loop goes on, P of the result where it ends.
+pub data Holds {S R : Type 0} (I : S → Type 0) (P : R → Type 0) : Step S R → Type 0 where
+  goes : {s : S} → I s → Holds I P (next s)
+  ends : {r : R} → P r → Holds I P (stop r)
+
+pub holds-cond : {S R : Type 0} (I : S → Type 0) (P : R → Type 0) (b : Bool) {x y : Step S R} → (b ≡ true → Holds I P x) → (b ≡ false → Holds I P y)
+    → Holds I P (cond b x y)
+holds-cond I P true p q = p refl
+holds-cond I P false p q = q refl
+
+module _ {S R : Type 0} (I : S → Type 0) (P : R → Type 0) (f : ℕ → S → Step S R) (out : S → R) (step : (i : ℕ) (s : S) → I s → Holds I P (f i s))
+    (end : (s : S) → I s → P (out s)) where
+  tries-hold : (n i : ℕ) (s : S) → I s → P (tries f out n i s)
+  unfolding tries
+  tries-hold zero i s h = end s h
+  tries-hold (suc n) i s h = go (f i s) (step i s h) (λ t. tries-hold n (i + 1) t)
+    where
+      go : (x : Step S R) → Holds I P x → ((t : S) → I t → P (tries f out n (i + 1) t)) → P (elim x [ next t ↦ tries f out n (i + 1) t | stop r ↦ r ])
+      go (next t) (goes g) again = again t g
+      go (stop r) (ends g) again = g
+
+  -- what every turn keeps, and every end has, the loop's result has
+  pub till-holds : (a b : ℕ) (s : S) → I s → P (till f out a b s)
+  unfolding till
+  till-holds a b s h = tries-hold (b - a) a s h
 
 pub till-done : {S R : Type 0} (f : ℕ → S → Step S R) (out : S → R) (a b : ℕ) (s : S) → b ≤ a → till f out a b s ≡ out s
 unfolding tries till

@@ -1,7 +1,7 @@
 -- The laws of `join` and `table`: their lengths and their elements.
 use mathlib.Core.Path.{_≡_, refl, ap, _∙_}
 use mathlib.Core.List.{List, [], _∷_}
-use Prim.Native.Nat.{ℕ, zero, suc, _+_, _*_, _/_, _%_, _<_}
+use Prim.Native.Nat.{ℕ, zero, suc, _+_, _*_, _/_, _%_, _≤_, _<_}
 use native.Mathlib.Omega.{arith}
 use native.Mathlib.Nat.{suc-mul, div-add-mod', mod-lt, div-lt-iff-lt-mul, zero-lt-suc}
 use native.Mathlib.Decide.{decLt}
@@ -31,6 +31,12 @@ module _ {A : Type 0} where
             let q : i ≡ n = omega arith in
             rw q (rw (← e) (getD-append-add (join n f) (f n) j z))
       ]
+
+  -- at most one element of each
+  pub join-most : (n : ℕ) (f : ℕ → List A) → ((i : ℕ) → length (f i) ≤ 1) → length (join n f) ≤ n
+  unfolding join
+  join-most zero f h = omega arith
+  join-most (suc n) f h = omega (arith, length-append (join n f) (f n), join-most n f h, h n)
 
   -- equal rows, equal lists
   pub join-ap : (n : ℕ) (f g : ℕ → List A) → ((i : ℕ) → i < n → f i ≡ g i) → join n f ≡ join n g

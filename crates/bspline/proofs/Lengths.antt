@@ -1,12 +1,14 @@
--- A degree's values are as many as those of the degree before, and a segment has six coefficients, whatever the arithmetic.
-use Prim.Native.Nat.{ℕ, _+_, _*_}
+-- A degree's values are as many as those of the degree before, and a segment has six coefficients for each axis, whatever the arithmetic.
+use Prim.Native.Nat.{ℕ, _+_, _-_, _*_}
 use mathlib.Core.List.{List}
-use mathlib.Core.Path.{_≡_, refl}
+use mathlib.Core.Path.{_≡_, refl, _∙_}
+use native.Mathlib.Omega.{arith}
 use lib.ListN.{length, getD, length-set}
 use Rattle.arith.specs.Operations.{Arith}
 use Rattle.arith.proofs.Loops.{each-keeps}
-use Rattle.bspline.specs.Segments.{addTurn, addRow, scaleTurn, segmentOf, Scaled}
+use Rattle.bspline.specs.Segments.{addTurn, addRow, scaleTurn, segmentOf, spanSegments, Scaled}
 use Rattle.bspline.specs.Values.{innerTurn, innerLoop, Inner}
+use Rattle.bspline.proofs.Joined.{join-length}
 
 pub inner-length : {A : Type 0} (o : Arith A) (left right : List A) (j : ℕ) (b : List A) → length (innerLoop o left right j b) ≡ length b
 unfolding innerLoop innerTurn
@@ -20,3 +22,7 @@ segment-length {A} o rows h c at d =
     each-keeps (λ (s : Scaled A). length (s .coefficients) ≡ 6) (scaleTurn o h) 0 6 _ (λ k s e. simp length-set e)
     (each-keeps (λ (p : List A). length p ≡ 6) (addRow o rows c at d) 0 6 _
     (λ r p e. each-keeps (λ (q : List A). length q ≡ 6) (addTurn o rows r (getD c (at + r * d) (o .outside))) 0 6 p (λ k q e. simp length-set e) e) refl)
+
+-- the segments of a span fill six cells for each axis
+pub segments-length : {A : Type 0} (o : Arith A) (t c : List A) (d span : ℕ) → length (spanSegments o t c d span) ≡ 6 * d
+segments-length o t c d span = join-length d 6 _ (λ i l. segment-length o _ _ c _ d) ∙ omega arith

@@ -20,7 +20,7 @@ use Rattle.bspline.specs.Rows.{join, written}
 use Rattle.bspline.specs.Segments.{segmentOf, spanStart, spanWidth, spanSegments, spanTurn, Polynomial, polynomialOf}
 use Rattle.bspline.specs.Placed.{knotsAt, controlsAt, spanPut, countPut, polynomialAt, segmentsAt}
 use Rattle.bspline.proofs.Joined.{join-length}
-use Rattle.bspline.proofs.Lengths.{segment-length}
+use Rattle.bspline.proofs.Lengths.{segment-length, segments-length}
 use Rattle.bspline.proofs.Runs.{each-last}
 use Rattle.bspline.proofs.Written.{written-none, written-length, written-next, written-apart, set-written, set-next}
 
@@ -69,12 +69,6 @@ module _ (s : Spline) (span : ℕ) (w : List Float) (inside : span < s .count) w
       let n6 = join-length (s .axes) 6 (λ i. segmentOf floats rows width (controlsAt s w) ((span - 5) * s .axes + i) (s .axes)) (λ i l. segment-length floats rows width (controlsAt s w) ((span - 5) * s .axes + i) (s .axes)) in
       let long = written-length (to + n * (6 * s .axes)) segs w (omega arith) in
       (rw t, set-written (written (to + n * (6 * s .axes)) segs w) (breaks + n) first (rw long more) ∙ rw (t, r, width-is, k))
-
--- the segments of a span fill six cells for each axis
-segments-length : (t c : List Float) (d span : ℕ) → length (spanSegments floats t c d span) ≡ d * 6
-segments-length t c d span =
-    join-length d 6 (λ i. segmentOf floats (powersOf floats t span (spanStart floats t span)) (spanWidth floats t span) c ((span - 5) * d + i) d)
-    (λ i l. segment-length floats (powersOf floats t span (spanStart floats t span)) (spanWidth floats t span) c ((span - 5) * d + i) d)
 
 -- The polynomial as far as the spans before `span`: n segments, in their places in the slice w, which was w₀.
 module _ (s : Spline) (breaks to : ℕ) (w₀ : List Float) where
@@ -136,7 +130,7 @@ module _ (s : Spline) (breaks to : ℕ) (w₀ : List Float) where
           let r = rooms in
           let kb = p .count in
           let kc = p .cells in
-          let ks = segments-length (knotsAt s w₀) (controlsAt s w₀) (s .axes) span in
+          let ks = segments-length floats (knotsAt s w₀) (controlsAt s w₀) (s .axes) span in
           let few = p .few in
           let lc = written-length to cs w₀ (omega arith) in
           let ly = written-length to (cs ++ segs) w₀ (rw (length-append) (omega arith)) in

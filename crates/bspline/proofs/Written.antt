@@ -1,28 +1,18 @@
 -- The laws of `written`: a list that is written from the front on, and elements of a list with a part replaced.
 use mathlib.Core.Path.{_≡_, sym, ap, _∙_}
 use mathlib.Core.List.{List, [], _∷_, _++_, append-assoc, append-nil}
-use Prim.Native.Nat.{ℕ, zero, suc, _+_, _-_, _*_, _≤_, _<_}
+use Prim.Native.Nat.{ℕ, suc, _+_, _-_, _*_, _≤_, _<_}
 use native.Mathlib.Omega.{arith}
 use native.Mathlib.Numerals.{add-one}
 use lib.ListN.{length, take, drop, getD, set, length-append, take-append-drop, List·getD-append}
-use lib.Seq.{take-nil, take-at, drop-at, take-take, drop-drop, length-take-le, set-split, drop-length, getD-append-add, getD-take, getD-drop, take-append-le, drop-append-le, take-append-add, drop-append-add, drop-cons, take-suc, set-at}
+use lib.Seq.{take-at, drop-at, take-take, drop-drop, length-take-le, set-split, drop-length, getD-append-add, getD-take, getD-drop, take-append-le, drop-append-le, take-append-add, drop-append-add, drop-cons, take-suc, set-at}
 use Rattle.window.specs.Window.{window, splice}
 use Rattle.window.proofs.Windows.{length-splice}
+use Rattle.window.proofs.Seams.{drop-take, splice-plain}
 use Rattle.bspline.specs.Rows.{join, listOf, written}
 use Rattle.bspline.proofs.Joined.{join-length, list-length}
 
 module _ {A : Type 0} where
-  -- what is left of the front after its front is dropped
-  pub drop-take : (a n : ℕ) (l : List A) → drop a (take n l) ≡ take (n - a) (drop a l)
-  drop-take zero n l = let e : n - 0 ≡ n = omega arith in rw e
-  drop-take (suc a) zero l = let e : 0 - suc a ≡ 0 = omega arith in rw e
-  drop-take (suc a) (suc n) [] = sym (take-nil (suc n - suc a))
-  drop-take (suc a) (suc n) (x ∷ l) = let e : suc n - suc a ≡ n - a = omega arith in rw e (drop-take a n l)
-
-  -- a list with a part replaced, its tail as one drop
-  pub splice-plain : (a e : ℕ) (v l : List A) → a ≤ e → splice a e v l ≡ take a l ++ (v ++ drop e l)
-  splice-plain a e v l h = let q : a + (e - a) ≡ e = omega arith in rw (drop-drop (e - a) a l, q)
-
   module _ (a : ℕ) (v l : List A) where
     pub written-plain : written a v l ≡ take a l ++ (v ++ drop (a + length v) l)
     written-plain = splice-plain a (a + length v) v l (omega arith)

@@ -1,10 +1,12 @@
 -- Splines and polynomials that lie in the cells of one lent slice.
-use Prim.Native.Nat.{ℕ, _+_, _-_, _*_}
-use mathlib.Core.Bool.{cond}
+use Prim.Native.Nat.{ℕ, _+_, _-_, _*_, _≤_, _<_}
+use mathlib.Core.Path.{_≡_}
+use mathlib.Core.Bool.{cond, false}
 use mathlib.Core.List.{List, [], _∷_}
 use lib.ListN.{length}
 use lib.Ieee.{Float, le}
 use Rattle.arith.specs.Operations.{floats}
+use Rattle.arith.specs.Loop.{each}
 use Rattle.window.specs.Window.{window, splice}
 use Rattle.window.specs.Cells.{+0}
 use Rattle.bspline.specs.declared.Spline.{Spline}
@@ -37,6 +39,14 @@ spanPut s breaks coefficients span n w =
 -- and how many there are then
 unfoldable pub countPut : Spline → ℕ → ℕ → List Float → ℕ
 countPut s span n w = cond (le (spanWidth floats (knotsAt s w) span) +0) n (n + 1)
+
+-- no span of m controls is without a width: span i is then segment i - 5
+abbrev pub Wide : List Float → ℕ → Type 0
+Wide t m = (i : ℕ) → 5 ≤ i → i < m → le (spanWidth floats t i) +0 ≡ false
+
+-- the breaks and segments of the spans from `from` up to `to`, each in that place
+unfoldable pub spansPut : Spline → ℕ → ℕ → ℕ → ℕ → List Float → List Float
+spansPut s breaks coefficients from to w = each (λ span l. spanPut s breaks coefficients span (span - 5) l) from to w
 
 -- the polynomial of the spline at s
 abbrev pub polynomialFrom : Spline → List Float → Polynomial Float

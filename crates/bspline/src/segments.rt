@@ -8,7 +8,7 @@ ghost use Rattle.arith.specs.Loop.{each};
 ghost use Rattle.window.specs.Window.{window};
 ghost use Rattle.bspline.specs.Rows.{join, written};
 ghost use Rattle.bspline.specs.Segments.{addTurn, scaledBy, segmentOf};
-ghost use Rattle.bspline.specs.Placed.{spanPut, countPut, polynomialAt, segmentsAt};
+ghost use Rattle.bspline.specs.Placed.{spanPut, countPut, spansPut, polynomialAt, segmentsAt};
 use crate::Spline;
 use crate::basis::Taylor;
 
@@ -127,6 +127,28 @@ fn put_span(
     );
     work[breaks + n] = a;
     n + 1
+}
+
+// The breaks and segments of the spans from `from` up to `to`, span i as segment i - 5. Where no span is
+// without a width, these are their places in the polynomial, and those of all other spans stay as they are.
+pub fn put_spans(
+    work: &mut [f64],
+    s: Spline,
+    breaks: usize,
+    coefficients: usize,
+    from: usize,
+    to: usize,
+)
+    requires { ⌜ (5 ≤ from) × (to ≤ s .count)
+        × (s .knots + s .count + 6 ≤ s .controls) × (s .controls + s .count * s .axes ≤ breaks)
+        × (breaks + s .count ≤ coefficients + 4) × (coefficients + (s .count - 5) * (6 * s .axes) ≤ length (now work)) ⌝ }
+    ensures { λ _. ⌜ now (work .exit) ≡ spansPut s breaks coefficients from to (now (work .entry)) ⌝ }
+{
+    let mut span = from;
+    while span < to {
+        put_span(work, s, breaks, coefficients, span, span - 5);
+        span += 1;
+    }
 }
 
 // The source's `polynomial`: breaks from `breaks` on and coefficients from `coefficients` on, for the

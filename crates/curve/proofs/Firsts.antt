@@ -94,3 +94,10 @@ first-passes test (suc n) l = go (ltb (firstOf n test) n) refl (test n) refl l (
     go true e t f g again = again (ltb-true (firstOf n test) n e)
     go false e true f g again = f
     go false e false f g again = absurd (omega arith)
+
+-- the first that passes depends on the tests below the bound alone
+pub first-same : (f g : ℕ → Bool) (n : ℕ) → ((i : ℕ) → i < n → f i ≡ g i) → firstOf n f ≡ firstOf n g
+unfolding firstOf
+first-same f g zero h = refl
+first-same f g (suc n) h =
+    let e = first-same f g n (λ i l. h i (omega arith)) in rw (e, h n (omega arith))

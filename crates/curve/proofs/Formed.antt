@@ -1,10 +1,10 @@
 -- What a well-formed curve gives: numbers within their bounds, lengths that match, and a set whose rows all lie in its slice.
-use mathlib.Core.Path.{_≡_, refl, sym, subst}
-use mathlib.Core.Bool.{Bool, true, false, _&&_, _||_, Bool·beq}
+use mathlib.Core.Path.{_≡_, refl, sym, ap, subst, _∙_}
+use mathlib.Core.Bool.{Bool, true, false, not, _&&_, _||_, Bool·beq}
 use mathlib.Core.List.{List}
 use Prim.Native.Nat.{ℕ, zero, suc, _+_, _-_, _*_, _≤_, _<_}
 use native.Mathlib.Omega.{arith}
-use borrow.Author.Tests.{leb-true, ltb-true, eqb-true, le-ltb, eq-eqb, ne-eqb}
+use borrow.Author.Tests.{leb-true, ltb-true, eqb-true, lt-ltb, le-ltb, eq-eqb, ne-eqb}
 use lib.Dec.{leb, ltb, eqb}
 use lib.ListN.{length, getD}
 use lib.IntN.{pos}
@@ -19,7 +19,7 @@ use Rattle.curve.specs.Search.{Rising}
 use Rattle.curve.specs.Places.{positionOf}
 use Rattle.curve.specs.Segment.{located}
 use Rattle.curve.proofs.Order.{clash, and-parts}
-use Rattle.curve.proofs.Firsts.{every-at}
+use Rattle.curve.proofs.Firsts.{every-all, every-at, first-all, first-same}
 
 -- the numbers of a set
 pub record Sizes (m n : ℕ) (breaks coefficients : List Float) : Type 0 where
@@ -147,3 +147,15 @@ axes-good axes k d h i l =
     let a = getD axes i 0 in
     let p = and-parts (ltb a d) (eqb (positionOf axes i a) i) (every-at (λ j. ltb (getD axes j 0) d && eqb (positionOf axes j (getD axes j 0)) j) k h i l) in
     (ltb-true a d (p .0), eqb-true (positionOf axes i a) i (p .1))
+
+-- only the first k cells matter
+pub axes-same : (axes axes′ : List ℕ) (k d : ℕ) → ((i : ℕ) → i < k → getD axes′ i 0 ≡ getD axes i 0) → axesFormed axes k d ≡ true → axesFormed axes′ k d ≡ true
+unfolding axesFormed
+axes-same axes axes′ k d cell h =
+    every-all (λ i. ltb (getD axes′ i 0) d && eqb (positionOf axes′ i (getD axes′ i 0)) i) k
+    (first-all (λ i. not (ltb (getD axes′ i 0) d && eqb (positionOf axes′ i (getD axes′ i 0)) i)) k
+    (λ i l. let a = getD axes i 0 in
+    let good = axes-good axes k d h i l in
+    let same : positionOf axes′ i a ≡ i =
+    first-same (λ j. eqb (getD axes′ j 0) a) (λ j. eqb (getD axes j 0) a) i (λ j b. ap (λ (x : ℕ). eqb x a) (cell j (omega arith))) ∙ good .1 in
+    rw (cell i l, lt-ltb a d (good .0), same, eq-eqb i i refl)))

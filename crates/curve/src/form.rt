@@ -8,7 +8,7 @@ use crate::count::one_if;
 use crate::place::position;
 
 // Whether the first k axes are distinct and below d.
-fn axes_formed(axes: &[usize; 16], k: usize, d: usize) -> bool
+pub fn axes_formed(axes: &[usize; 16], k: usize, d: usize) -> bool
     requires { ⌜ k ≤ 16 ⌝ }
     ensures { λ r. ⌜ r ≡ axesFormed (now (axes .entry)) k d ⌝ }
 {

@@ -3,3 +3,6 @@ pub mod Placing
 pub mod Turns
 pub mod Solution
 pub mod Fitting
+pub mod Bounds
+pub mod RowCounts
+pub mod Outside

@@ -20,6 +20,6 @@ pub struct Place {
 }
 
 // Values of up to 16 axes.
-struct Target {
-    cells: [f64; 16],
+pub struct Target {
+    pub cells: [f64; 16],
 }

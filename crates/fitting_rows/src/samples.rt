@@ -42,7 +42,7 @@ fn weight(s: &[f64], n: usize, i: usize) -> f64
 }
 
 // The d cells of point i.
-fn point(y: &[f64], d: usize, i: usize) -> Target
+pub fn point(y: &[f64], d: usize, i: usize) -> Target
     requires { ⌜ (d ≤ 16) × (i * d + d ≤ length (now y)) ⌝ }
     ensures { λ r. ⌜ r .cells ≡ pointOf (now (y .entry)) d i ⌝ }
 {

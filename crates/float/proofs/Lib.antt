@@ -3,7 +3,6 @@ pub mod SquareRoot
 pub mod Extremes
 pub mod TotalOrder
 pub mod Powers
-pub mod Samples
 -- What the proofs here use.
 mod Tests
 mod Squares

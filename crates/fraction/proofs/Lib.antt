@@ -1,6 +1,7 @@
 -- The laws. docs/FRACTIONS.md lists the main ones.
 pub mod Bernstein
 pub mod Binomial
+pub mod Comparison
 pub mod Corners
 pub mod Encoding
 pub mod Examples
@@ -11,6 +12,7 @@ pub mod Monotone
 pub mod Nearest
 pub mod Neighbours
 pub mod NextNumber
+pub mod OwnRounding
 pub mod Pair
 pub mod Plain
 pub mod Polynomial

@@ -4,14 +4,14 @@ use mathlib.Core.HLevel.{Π-prop}
 use mathlib.Core.List.{[], _∷_}
 use mathlib.Core.Logic.{_⊎_, inl, inr}
 use mathlib.Core.Path.{_≡_, refl, subst, sym}
-use std.Quotient.{/-elim-prop, /-elim-prop₂, /-elim-prop₃, IsEquivRel, cls, effective}
+use std.Quotient.{/-elim-prop, /-elim-prop₂, /-elim-prop₃, /-set, IsEquivRel, cls, effective, eq/}
 use Prim.Native.Nat.{_*_, ℕ}
 use native.Mathlib.Nat.{le-of-lt, le-refl, le-trans}
 use native.Mathlib.Omega.{arith}
 use lib.Dec.{T, T-not, T-prop, nleb→lt}
 use lib.IntN.{_*ℤ_, pos, ℤ-set}
 use Rattle.fraction.specs.Fraction.{Fraction, _≈_, _≤f_, addFractions, fractionAtMost, multiplyFractions, wholeFraction}
-use Rattle.fraction.specs.Integer.{_≤ℤ_, integerOrder, integerRing}
+use Rattle.fraction.specs.Integer.{_≤ℤ_, equal-by-parts, integerOrder, integerRing}
 use Rattle.fraction.specs.Order.{OrderedRing, le-one, le-prod}
 use Rattle.fraction.specs.Rational.{Above, _*q_, _+q_, _-q_, _<q_, _≤q_, absolute, atMostq, negq, wholeq, ℚ, 𝟘}
 use Rattle.fraction.specs.RationalRing.{rationalRing}
@@ -133,3 +133,20 @@ absolute-above x = go (atMostq 𝟘 x) (λ t. t) (<q-weaken x 𝟘)
     go : (b : Bool) → (T b → 𝟘 ≤q x) → (T (not b) → x ≤q 𝟘) → (x ≤q cond b x (negq x)) × (negq x ≤q cond b x (negq x))
     go true h k = (≤q-refl x, le-one rationalRing _≤q_ rationalOrder (x ∷ []) (opposite v0) v0 (con (pos 2)) (con (pos 0)) v0 tt (≤q-whole 2) (h tt))
     go false h k = (le-one rationalRing _≤q_ rationalOrder (x ∷ []) v0 (opposite v0) (con (pos 2)) v0 (con (pos 0)) tt (≤q-whole 2) (k tt), ≤q-refl (negq x))
+
+-- x ≤ y and y ≤ x give x = y
+pub ≤q-antisymmetric : (x y : ℚ) → x ≤q y → y ≤q x → x ≡ y
+≤q-antisymmetric = /-elim-prop₂ (λ x y. x ≤q y → y ≤q x → x ≡ y) (λ x y. Π-prop (λ _. Π-prop (λ _. /-set _ _)))
+    (λ a b h k. let h = ≤q-means-≤f a b h in let k = ≤q-means-≤f b a k in eq/ a b (equal-by-parts (a .numerator *ℤ pos (b .denominator)) (b .numerator *ℤ pos (a .denominator)) (omega arith)))
+
+-- not both x < y and y ≤ x
+pub never : (x y : ℚ) → x <q y → y ≤q x → ⊥
+never x y h k = T-not (atMostq y x) h k
+
+-- one of them
+pub ≤q-or-< : (x y : ℚ) → (x ≤q y) ⊎ (y <q x)
+≤q-or-< x y = go (atMostq x y)
+  where
+    go : (b : Bool) → T b ⊎ T (not b)
+    go true = inl tt
+    go false = inr tt

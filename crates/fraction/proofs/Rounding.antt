@@ -10,6 +10,7 @@ use lib.Dec.{T, T-not, eqb, eqb·suc-zero, eqb→eq, ltb, ltb→lt, nltb→le}
 use lib.Ieee.{Float, Format, add, div, down, fin, inf, isNan, low, mul, nan, neg, odd, prec, round, sub, sum, units, unlike, up}
 use lib.Ieee.Fits.{down-pos, round-is, up-pos}
 use lib.Ieee.Order.{drop, kept}
+use lib.Ieee.Positive.{positive}
 use lib.Ieee.Scale.{finite, overflow}
 use lib.IntN.{*ℤ-comm, +ℤ-comm, _*ℤ_, _+ℤ_, negℤ, pos, ℤ}
 use lib.Pow.{pow-pos}
@@ -164,3 +165,20 @@ pub rounded-not-nan : (f : Format) (r : Float) (z : ℚ) → Rounded f r z → T
 rounded-not-nan f r z R =
     subst (λ (x : Float). T (not (isNan x))) (sym (R .rounds ∙ round-is f (R .sign) (R .over) (R .under)))
     (units-not-nan f (R .sign) (kept (prec f) (R .over * 2 ^ low f) (R .under)) (drop (prec f) (R .over * 2 ^ low f) (R .under)))
+
+-- what holds of every number written so holds of every number above 0
+pub of-positive : (P : Float → Type 0) → ((m : ℕ) (e : ℤ) → P (fin false (suc m) e)) → (y : Float) → T (positive y) → P y
+of-positive P h nan p = absurd p
+of-positive P h (inf s) p = absurd p
+of-positive P h (fin true m e) p = absurd p
+of-positive P h (fin false zero e) p = absurd p
+of-positive P h (fin false (suc m) e) p = h m e
+
+-- a quotient of a number by one above 0 is a number
+pub quotient-number : (f : Format) (x : Float) → T (not (isNan x)) → (y : Float) → T (positive y) → T (not (isNan (div f x y)))
+unfolding div isNan
+quotient-number f nan h = absurd h
+quotient-number f (inf s) h = of-positive (λ y. T (not (isNan (div f (inf s) y)))) (λ m e. tt)
+quotient-number f (fin s n d) h =
+    of-positive (λ y. T (not (isNan (div f (fin s n d) y))))
+    (λ m e. let y = fin false (suc m) e in let q = div-rounded f (fin s n d) y tt (subst (λ (b : Bool). T (not b)) (sym (eqb·suc-zero m)) tt) in rounded-not-nan f (div f (fin s n d) y) (q .0) (q .2))

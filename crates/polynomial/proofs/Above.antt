@@ -1,17 +1,17 @@
 -- Number 12 asks for a waypoint above the last break: where there is none, the right end of every piece is above its left end, whatever the other numbers
 -- are. (`build`'s breaks end at 1, and its parameters rise to 1.)
 use mathlib.Core.Path.{_≡_, refl, sym, ap, _∙_}
-use mathlib.Core.Bool.{Bool, true, false, _&&_, _||_, cond, true≢false}
+use mathlib.Core.Bool.{Bool, true, false, _&&_, _||_, true≢false}
 use mathlib.Core.List.{List}
-use Prim.Native.Nat.{ℕ, zero, suc, _+_, _-_, _*_, _≤_, _<_}
+use Prim.Native.Nat.{ℕ, _+_, _*_, _≤_, _<_}
 use native.Mathlib.Omega.{arith}
 use native.Mathlib.Decide.{decLt}
 use borrow.Author.Tests.{le-ltb, ne-eqb, lt-ltb, ltb-true, eqb-true}
 use lib.Dec.{ltb, eqb}
 use lib.ListN.{length}
 use lib.Ieee.{Float, nan, inf, fin, up, down, lt, eq, le}
-use Rattle.arith.specs.Loop.{tries, till, Step}
-use Rattle.arith.specs.Loop.Step.{next, stop}
+use Rattle.arith.proofs.Loops.{Holds, holds-cond, till-holds}
+use Rattle.arith.proofs.Loops.Holds.{goes, ends}
 use Rattle.window.specs.Cells.{at}
 use Rattle.float.specs.Order.{minOf}
 use Rattle.bspline.proofs.Runs.{whilst-ends}
@@ -89,31 +89,6 @@ module _ (breaks : List Float) where
                 absurd (true≢false (sym e ∙ ap (λ (n : ℕ). lt (at breaks n) end) last ∙ top))
           ])
 
--- ---- loops that may end in any turn
--- I of the state where the loop goes on, P of the result where it ends
-data Holds {S R : Type 0} (I : S → Type 0) (P : R → Type 0) : Step S R → Type 0 where
-  goes : {s : S} → I s → Holds I P (next s)
-  ends : {r : R} → P r → Holds I P (stop r)
-
-module _ {S R : Type 0} (I : S → Type 0) (P : R → Type 0) where
-  split : (b : Bool) {x y : Step S R} → (b ≡ true → Holds I P x) → (b ≡ false → Holds I P y) → Holds I P (cond b x y)
-  split true p q = p refl
-  split false p q = q refl
-
-  module _ (f : ℕ → S → Step S R) (out : S → R) (step : (i : ℕ) (s : S) → I s → Holds I P (f i s)) (end : (s : S) → I s → P (out s)) where
-    tries-hold : (n i : ℕ) (s : S) → I s → P (tries f out n i s)
-    unfolding tries
-    tries-hold zero i s h = end s h
-    tries-hold (suc n) i s h = go (f i s) (step i s h) (λ t. tries-hold n (i + 1) t)
-      where
-        go : (x : Step S R) → Holds I P x → ((t : S) → I t → P (tries f out n (i + 1) t)) → P (elim x [ next t ↦ tries f out n (i + 1) t | stop r ↦ r ])
-        go (next t) (goes g) again = again t g
-        go (stop r) (ends g) again = g
-
-    till-holds : (a b : ℕ) (s : S) → I s → P (till f out a b s)
-    unfolding till
-    till-holds a b s h = tries-hold (b - a) a s h
-
 -- ---- the audit
 abbrev Not12 : Outcome → Type 0
 Not12 o = numberOf o ≡ 12 → ⊥
@@ -125,7 +100,7 @@ axes-not-12 : (coefficients y : List Float) (d first row : ℕ) (q : Piece) (f :
 unfolding axesOf axisTurn
 axes-not-12 coefficients y d first row q f h =
     till-holds (λ (f : Found). Not12 (f .outcome)) (λ (f : Found). Not12 (f .outcome)) (axisTurn coefficients y d first row q) (λ f. f)
-    (λ i f h. split (λ (f : Found). Not12 (f .outcome)) (λ (f : Found). Not12 (f .outcome)) (allFinite _) (λ e. goes h) (λ e. ends (λ g. omega arith))) (λ f h. h) 0 d f h
+    (λ i f h. holds-cond (λ (f : Found). Not12 (f .outcome)) (λ (f : Found). Not12 (f .outcome)) (allFinite _) (λ e. goes h) (λ e. ends (λ g. omega arith))) (λ f h. h) 0 d f h
 
 module _ (breaks coefficients s y : List Float) (d : ℕ) (top : (i : ℕ) → lt (at breaks (segments breaks)) (at s (i + 1)) ≡ false) where
   abbrev Going : Walk → Type 0
@@ -142,10 +117,10 @@ module _ (breaks coefficients s y : List Float) (d : ℕ) (top : (i : ℕ) → l
       let q = placeOf breaks s i k (w .left) right in
       let inside = advanced-ends breaks (w .left) (w .span) (h .0) .0 in
       let fine = axes-not-12 coefficients y d (k * d) (i * d) q (w .found) (h .1) in
-      split Going Fine (lt (w .left) (at s (i + 1)))
-      (λ below. split Going Fine (le right (w .left))
+      holds-cond Going Fine (lt (w .left) (at s (i + 1)))
+      (λ below. holds-cond Going Fine (le right (w .left))
       (λ e. absurd (true≢false (sym e ∙ piece-above breaks (at s (i + 1)) (w .left) (w .span) (h .0) below (top i))))
-      (λ e. split Going Fine (isDone (axesOf coefficients y d (k * d) (i * d) q (w .found) .outcome)) (λ g. goes (inside, fine)) (λ g. ends (inside, fine))))
+      (λ e. holds-cond Going Fine (isDone (axesOf coefficients y d (k * d) (i * d) q (w .found) .outcome)) (λ g. goes (inside, fine)) (λ g. ends (inside, fine))))
       (λ e. ends (h .0, done-not-12))
 
   interval-not-12 : (i span : ℕ) (before : Float) → span + 1 < length breaks → Fine (intervalOf breaks coefficients s y d i span before)
@@ -163,7 +138,7 @@ module _ (breaks coefficients s y : List Float) (d : ℕ) (top : (i : ℕ) → l
   unfolding auditTurn
   turn-not-12 i a g =
       let r = interval-not-12 i (a .span) (at (a .witness) i) (g .0) in
-      split Audited Ended (isDone (intervalOf breaks coefficients s y d i (a .span) (at (a .witness) i) .outcome)) (λ e. goes (r .0, done-not-12)) (λ e. ends (r .1))
+      holds-cond Audited Ended (isDone (intervalOf breaks coefficients s y d i (a .span) (at (a .witness) i) .outcome)) (λ e. goes (r .0, done-not-12)) (λ e. ends (r .1))
 
   -- no interval of a curve is refused with 12, where no waypoint lies above its last break
   pub audit-not-12 : (first last : ℕ) (bounds witness : List Float) → 1 < length breaks → numberOf (auditOf breaks coefficients s y d first last bounds witness .outcome) ≡ 12 → ⊥

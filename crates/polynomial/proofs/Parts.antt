@@ -75,6 +75,11 @@ module _ {A : Type 0} where
         let n = one in
         window-after w f z (splice b e x l) c g p (h .wf) (omega arith) (h .second-fits) ∙ window-after b e x l c g (omega arith) (h .be) (omega arith) (h .first-fits)
 
+    pub both-between : (c g : ℕ) → c ≤ g → e ≤ c → g ≤ w → window c g (splice w f z (splice b e x l)) ≡ window c g l
+    both-between c g p q r =
+        let n = one in
+        window-before w f z (splice b e x l) c g p r (omega arith) ∙ window-after b e x l c g q (h .be) (omega arith) (h .first-fits)
+
     pub both-first : window b e (splice w f z (splice b e x l)) ≡ x
     both-first =
         let n = one in

@@ -4,3 +4,4 @@ pub mod Counts
 pub mod Difference
 pub mod Examples
 pub mod Normalised
+pub mod ZeroToOne

@@ -5,16 +5,17 @@ use mathlib.Core.List.{List}
 use Prim.Native.Nat.{ℕ, zero, suc, _+_, _-_, _*_, _≤_, _<_}
 use native.Mathlib.Nat.{mul-pos, zero-lt-suc}
 use native.Mathlib.Omega.{arith}
-use borrow.Author.Tests.{le-ltb, eq-eqb, not-false}
+use borrow.Author.Tests.{le-ltb, not-false}
 use lib.Dec.{T, eqb·suc-zero}
-use lib.IntN.{ℤ, pos}
+use lib.IntN.{pos}
 use lib.Pow.{pow-pos}
 use lib.Ieee.{Float, nan, inf, fin, Format, binary32, binary64, up, down, isNan, fits, lt, le, eq, round, size, span, climb, units, odd, sub, div, sum, ofBits, ofInt}
 use lib.Ieee.Fits.{div-fits, down-pos, up-pos}
 use lib.Ieee.Positive.{above, positive}
 use lib.Ieee.Scale.{finite, round-same}
 use Rattle.window.specs.Cells.{+0, at}
-use Rattle.fraction.proofs.Rounding.{div-rounded, rounded-not-nan, sub-rounded}
+use Rattle.fraction.proofs.Comparison.{number-self}
+use Rattle.fraction.proofs.Rounding.{of-positive, quotient-number, rounded-not-nan, sub-rounded}
 use Rattle.fraction.proofs.Value.{finite-not-nan}
 use Rattle.bspline.proofs.FloatOrder.{le-trans, lt-of-not-le}
 use Rattle.request.specs.declared.parameters.Spacing.{Spacing}
@@ -25,15 +26,6 @@ use Rattle.request.proofs.Anys.{any-none, or-none}
 use Rattle.request.proofs.Difference.{difference-above}
 
 -- ---- floats
--- a number is at or below itself
-number-self : (x : Float) → T (not (isNan x)) → le x x ≡ true
-unfolding le lt eq isNan
-number-self nan h = absurd h
-number-self (inf true) h = refl
-number-self (inf false) h = refl
-number-self (fin true m e) h = let a = m * up e * down e in rw (le-ltb a a (omega arith), eq-eqb a a refl)
-number-self (fin false m e) h = let a = m * up e * down e in rw (le-ltb a a (omega arith), eq-eqb a a refl)
-
 holds : {b : Bool} → b ≡ true → T b
 holds e = subst T (sym e) tt
 
@@ -46,23 +38,6 @@ above-finite nan a F = absurd F
 above-finite (inf s) a F = absurd F
 above-finite (fin true m e) a F = a
 above-finite (fin false m e) a F = a
-
--- what holds of every number written so holds of every number above 0
-of-positive : (P : Float → Type 0) → ((m : ℕ) (e : ℤ) → P (fin false (suc m) e)) → (y : Float) → T (positive y) → P y
-of-positive P h nan p = absurd p
-of-positive P h (inf s) p = absurd p
-of-positive P h (fin true m e) p = absurd p
-of-positive P h (fin false zero e) p = absurd p
-of-positive P h (fin false (suc m) e) p = h m e
-
--- a quotient of a number by one above 0 is a number
-quotient-number : (f : Format) (x : Float) → T (not (isNan x)) → (y : Float) → T (positive y) → T (not (isNan (div f x y)))
-unfolding div isNan
-quotient-number f nan h = absurd h
-quotient-number f (inf s) h = of-positive (λ y. T (not (isNan (div f (inf s) y)))) (λ m e. tt)
-quotient-number f (fin s n d) h =
-    of-positive (λ y. T (not (isNan (div f (fin s n d) y))))
-    (λ m e. let y = fin false (suc m) e in let q = div-rounded f (fin s n d) y tt (subst (λ (b : Bool). T (not b)) (sym (eqb·suc-zero m)) tt) in rounded-not-nan f (div f (fin s n d) y) (q .0) (q .2))
 
 zero-rounds : (f : Format) → round f false 0 1 ≡ fin false 0 (pos 0)
 unfolding round size span climb units odd
@@ -103,7 +78,7 @@ over-itself f =
     (λ m e. rw (eqb·suc-zero m) (rounds-one f (suc m * up e * down e) (mul-pos (mul-pos (zero-lt-suc m) (up-pos e)) (down-pos e))))
 
 -- ---- the parameters
-parameter-fits : (spacing : Spacing) (list : List Float) (n i : ℕ) → Doubles list → T (fits binary64 (parameterOf spacing list n i))
+pub parameter-fits : (spacing : Spacing) (list : List Float) (n i : ℕ) → Doubles list → T (fits binary64 (parameterOf spacing list n i))
 unfolding parameterOf
 parameter-fits Listed list n i F = F i
 parameter-fits Even list n i F = div-fits binary64 (ofInt binary64 (pos i)) (ofInt binary64 (pos (n - 1)))
@@ -128,7 +103,7 @@ module _ (spacing : Spacing) (list : List Float) (n : ℕ) (two : 2 ≤ n) (doub
   unfolding unreliable
   length-parts = or-none (not (finite (lengthOf spacing list n))) (anyFall n s) reliable
 
-  parameter-finite : (i : ℕ) → i < n → T (finite (p i))
+  pub parameter-finite : (i : ℕ) → i < n → T (finite (p i))
   parameter-finite i l = holds (not-false (finite (p i)) (any-none (λ i. not (finite (p i))) n (parts .0) i l))
 
   no-fall : (i : ℕ) → i < n - 1 → le (p (i + 1)) (p i) ≡ false
@@ -156,7 +131,7 @@ module _ (spacing : Spacing) (list : List Float) (n : ℕ) (two : 2 ≤ n) (doub
           sym (le-trans (p 1) (p (n - 1)) (p 0) (rw e at (upto 1 (n - 2) (omega arith))) h) ∙ no-fall 0 (omega arith)
 
   -- end - start is above 0
-  length-positive : T (positive (lengthOf spacing list n))
+  pub length-positive : T (positive (lengthOf spacing list n))
   unfolding lengthOf
   length-positive =
       above-finite (lengthOf spacing list n)

@@ -2,3 +2,4 @@
 pub mod Windows
 pub mod Filling
 pub mod Parts
+pub mod Seams

@@ -8,8 +8,8 @@ use lib.ListN.{length, take, drop, set, getD}
 use lib.Seq.{take-suc, take-take, set-at, length-take-le}
 use lib.Ieee.{Float, nan}
 use Rattle.window.specs.Window.{window, splice}
+use Rattle.window.proofs.Seams.{drop-take, splice-plain}
 use Rattle.bspline.specs.Insertion.{knotsWith}
-use Rattle.bspline.proofs.Written.{splice-plain, drop-take}
 use Rattle.bspline.proofs.insertion.insert_knot.Statement.{statement}
 use Rattle.bspline.proofs.insertion.insert_knot.Tie as tie
 
