@@ -5,3 +5,6 @@ pub mod Writing
 pub mod Joining
 pub mod Seeded
 pub mod Middle
+pub mod Windows
+pub mod FirstWaypoint
+pub mod SourceScan

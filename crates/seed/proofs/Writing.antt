@@ -4,26 +4,40 @@ use mathlib.Core.List.{List, [], _∷_, _++_, append-assoc, append-nil}
 use Prim.Native.Nat.{ℕ, zero, suc, _+_, _-_, _*_, _≤_, _<_}
 use native.Mathlib.Decide.{decLt}
 use native.Mathlib.Omega.{arith}
-use lib.ListN.{length, take, drop, set, length-append}
-use lib.Seq.{take-at, drop-at}
+use lib.ListN.{length, set, length-append}
 use lib.Ieee.{Float}
 use Rattle.arith.specs.Loop.{whilst}
-use Rattle.window.proofs.Filling.{write-more}
-use Rattle.sorting.specs.Sort.{sortOf}
-use Rattle.sorting.specs.Thin.{keptOf}
+use Rattle.window.proofs.Windows.{length-window, window-before}
+use Rattle.bspline.specs.Rows.{written}
+use Rattle.bspline.proofs.Written.{written-none, set-next}
+use Rattle.seed.specs.declared.Waypoints.{Waypoints}
 use Rattle.seed.specs.Anchors.{anchorsOf, nextAnchor}
 use Rattle.seed.specs.Knots.{around, knotsAt, rawKnots}
+use Rattle.seed.specs.Placed.{Laid, parametersAt, pointsAt}
 use Rattle.seed.proofs.Scanning.{after, after-more, after-none, anchors-are, next-between}
 
--- three cells more, after the k that p has
-pub write-three : (p l : List Float) (k : ℕ) (u v w : Float) → length p ≡ k → k + 2 < length l → set (set (set (p ++ drop k l) k u) (k + 1) v) (k + 2) w ≡ (p ++ (u ∷ (v ∷ (w ∷ [])))) ++ drop (k + 3) l
-write-three p l k u v w h g =
-    let e : k + 2 ≡ k + 1 + 1 = omega arith in
-    let f : k + 3 ≡ k + 1 + 1 + 1 = omega arith in
-    rw (write-more p l k u h (omega arith), write-more (p ++ (u ∷ [])) l (k + 1) v (one p u k h) (omega arith), e, write-more (p ++ (u ∷ []) ++ (v ∷ [])) l (k + 1 + 1) w (one (p ++ (u ∷ [])) v (k + 1) (one p u k h)) (omega arith), f, append-assoc (p ++ (u ∷ [])) (v ∷ []) (w ∷ []), append-assoc p (u ∷ []) (v ∷ (w ∷ [])))
+-- three cells more of a list that is written from a on, after the k that v has
+write-three : (a : ℕ) (v l : List Float) (k : ℕ) (x y z : Float) → length v ≡ k → a + k + 2 < length l
+    → set (set (set (written a v l) (a + k) x) (a + k + 1) y) (a + k + 2) z ≡ written a (v ++ (x ∷ (y ∷ (z ∷ [])))) l
+write-three a v l k x y z h g =
+    let e : a + k + 1 ≡ a + (k + 1) = omega arith in
+    let f : a + k + 2 ≡ a + (k + 1 + 1) = omega arith in
+    let m = longer v x k h in
+    rw (
+      one v k x h (omega arith),
+      e,
+      one (v ++ (x ∷ [])) (k + 1) y m (omega arith),
+      f,
+      one (v ++ (x ∷ []) ++ (y ∷ [])) (k + 1 + 1) z (longer (v ++ (x ∷ [])) y (k + 1) m) (omega arith),
+      append-assoc (v ++ (x ∷ [])) (y ∷ []) (z ∷ []),
+      append-assoc v (x ∷ []) (y ∷ (z ∷ [])),
+    )
   where
-    one : (p : List Float) (x : Float) (k : ℕ) → length p ≡ k → length (p ++ (x ∷ [])) ≡ k + 1
-    one p x k h = rw (length-append p (x ∷ []), h)
+    longer : (v : List Float) (x : Float) (k : ℕ) → length v ≡ k → length (v ++ (x ∷ [])) ≡ k + 1
+    longer v x k h = rw (length-append v (x ∷ []), h)
+
+    one : (v : List Float) (k : ℕ) (x : Float) → length v ≡ k → a + k < length l → set (written a v l) (a + k) x ≡ written a (v ++ (x ∷ [])) l
+    one v k x h g = rw (← h) (set-next a v l x (omega arith))
 
 module _ (s y : List Float) (d : ℕ) where
   -- the knots of the anchors a, b and those after b
@@ -53,10 +67,10 @@ module _ (s y : List Float) (d : ℕ) where
       nothing e = unfold rawKnots anchorsOf knotsAt whilst in rw e
 
   -- ---- what holds before each triple: the cells written and the knots to come are the raw knots
-  pub record Written (cells₀ cells : List Float) (a b k : ℕ) : Type 0 where
+  pub record Begun (from : ℕ) (work₀ work : List Float) (a b k : ℕ) : Type 0 where
     pub done : List Float
     pub count : length done ≡ k
-    pub is : cells ≡ done ++ drop k cells₀
+    pub is : work ≡ written from done work₀
     pub left : ℕ
     pub enough : length s ≤ left + b + 1
     pub first : a < length s
@@ -64,44 +78,47 @@ module _ (s y : List Float) (d : ℕ) where
     pub room : k + 3 ≤ 3 * b
     pub all : done ++ knotsFrom left a b ≡ rawKnots s y d
 
-  pub written-none : (cells₀ : List Float) → 1 < length s → Written cells₀ cells₀ 0 (nextAnchor s y d 0) 0
-  written-none cells₀ h =
-      record { done = []; count = refl; is = refl; left = length s; enough = omega arith; first = omega arith; second = next-between s y d 0 h .1; room = omega (arith, next-between s y d 0 h .0); all = sym (raw-from (omega arith)) }
+  module _ (from : ℕ) (work₀ : List Float) where
+    pub begun-none : 1 < length s → Begun from work₀ work₀ 0 (nextAnchor s y d 0) 0
+    begun-none h =
+        record { done = []; count = refl; is = sym (written-none from work₀); left = length s; enough = omega arith; first = omega arith; second = next-between s y d 0 h .1; room = omega (arith, next-between s y d 0 h .0); all = sym (raw-from (omega arith)) }
 
-  pub written-more : (cells₀ cells : List Float) (a b k : ℕ) (u v w : Float) → b + 1 < length s → 3 * length s ≤ length cells₀ + 6 → (u ∷ (v ∷ (w ∷ []))) ≡ around s y d a b (nextAnchor s y d b) → Written cells₀ cells a b k → Written cells₀ (set (set (set cells k u) (k + 1) v) (k + 2) w) b (nextAnchor s y d b) (k + 3)
-  written-more cells₀ cells a b k u v w h g e z = go (z .left) (z .enough) (z .all)
-    where
-      later : b < nextAnchor s y d b
-      later = next-between s y d b h .0
+    module _ (work : List Float) (a b k : ℕ) where
+      pub begun-more : (u v w : Float) → b + 1 < length s → from + 3 * length s ≤ length work₀ + 6 → (u ∷ (v ∷ (w ∷ []))) ≡ around s y d a b (nextAnchor s y d b) → Begun from work₀ work a b k
+          → Begun from work₀ (set (set (set work (from + k) u) (from + k + 1) v) (from + k + 2) w) b (nextAnchor s y d b) (k + 3)
+      begun-more u v w h g e z = go (z .left) (z .enough) (z .all)
+        where
+          later : b < nextAnchor s y d b
+          later = next-between s y d b h .0
 
-      go : (left : ℕ) → length s ≤ left + b + 1 → z .done ++ knotsFrom left a b ≡ rawKnots s y d → Written cells₀ (set (set (set cells k u) (k + 1) v) (k + 2) w) b (nextAnchor s y d b) (k + 3)
-      go zero f q = absurd (omega arith)
-      go (suc left) f q =
-          record {
-            done = z .done ++ (u ∷ (v ∷ (w ∷ [])));
-            count = rw (length-append (z .done) (u ∷ (v ∷ (w ∷ []))), z .count);
-            is = rw (z .is) (write-three (z .done) cells₀ k u v w (z .count) (omega (arith, z .room)));
-            left = left;
-            enough = omega (arith, later);
-            first = z .second;
-            second = next-between s y d b h .1;
-            room = omega (arith, later, z .room);
-            all =
-                append-assoc (z .done) (u ∷ (v ∷ (w ∷ []))) (knotsFrom left b (nextAnchor s y d b))
-                ∙ ap (λ (l : List Float). z .done ++ (l ++ knotsFrom left b (nextAnchor s y d b))) e
-                ∙ ap (λ (l : List Float). z .done ++ l) (sym (from-more left a b h))
-                ∙ q;
-          }
+          go : (left : ℕ) → length s ≤ left + b + 1 → z .done ++ knotsFrom left a b ≡ rawKnots s y d → Begun from work₀ (set (set (set work (from + k) u) (from + k + 1) v) (from + k + 2) w) b (nextAnchor s y d b) (k + 3)
+          go zero f q = absurd (omega arith)
+          go (suc left) f q =
+              record {
+                done = z .done ++ (u ∷ (v ∷ (w ∷ [])));
+                count = rw (length-append (z .done) (u ∷ (v ∷ (w ∷ []))), z .count);
+                is = rw (z .is) (write-three from (z .done) work₀ k u v w (z .count) (omega (arith, z .room)));
+                left = left;
+                enough = omega (arith, later);
+                first = z .second;
+                second = next-between s y d b h .1;
+                room = omega (arith, later, z .room);
+                all =
+                    append-assoc (z .done) (u ∷ (v ∷ (w ∷ []))) (knotsFrom left b (nextAnchor s y d b))
+                    ∙ ap (λ (l : List Float). z .done ++ (l ++ knotsFrom left b (nextAnchor s y d b))) e
+                    ∙ ap (λ (l : List Float). z .done ++ l) (sym (from-more left a b h))
+                    ∙ q;
+              }
 
-  module _ (cells₀ cells : List Float) (a b k : ℕ) (h : length s ≤ b + 1) (z : Written cells₀ cells a b k) where
-    done-all : z .done ≡ rawKnots s y d
-    done-all = sym (append-nil (z .done)) ∙ rw (from-none (z .left) a b h) at (z .all)
+      module _ (h : length s ≤ b + 1) (z : Begun from work₀ work a b k) where
+        done-all : z .done ≡ rawKnots s y d
+        done-all = sym (append-nil (z .done)) ∙ rw (from-none (z .left) a b h) at (z .all)
 
-    pub written-count : k ≡ length (rawKnots s y d)
-    written-count = sym (z .count) ∙ ap length done-all
+        pub begun-count : k ≡ length (rawKnots s y d)
+        begun-count = sym (z .count) ∙ ap length done-all
 
-    pub written-cells : cells ≡ rawKnots s y d ++ drop k cells₀
-    written-cells = z .is ∙ ap (λ (l : List Float). l ++ drop k cells₀) done-all
+        pub begun-cells : work ≡ written from (rawKnots s y d) work₀
+        begun-cells = z .is ∙ ap (λ (l : List Float). written from l work₀) done-all
 
   -- ---- how many
   around-three : (a b c : ℕ) (l : List Float) → length (around s y d a b c ++ l) ≡ 3 + length l
@@ -122,15 +139,14 @@ module _ (s y : List Float) (d : ℕ) where
   pub raw-count : 2 ≤ length s → length (rawKnots s y d) ≤ 3 * (length s - 2)
   raw-count h = rw (raw-from (omega arith)) (omega (arith, next-between s y d 0 h .0, from-count (length s) 0 (nextAnchor s y d 0) (next-between s y d 0 h .1)))
 
--- ---- the raw knots lie in front, and are settled there
-raw-part : (raw w l : List Float) (k : ℕ) → k ≡ length raw → w ≡ raw ++ drop k l → take k w ≡ raw
-raw-part raw w l k e f = ap (take k) f ∙ take-at raw (drop k l) k (sym e)
+-- ---- in one slice
+module _ (p : Waypoints) (w : List Float) (laid : Laid p (length w)) where
+  pub parameters-length : length (parametersAt p w) ≡ p .samples
+  parameters-length = length-window (p .parameters) (p .parameters + p .samples) w (omega arith) (omega arith) ∙ omega arith
 
-pub raw-fits : (raw w l : List Float) (k : ℕ) → k ≡ length raw → w ≡ raw ++ drop k l → k ≤ length w
-raw-fits raw w l k e f = omega (arith, simp length-append at (ap length f))
+  -- what is written from the knots on leaves the waypoints as they are
+  pub same-parameters : (v : List Float) → parametersAt p (written (p .knots) v w) ≡ parametersAt p w
+  same-parameters v = window-before (p .knots) (p .knots + length v) v w (p .parameters) (p .parameters + p .samples) (omega arith) (omega arith) (omega arith)
 
-pub settled : (raw w l v : List Float) (k r : ℕ) → k ≡ length raw → w ≡ raw ++ drop k l → r ≡ length (keptOf (sortOf (take k w))) → v ≡ keptOf (sortOf (take k w)) ++ drop r (sortOf (take k w)) → (r ≡ length (keptOf (sortOf raw))) × (v ++ drop k w ≡ keptOf (sortOf raw) ++ (drop r (sortOf raw) ++ drop (length raw) l))
-settled raw w l v k r e f p q =
-    let t = raw-part raw w l k e f in
-    let u : drop k w ≡ drop k l = ap (drop k) f ∙ drop-at raw (drop k l) k (sym e) in
-    (p ∙ ap (λ (c : List Float). length (keptOf (sortOf c))) t, rw (q, t, u, e) (append-assoc (keptOf (sortOf raw)) (drop r (sortOf raw)) (drop (length raw) l)))
+  pub same-points : (v : List Float) → pointsAt p (written (p .knots) v w) ≡ pointsAt p w
+  same-points v = window-before (p .knots) (p .knots + length v) v w (p .points) (p .points + p .samples * p .axes) (omega arith) (omega arith) (omega arith)

@@ -3,3 +3,4 @@ pub mod Corridor
 pub mod Anchors
 pub mod Knots
 pub mod Regions
+pub mod Placed

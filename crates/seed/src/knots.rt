@@ -6,7 +6,11 @@ ghost use lib.ListN.{length, drop};
 ghost use Rattle.float.specs.Order.{maxOf};
 ghost use Rattle.sorting.specs.Sort.{sortOf};
 ghost use Rattle.sorting.specs.Thin.{keptOf};
+ghost use Rattle.bspline.specs.Rows.{written};
+ghost use Rattle.seed.specs.Anchors.{nextAnchor};
 ghost use Rattle.seed.specs.Knots.{jumpOf, widthOf, around, rawKnots, seedOf};
+ghost use Rattle.seed.specs.Placed.{Laid, parametersAt, pointsAt, seededCells};
+use crate::Waypoints;
 use crate::corridor::next_anchor;
 use crate::corridor::slope;
 
@@ -66,25 +70,47 @@ fn knots_around(s: &[f64], y: &[f64], d: usize, a: usize, b: usize, c: usize) ->
     }
 }
 
-// The knots around all inner anchors, into the first cells of `knots`, and how many; the others are
-// unchanged.
-fn raw_knots(s: &[f64], y: &[f64], d: usize, knots: &mut [f64]) -> usize
-    requires { ⌜ (d ≤ 16) × (length (now s) * d ≤ length (now y)) × (3 * length (now s) ≤ length (now knots) + 6) ⌝ }
-    ensures { λ r. ⌜ r ≡ length (rawKnots (now (s .entry)) (now (y .entry)) d) ⌝ }
-    ensures { λ r. ⌜ now (knots .exit) ≡ rawKnots (now (s .entry)) (now (y .entry)) d ++ drop r (now (knots .entry)) ⌝ }
+// The anchor after the waypoint `anchor`.
+fn anchor_after(work: &[f64], p: Waypoints, anchor: usize) -> usize
+    requires { ⌜ Laid p (length (now work)) × (anchor < p .samples) ⌝ }
+    ensures { λ r. ⌜ r ≡ nextAnchor (parametersAt p (now (work .entry))) (pointsAt p (now (work .entry))) (p .axes) anchor ⌝ }
 {
-    if s.len() < 2 {
-        return 0;
-    }
+    let s = p.parameters;
+    let s_end = s + p.samples;
+    let y = p.points;
+    let y_end = y + p.samples * p.axes;
+    next_anchor(&work[s..s_end], &work[y..y_end], p.axes, anchor)
+}
+
+// The three knots around the anchor b, between the anchors a and c.
+fn knots_at(work: &[f64], p: Waypoints, a: usize, b: usize, c: usize) -> Three
+    requires { ⌜ Laid p (length (now work)) × (a < p .samples) × (b < p .samples) × (c < p .samples) ⌝ }
+    ensures { λ r. ⌜ (r .left ∷ (r .middle ∷ (r .right ∷ []))) ≡ around (parametersAt p (now (work .entry))) (pointsAt p (now (work .entry))) (p .axes) a b c ⌝ }
+{
+    let s = p.parameters;
+    let s_end = s + p.samples;
+    let y = p.points;
+    let y_end = y + p.samples * p.axes;
+    knots_around(&work[s..s_end], &work[y..y_end], p.axes, a, b, c)
+}
+
+// The knots around all inner anchors, and how many; all other cells are unchanged.
+fn raw_knots(work: &mut [f64], p: Waypoints) -> usize
+    requires { ⌜ Laid p (length (now work)) × (2 ≤ p .samples) × (p .knots + 3 * p .samples ≤ length (now work) + 6) ⌝ }
+    ensures { λ r. ⌜ r ≡ length (rawKnots (parametersAt p (now (work .entry))) (pointsAt p (now (work .entry))) (p .axes)) ⌝ }
+    ensures { λ _. ⌜ now (work .exit) ≡ written (p .knots) (rawKnots (parametersAt p (now (work .entry))) (pointsAt p (now (work .entry))) (p .axes)) (now (work .entry)) ⌝ }
+{
+    let last = p.samples - 1;
+    let from = p.knots;
     let mut k = 0;
     let mut a = 0;
-    let mut b = next_anchor(s, y, d, 0);
-    while b < s.len() - 1 {
-        let c = next_anchor(s, y, d, b);
-        let t = knots_around(s, y, d, a, b, c);
-        knots[k] = t.left;
-        knots[k + 1] = t.middle;
-        knots[k + 2] = t.right;
+    let mut b = anchor_after(work, p, 0);
+    while b < last {
+        let c = anchor_after(work, p, b);
+        let t = knots_at(work, p, a, b, c);
+        work[from + k] = t.left;
+        work[from + k + 1] = t.middle;
+        work[from + k + 2] = t.right;
         k += 3;
         a = b;
         b = c;
@@ -102,14 +128,18 @@ fn settle(cells: &mut [f64]) -> usize
     sorting::keep_apart(cells)
 }
 
-// The source's `seed`, into the first cells of `knots`, and how many knots there are: of parameters s
-// and coordinates y of d axes. The cells after them hold what was sorted and not kept; the cells
-// after the raw knots are unchanged.
-pub fn seed(s: &[f64], y: &[f64], d: usize, knots: &mut [f64]) -> usize
-    requires { ⌜ (d ≤ 16) × (length (now s) * d ≤ length (now y)) × (3 * length (now s) ≤ length (now knots) + 6) ⌝ }
-    ensures { λ r. ⌜ r ≡ length (seedOf (now (s .entry)) (now (y .entry)) d) ⌝ }
-    ensures { λ r. ⌜ now (knots .exit) ≡ seedOf (now (s .entry)) (now (y .entry)) d ++ (drop r (sortOf (rawKnots (now (s .entry)) (now (y .entry)) d)) ++ drop (length (rawKnots (now (s .entry)) (now (y .entry)) d)) (now (knots .entry))) ⌝ }
+// The source's `seed`: the knots from `knots` on, and how many. The cells after them hold what was
+// sorted and not kept; all others are unchanged.
+pub fn seed(work: &mut [f64], p: Waypoints) -> usize
+    requires { ⌜ (p .axes ≤ 16) × (p .parameters + p .samples ≤ p .knots) × (p .points + p .samples * p .axes ≤ p .knots)
+        × (p .knots + 3 * p .samples ≤ length (now work) + 6) ⌝ }
+    ensures { λ r. ⌜ r ≡ length (seedOf (parametersAt p (now (work .entry))) (pointsAt p (now (work .entry))) (p .axes)) ⌝ }
+    ensures { λ _. ⌜ now (work .exit) ≡ written (p .knots) (seededCells (parametersAt p (now (work .entry))) (pointsAt p (now (work .entry))) (p .axes)) (now (work .entry)) ⌝ }
 {
-    let k = raw_knots(s, y, d, knots);
-    settle(&mut knots[..k])
+    if p.samples < 2 {
+        return 0;
+    }
+    let from = p.knots;
+    let end = from + raw_knots(work, p);
+    settle(&mut work[from..end])
 }

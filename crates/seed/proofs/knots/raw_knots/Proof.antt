@@ -1,68 +1,80 @@
--- `knots::raw_knots` meets its contract. The invariant is `Written`.
-use mathlib.Core.Path.{_≡_, refl}
-use Prim.Native.Nat.{_-_}
+-- `knots::raw_knots` meets its contract. The invariant is `Begun`.
+use mathlib.Core.Path.{_≡_, refl, _∙_}
+use Prim.Native.Nat.{ℕ, _-_, _<_}
 use native.Mathlib.Omega.{arith}
 use lib.ListN.{length, length-set}
+use Rattle.seed.specs.Anchors.{nextAnchor}
+use Rattle.seed.specs.Placed.{parametersAt, pointsAt}
 use Rattle.seed.proofs.Scanning.{next-between}
-use Rattle.seed.proofs.Writing.{Written, raw-empty, written-none, written-more, written-count, written-cells}
+use Rattle.seed.proofs.Writing.{Begun, begun-none, begun-more, begun-count, begun-cells, parameters-length, same-parameters, same-points}
 use Rattle.seed.proofs.knots.raw_knots.Statement.{statement}
 use Rattle.seed.proofs.knots.raw_knots.Tie as tie
 
 abbrev Inv-loop : tie.InvT-loop
-Inv-loop s y d knots₀ k₀ a₀ b₀ knots k a b = Written s y d knots₀ knots a b k × (length knots ≡ length knots₀)
+Inv-loop work₀ p last from k₀ a₀ b₀ work k a b =
+    Begun (parametersAt p work₀) (pointsAt p work₀) (p .axes) (p .knots) work₀ work a b k × (length work ≡ length work₀) × (length (parametersAt p work₀) ≡ p .samples)
 
 abbrev μ-loop : tie.MeasureT-loop
-μ-loop s y d knots₀ k₀ a₀ b₀ knots k a b = length s - b
-
-returns : tie.Need-returns Inv-loop μ-loop
-returns c =
-    let a = c .before .before .before .before .args in
-    rw (raw-empty (a .s .now) (a .y .now) (a .d) (c .if1 .taken)) (refl, refl)
+μ-loop work₀ p last from k₀ a₀ b₀ work k a b = p .samples - b
 
 loop-holds : tie.Need-loop-holds Inv-loop μ-loop
 loop-holds c =
-    let a = c .before .before .before .before .before .args in
-    rw (c .next-anchor .ensures) (written-none (a .s .now) (a .y .now) (a .d) (a .knots .now) (omega arith), refl)
+    let g = c .before .before .before .before .args in
+    let p = g .p in
+    let w = g .work .now in
+    let n = parameters-length p w (c .before .before .before .before .pre .0) in
+    rw (c .anchor-after .ensures) (begun-none (parametersAt p w) (pointsAt p w) (p .axes) (p .knots) w (omega arith), refl, n)
 
-knots-around-requires : tie.Need-knots-around-requires Inv-loop μ-loop
-knots-around-requires c κs =
-    let a = c .before .before .before .before .before .before .before .before .args in
-    let l = c .before .before .loop in (
-      omega arith,
-      l .inv .0 .first,
-      l .inv .0 .second,
-      rw (c .next-anchor2 .ensures) (next-between (a .s .now) (a .y .now) (a .d) (l .b) (omega arith) .1),
-    )
+-- the anchor after b, of the waypoints as at entry
+next-is : (c : tie.After-anchor-after2 Inv-loop μ-loop) →
+    let g = c .before .before .before .before .before .before .before .before .args in
+    c .anchor-after2 .result ≡ nextAnchor (parametersAt (g .p) (g .work .now)) (pointsAt (g .p) (g .work .now)) (g .p .axes) (c .before .before .before .loop .b)
+next-is c =
+    let g = c .before .before .before .before .before .before .before .before .args in
+    let laid = c .before .before .before .before .before .before .before .before .pre .0 in
+    let z = c .before .before .before .loop .inv .0 in
+    c .anchor-after2 .ensures ∙ rw (z .is, same-parameters (g .p) (g .work .now) laid (z .done), same-points (g .p) (g .work .now) laid (z .done))
 
-slice-write-knots-2 : tie.Need-slice-write-knots-2 Inv-loop μ-loop
-slice-write-knots-2 c = simp length-set (omega arith)
+-- it lies after b
+next-after : (c : tie.After-anchor-after2 Inv-loop μ-loop) → let l = c .before .before .before .loop in
+    (l .b < c .anchor-after2 .result) × (c .anchor-after2 .result < c .before .before .before .before .before .before .before .before .args .p .samples)
+next-after c =
+    let g = c .before .before .before .before .before .before .before .before .args in
+    let l = c .before .before .before .loop in
+    let h = next-between (parametersAt (g .p) (g .work .now)) (pointsAt (g .p) (g .work .now)) (g .p .axes) (l .b) (omega arith) in
+    rw (next-is c) (h .0, omega (arith, h .1))
 
-slice-write-knots-3 : tie.Need-slice-write-knots-3 Inv-loop μ-loop
-slice-write-knots-3 c = simp length-set (omega arith)
+knots-at-requires : tie.Need-knots-at-requires Inv-loop μ-loop
+knots-at-requires c κs =
+    let laid = c .before .before .before .before .before .before .before .before .before .pre .0 in
+    ((laid .0, laid .1, laid .2, omega arith), omega arith, omega arith, next-after (c .before) .1)
 
 loop-less : tie.Need-loop-less Inv-loop μ-loop
-loop-less c =
-    let a = c .before .before .before .before .before .before .before .before .before .args in
-    let l = c .before .before .before .loop in
-    let h = next-between (a .s .now) (a .y .now) (a .d) (l .b) (omega arith) .0 in
-    omega arith
+loop-less c = omega (arith, next-after (c .before .before))
 
 loop-again : tie.Need-loop-again Inv-loop μ-loop
 loop-again c =
-    let a = c .before .before .before .before .before .before .before .before .before .args in
-    let l = c .before .before .before .loop in
-    let e = c .before .next-anchor2 .ensures in
-    let f = rw e at (c .knots-around .ensures) in (
-      rw e (written-more (a .s .now) (a .y .now) (a .d) (a .knots .now) (l .knots) (l .a) (l .b) (l .k) _ _ _ (omega arith) (omega arith) f (l .inv .0)),
+    let g = c .before .before .before .before .before .before .before .before .before .before .args in
+    let p = g .p in
+    let w = g .work .now in
+    let laid = c .before .before .before .before .before .before .before .before .before .before .pre .0 in
+    let l = c .before .before .before .before .before .loop in
+    let z = l .inv .0 in
+    let t = c .knots-at .result in
+    let e = rw (z .is, same-parameters p w laid (z .done), same-points p w laid (z .done), next-is (c .before .before)) at (c .knots-at .ensures) in (
+      rw (next-is (c .before .before)) (begun-more (parametersAt p w) (pointsAt p w) (p .axes) (p .knots) w (l .work) (l .a) (l .b) (l .k) (t .left) (t .middle) (t .right) (omega arith) (omega arith) e z),
       simp length-set (l .inv .1),
+      l .inv .2,
     )
 
-returns-2 : tie.Need-returns-2 Inv-loop μ-loop
-returns-2 c =
-    let a = c .before .before .before .before .before .before .before .args in
+returns : tie.Need-returns Inv-loop μ-loop
+returns c =
+    let g = c .before .before .before .before .before .before .args in
+    let p = g .p in
+    let w = g .work .now in
     let l = c .before .loop in (
-      written-count (a .s .now) (a .y .now) (a .d) (a .knots .now) (l .knots) (l .a) (l .b) (l .k) (omega arith) (l .inv .0),
-      written-cells (a .s .now) (a .y .now) (a .d) (a .knots .now) (l .knots) (l .a) (l .b) (l .k) (omega arith) (l .inv .0),
+      begun-count (parametersAt p w) (pointsAt p w) (p .axes) (p .knots) w (l .work) (l .a) (l .b) (l .k) (omega arith) (l .inv .0),
+      begun-cells (parametersAt p w) (pointsAt p w) (p .axes) (p .knots) w (l .work) (l .a) (l .b) (l .k) (omega arith) (l .inv .0),
     )
 
 pub raw-knots-spec : {M : Type 1} → statement M
@@ -71,22 +83,24 @@ raw-knots-spec =
     (tie.spec
     Inv-loop
     μ-loop
-    returns
+    (λ c. omega arith)
     (λ c κs. omega arith)
     loop-holds
-    (λ c. omega arith)
     (λ c κs. omega arith)
-    knots-around-requires
+    knots-at-requires
     (λ c. omega arith)
     (λ c. omega arith)
     (λ c. omega arith)
     (λ c. omega arith)
-    slice-write-knots-2
     (λ c. omega arith)
     (λ c. omega arith)
-    slice-write-knots-3
+    (λ c. simp length-set (omega arith))
+    (λ c. omega arith)
+    (λ c. omega arith)
+    (λ c. omega arith)
+    (λ c. simp length-set (omega arith))
     (λ c. omega arith)
     loop-less
     loop-again
     (λ c. omega arith)
-    returns-2)
+    returns)
