@@ -1,0 +1,86 @@
+-- Document 01's starred lanes ("Lanes to try"), as rows of one table with the float leaves' lines. A line's answer is a list of whole
+-- numbers: the refusal's number alone, or 0 and the fields that `lane` prints, an error standing by its bits.
+use Prim.Native.Nat.{ℕ}
+use mathlib.Core.List.{List, [], _∷_, _++_, map}
+use lib.Ieee.{binary64, ofBits, toBits}
+use Rattle.float.specs.Samples.{Line, floatLines}
+use Rattle.request.specs.declared.parameters.Spacing.the-variants.{Listed, Even}
+use Rattle.smoothing.specs.Request.{Axes, Request}
+use Rattle.smoothing.specs.Request.Axes.{all, listed}
+use Rattle.smoothing.specs.Request.Tolerance.{uniform}
+use Rattle.smoothing.specs.Answer.{Answer}
+use Rattle.smoothing.specs.Answer.Answer.{done, refused, exhausted}
+use Rattle.smoothing.specs.Build.{Report, Result, buildOf}
+
+-- the fields of a report
+unfoldable pub fieldsOf : Report → List ℕ
+fieldsOf r =
+    r .segments ∷ r .interpolated ∷ r .work .refinements ∷ r .work .rows ∷ r .work .intervals ∷ map (toBits binary64) (r .errors)
+
+-- an answer as whole numbers
+unfoldable pub numbersOf : Answer Result → List ℕ
+numbersOf (done r) = 0 ∷ fieldsOf (r .report)
+numbersOf (refused n) = n ∷ []
+numbersOf (exhausted x) = 14 ∷ toBits binary64 x ∷ []
+
+-- d rows, n points and max_segments; 20 refinements
+abbrev pub even : ℕ → ℕ → Axes → ℕ → ℕ → List ℕ → Request
+even d n axes eps segments points =
+    record {
+      lane = record {
+        d = d;
+        n = n;
+        axes = axes;
+        tolerance = uniform (ofBits binary64 eps);
+        spacing = Even;
+        parameters = [];
+        points = map (ofBits binary64) points;
+      };
+      limits = record { refinements = 20; segments = segments };
+    }
+
+-- points 0 0, tolerance 1, with two listed parameters
+abbrev pub spread : ℕ → ℕ → Request
+spread from to =
+    record {
+      lane = record {
+        d = 1;
+        n = 2;
+        axes = all;
+        tolerance = uniform (ofBits binary64 0x3ff0_0000_0000_0000);
+        spacing = Listed;
+        parameters = ofBits binary64 from ∷ ofBits binary64 to ∷ [];
+        points = ofBits binary64 0 ∷ ofBits binary64 0 ∷ [];
+      };
+      limits = record { refinements = 20; segments = 20000 };
+    }
+
+abbrev line : Request → List ℕ → Line
+line r l = record { given = numbersOf (buildOf r); told = l }
+
+unfoldable pub laneLines : List Line
+laneLines =
+    -- d 1, points 0 0, tolerance 1: accepted, 1 segment, 0 rows, 2 intervals, error 0
+    line (even 1 2 all 0x3ff0_0000_0000_0000 20000 (0 ∷ 0 ∷ [])) (0 ∷ 1 ∷ 0 ∷ 0 ∷ 0 ∷ 2 ∷ 0 ∷ [])
+    -- the same, max_segments 0: 8
+    ∷ line (even 1 2 all 0x3ff0_0000_0000_0000 0 (0 ∷ 0 ∷ [])) (8 ∷ [])
+    -- one waypoint; and one waypoint with empty axes: 1
+    ∷ line (even 1 1 all 0x3ff0_0000_0000_0000 20000 (0 ∷ [])) (1 ∷ [])
+    ∷ line (even 1 1 (listed []) 0x3ff0_0000_0000_0000 20000 (0 ∷ [])) (1 ∷ [])
+    -- axes empty: 2; axes 0 0: 3
+    ∷ line (even 1 2 (listed []) 0x3ff0_0000_0000_0000 20000 (0 ∷ 0 ∷ [])) (2 ∷ [])
+    ∷ line (even 1 2 (listed (0 ∷ 0 ∷ [])) 0x3ff0_0000_0000_0000 20000 (0 ∷ 0 ∷ [])) (3 ∷ [])
+    -- tolerance 0: 4; parameters 1 1: 5
+    ∷ line (even 1 2 all 0 20000 (0 ∷ 0 ∷ [])) (4 ∷ [])
+    ∷ line (spread 0x3ff0_0000_0000_0000 0x3ff0_0000_0000_0000) (5 ∷ [])
+    -- parameters -1.5e308, 1.5e308: 6
+    ∷ line (spread 0xffea_b36d_48e1_acf0 0x7fea_b36d_48e1_acf0) (6 ∷ [])
+    -- points -1.7e308, 1.7e308, tolerance 1e300: 7
+    ∷ line (even 1 2 all 0x7e37_e43c_8800_759c 20000 (0xffee_42d1_3077_3b76 ∷ 0x7fee_42d1_3077_3b76 ∷ [])) (7 ∷ [])
+    -- d 17: 18
+    ∷ line (even 17 2 all 0x3ff0_0000_0000_0000 20000 []) (18 ∷ [])
+    ∷ []
+
+-- all starred lines
+abbrev pub lines : List Line
+lines = laneLines ++ floatLines
