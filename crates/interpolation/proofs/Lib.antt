@@ -1,0 +1,5 @@
+-- Laws about the definitions.
+pub mod Knots
+pub mod Placing
+pub mod Turns
+pub mod Outcome
