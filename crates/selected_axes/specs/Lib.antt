@@ -1,0 +1,4 @@
+-- Definitions that the contracts cite.
+pub mod First
+pub mod Physical
+pub mod Selected
