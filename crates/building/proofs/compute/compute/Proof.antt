@@ -1,0 +1,148 @@
+-- `compute::compute` meets its contract.
+use mathlib.Core.Path.{_≡_, refl, sym, ap, subst, _∙_}
+use mathlib.Core.List.{List}
+use Prim.Native.Nat.{ℕ, _+_, _-_, _*_, _≤_, _<_}
+use native.Mathlib.Omega.{arith}
+use borrow.Author.Needs.{needs}
+use lib.ListN.{length, take, drop}
+use lib.Ieee.{Float}
+use Rattle.bspline.specs.Segments.{Polynomial}
+use Rattle.smoothing.specs.Answer.{Answer}
+use Rattle.smoothing.specs.Rows.{Task, Units, taskOf, gathered}
+use Rattle.smoothing.specs.Build.{selectedOf}
+use Rattle.refinement.specs.Memory.{Roomy, memoryAt, taskIn, sized}
+use Rattle.building.specs.Request.{limitsOf}
+use Rattle.selected_axes.specs.Selected.{unitsOf, endingOf}
+use Rattle.building.specs.Computed.{sOf, otherFrom, bothFrom, computedOf, smoothedAt}
+use Rattle.building.proofs.Computing.{stops, goes, both-done, both-refused, both-exhausted, ended-refused, ended-exhausted, refused-not-done, exhausted-not-done}
+use Rattle.building.proofs.compute.compute.Statement.{statement}
+use Rattle.building.proofs.compute.compute.Tie as tie
+
+abbrev units : tie.Start → Units
+units s = let a = s .args in unitsOf (a .points .now) (a .d) (a .p .samples) (take (a .p .axes) (a .axes .now)) (take (a .p .axes) (a .eps .now))
+
+abbrev task : tie.Start → Task
+task s = taskOf (s .args .p .samples) (s .args .p .axes) (sOf (s .args .spacing) (s .args .parameters .now) (s .args .p .samples)) (units s)
+
+room : (c : tie.Else1) → let s = c .before .before .before .before .before .before .before .before in Roomy (s .args .p) (length (c .before .before .before .prepare .last .0))
+room c =
+    let s = c .before .before .before .before .before .before .before .before in
+    let e : length (s .args .work .now) ≡ length (c .before .before .before .prepare .last .0) = omega (arith, c .before .before .work .given) in
+    subst (λ (n : ℕ). Roomy (s .args .p) n) e (s .pre .0 .0)
+
+returns : tie.Need-returns
+unfolding taskOf
+returns c =
+    let p = c .before .before .before .before in
+    let s = p .before .before .before .before .before in
+    let a = s .args in (
+      ended-refused _ _ (p .prepare .result) (c .ended .ensures)
+          ∙ sym (stops (a .spacing) (a .parameters .now) (limitsOf (a .limits)) (task s) (units s) _ (p .prepare .result) (p .prepare .ensures .0) (c .before .if1 .taken)),
+      λ e. absurd (refused-not-done _ _ (c .ended .ensures) e),
+    )
+
+smooth-requires : tie.Need-smooth-requires
+smooth-requires c κs =
+    let s = c .before .before .before .before .before .before .before .before .before in
+    let m = s .pre .0 in
+    let p = s .pre .1 .0 in
+    (room (c .before), m .3, m .4, p .0, p .2, p .3, p .5)
+
+-- the whole of it, once 6 and 7 let it pass and the selected axes have ended
+module _ (c : tie.After-smooth) where
+  abbrev begun : tie.Start
+  begun = c .before .before .before .before .before .before .before .before .before .before
+
+  abbrev other : Answer (Polynomial Float)
+  other =
+      let a = begun .args in
+      otherFrom (a .p .samples) (a .j) (sOf (a .spacing) (a .parameters .now) (a .p .samples)) (gathered (a .points .now) (a .d) (a .p .samples) (take (a .j) (a .rest .now)))
+
+  none : c .before .before .before .before .before .prepare .result ≡ 0
+  none = omega (arith, c .before .before .if1 .left)
+
+  passed : computedOf (begun .args .spacing) (begun .args .parameters .now) (limitsOf (begun .args .limits)) (task begun) (units begun) other
+      ≡ bothFrom (limitsOf (begun .args .limits)) (task begun) (units begun) other
+  unfolding taskOf
+  passed =
+      let p = c .before .before .before .before .before in
+      goes (begun .args .spacing) (begun .args .parameters .now) (limitsOf (begun .args .limits)) (task begun) (units begun) other (p .prepare .result) (p .prepare .ensures .0) none
+
+  smoothed : endingOf (c .smooth .result .ending) (smoothedAt (begun .args .p) (c .smooth .result) (c .smooth .last .0)) ≡ selectedOf (limitsOf (begun .args .limits)) (task begun) (units begun)
+  smoothed =
+      let p = c .before .before .before .before .before in
+      c .smooth .ensures .0 ∙ ap (λ (q : Task). selectedOf (limitsOf (begun .args .limits)) q (units begun)) (p .prepare .ensures .1 none)
+
+with-others-requires : tie.Need-with-others-requires
+with-others-requires c κs =
+    let r = c .before .before .before .before .before in
+    let s = begun r in
+    let m = s .pre .0 in
+    let p = s .pre .1 .0 in
+    let e = c .before .enum-told .given .1 in
+    let R = r .smooth .ensures .1 e in
+    let l : length (r .smooth .last .0) ≡ length (s .args .work .now) =
+    omega (arith, c .before .before .before .before .work2 .given, r .before .before .before .before .work .given) in (
+      (R .0, m .1, omega (arith, m .2, l), e),
+      ((p .0, p .1, p .2, p .3, p .4), s .pre .1 .1),
+    )
+
+returns-2 : tie.Need-returns-2
+returns-2 c =
+    let v = c .before .before in
+    let r = v .before .before .before .before .before .before in
+    let e = v .before .before .enum-told .given .1 in
+    let s = begun r in (
+      v .with-others .ensures .0
+          ∙ sym (passed r ∙ both-done (limitsOf (s .args .limits)) (task s) (units s) (other r) _ _ (smoothed r) e),
+      λ z.
+          let k = v .with-others .ensures .1 z in
+          let R = r .smooth .ensures .1 e in
+          let l : length (r .smooth .last .0) ≡ length (v .with-others .last .0) = omega (arith, c .before .work3 .given) in (
+            subst (λ (m : ℕ). Roomy (sized (s .args .p) m) (length (v .with-others .last .0))) (sym (k .0)) (subst (λ (n : ℕ). Roomy (sized (s .args .p) (r .smooth .result .count)) n) l (R .0)),
+            omega (arith, k .0, R .1),
+            k .1,
+          ),
+    )
+
+returns-3 : tie.Need-returns-3
+returns-3 c =
+    let r = c .before .before .before .before .before .before in
+    let e = c .before .before .ending .given .1 in
+    let s = begun r in (
+      ended-refused _ _ _ (c .ended2 .ensures)
+          ∙ sym (passed r ∙ both-refused (limitsOf (s .args .limits)) (task s) (units s) (other r) _ _ (smoothed r) _ e),
+      λ z. absurd (refused-not-done _ _ (c .ended2 .ensures) z),
+    )
+
+returns-4 : tie.Need-returns-4
+returns-4 c =
+    let r = c .before .before .before .before .before .before in
+    let e = c .before .before .ending2 .given .1 in
+    let s = begun r in (
+      ended-exhausted _ _ _ (c .ended3 .ensures)
+          ∙ sym (passed r ∙ both-exhausted (limitsOf (s .args .limits)) (task s) (units s) (other r) _ _ (smoothed r) _ e),
+      λ z. absurd (exhausted-not-done _ _ (c .ended3 .ensures) z),
+    )
+
+pub compute-spec : {M : Type 1} → statement M
+compute-spec =
+    tie.close
+    (tie.spec
+    (λ c κs. search needs)
+    (λ c κs. search needs)
+    (λ c. search needs)
+    returns
+    smooth-requires
+    (λ c. search needs)
+    with-others-requires
+    (λ c. search needs)
+    (λ c κs. search needs)
+    (λ c. search needs)
+    (λ c κs. search needs)
+    (λ c. search needs)
+    returns-2
+    (λ c. search needs)
+    returns-3
+    (λ c. search needs)
+    returns-4)

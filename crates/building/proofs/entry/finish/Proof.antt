@@ -1,0 +1,185 @@
+-- `entry::finish` meets its contract.
+use mathlib.Core.Path.{_≡_, refl, sym, ap, subst, _∙_}
+use mathlib.Core.List.{List}
+use Prim.Native.Nat.{ℕ, _+_, _-_, _*_, _≤_, _<_, max}
+use native.Mathlib.Omega.{arith}
+use native.Mathlib.Nat.{mul-le-mul}
+use borrow.Author.Needs.{needs}
+use lib.ListN.{length}
+use lib.Ieee.{Float}
+use Rattle.smoothing.specs.Answer.{Answer}
+use Rattle.smoothing.specs.Answer.Answer.{done, refused, exhausted}
+use Rattle.smoothing.specs.Request.{Lane, Limits, axisCount}
+use Rattle.smoothing.specs.Rows.{otherAxes}
+use Rattle.smoothing.specs.Build.{Result, checkedOf}
+use Rattle.refinement.specs.declared.plan.Plan.{Plan}
+use Rattle.refinement.specs.Memory.{Roomy, cellsOf, sized}
+use Rattle.building.specs.Request.{limitsOf, laneOf}
+use Rattle.building.specs.Outcome.{reported, curveAfter, Results, results, resultsAfter}
+use Rattle.building.specs.Computed.{Both, both, selectedAt, otherAt}
+use Rattle.building.specs.Answered.{checkedBoth, planOf, Placed}
+use Rattle.building.proofs.Computing.{ended-done, ended-refused, ended-exhausted}
+use Rattle.building.proofs.Passing.{work-fits}
+use Rattle.building.proofs.Finished.{both-done, both-refused, both-exhausted, both-known, x, report-is, curve-is, results-are}
+use Rattle.building.proofs.entry.finish.Statement.{statement}
+use Rattle.building.proofs.entry.finish.Tie as tie
+
+abbrev lane : tie.Start → Lane
+lane s =
+    let a = s .args in
+    laneOf (a .d) (a .n) (a .axes) (a .axis-list .now) (a .tolerance) (a .tolerance-list .now) (a .spacing) (a .parameters .now) (a .points .now)
+
+-- the run is done
+module _ (c : tie.After-enum-told) where
+  abbrev run : tie.After-checked
+  run = c .before .before .before .before .before
+
+  abbrev after : List Float
+  after = run .checked .last .1 .1 .1 .1 .1 .1 .1 .1 .1 .1 .0
+
+  abbrev begun : tie.Start
+  begun = run .before .before .before .before .before .before .before .before .before .before .before .before
+
+  abbrev m : Limits
+  m = limitsOf (begun .args .limits)
+
+  places : Placed (lane begun) m (run .checked .result) (length after)
+  places = run .checked .ensures .places (c .enum-told .given .1)
+
+  long : length after ≡ length (begun .args .work .now)
+  long = omega (arith, c .before .before .before .before .work .given)
+
+  sum : run .checked .result .j + run .checked .result .k ≡ begun .args .d
+  sum = omega (arith, places .k-is, places .j-is, places .all-axes)
+
+  fits : (e : ℕ) → e ≡ max (begun .args .n) (begun .args .limits .segments) + 16
+      → 14 * e + 10 * (e * run .checked .result .k) + (10 * e + 8 * (e * run .checked .result .j)) ≤ length after
+  fits e h =
+      work-fits e (run .checked .result .k) (run .checked .result .j) (begun .args .d) (length after) sum
+      (rw (h, long) (begun .pre .0 .work-fits))
+
+  both-fit : let e = max (begun .args .n) (begun .args .limits .segments) + 16 in
+      14 * e + 10 * (e * axisCount (lane begun)) + (10 * e + 8 * (e * length (otherAxes (lane begun)))) ≤ length after
+  both-fit =
+      work-fits (max (begun .args .n) (begun .args .limits .segments) + 16) (axisCount (lane begun)) (length (otherAxes (lane begun))) (begun .args .d) (length after) (places .all-axes)
+      (rw long (begun .pre .0 .work-fits))
+
+  told : checkedOf (lane begun) m ≡ done (x (lane begun) m (run .checked .result) after places)
+  told = both-done (lane begun) m _ _ (sym (run .checked .ensures .is) ∙ ended-done _ _ (c .enum-told .given .1))
+
+write-results-requires : tie.Need-write-results-requires
+write-results-requires c κs =
+    let t = c .before .before .before .before .before .before .before in
+    let s = begun t in
+    let P = places t in
+    let r = run t .checked .result in
+    let e = c .before .before .before .before .before .before .room-of in
+    let F = s .pre .1 in
+    let k : r .k ≤ s .args .d = omega (arith, sum t) in
+    let j : r .j ≤ s .args .d = omega (arith, sum t) in
+    let two = P .roomy .six in
+    let rows : (r .computed .count - 5) * (6 * r .k) ≤ s .args .limits .segments * (6 * s .args .d) = mul-le-mul (omega (arith, P .few)) (omega (arith, k)) in
+    let others : r .computed .«other_segments» * (6 * r .j) ≤ s .args .n * (6 * s .args .d) = mul-le-mul (omega (arith, P .others-few)) (omega (arith, j)) in
+    record {
+      roomy = subst (λ (p : Plan). Roomy p (length (after t))) (λ i. record { axes = sym (P .k-is) i; samples = s .args .n; room = sym (e .ensures) i; count = r .computed .count }) (P .roomy);
+      others-fit = fits t (e .result) (e .ensures);
+      others-few = omega (arith, j, s .pre .0 .d-most);
+      waypoints-fit = omega (arith, e .ensures);
+      segments-few = P .others-few;
+      breaks = omega (arith, F .breaks, P .few, two);
+      coefficients = omega (arith, rows, F .coefficients);
+      other-breaks = F .other-breaks;
+      other-coefficients = omega (arith, others, F .other-coefficients);
+      errors = omega (arith, k, F .errors);
+    }
+
+accept-requires : tie.Need-accept-requires
+accept-requires c κs =
+    let t = c .before .before .before .before .before .before .before .before .before .before .before .before .before .before .before .before .before .before in
+    let P = places t in
+    (P .two, begun t .pre .0 .n-most, omega (arith, P .roomy .six), P .listed)
+
+refuse-requires : tie.Need-refuse-requires
+refuse-requires c κs =
+    let g = c .before .before .before .before .before .before in
+    let s = g .before .before .before .before .before .before .before .before .before .before .before .before in
+    let k = both-known (lane s) (limitsOf (s .args .limits)) _ (sym (g .checked .ensures .is)
+    ∙ ended-refused _ _ _ (c .before .ending .given .1)) in
+    (k .0, omega (arith, k .1), k .2)
+
+same-length : tie.Need-same-length
+same-length c = omega (arith, long (c .before .before .before .before .before .before .before .before .before .before .before .before .before .before .before .before .before .before .before))
+
+returns : tie.Need-returns
+unfolding reported curveAfter
+returns c =
+    let t = c .before .before .before .before .before .before .before .before .before .before .before .before .before .before .before .before .before .before .before in
+    let s = begun t in
+    let P = places t in
+    let l = lane s in
+    let r = run t .checked .result in
+    let w = c .before .before .before .before .before .before .before .before .before .before .before .write-results in
+    let e = c .before .before .before .before .before .before .before .before .before .before .before .before .before .before .before .before .before .before .room-of in
+    let g = both-fit t in (
+      c .accept .ensures .0 ∙ ap done (report-is l (m t) r (after t) P g) ∙ ap reported (sym (told t)),
+      (
+        c .accept .ensures .1 ∙ curve-is l (m t) r (after t) P g (s .args .mode)
+            ∙ ap (curveAfter (s .args .mode) (s .args .d)) (sym (told t)),
+        w .ensures
+            ∙ results-are l (m t) r (after t) P _ _ _ (λ i. record { axes = P .k-is i; samples = s .args .n; room = e .ensures i; count = r .computed .count }) (P .j-is)
+            ∙ ap (λ (z : Answer Result). resultsAfter z (results (s .args .breaks .now) (s .args .coefficients .now) (s .args .other-breaks .now) (s .args .other-coefficients .now) (s .args .errors .now))) (sym (told t)),
+      ),
+    )
+
+returns-2 : tie.Need-returns-2
+unfolding reported curveAfter resultsAfter
+returns-2 c =
+    let g = c .before .before .before .before .before .before .before in
+    let s = g .before .before .before .before .before .before .before .before .before .before .before .before in
+    let l = lane s in
+    let h : checkedOf l (limitsOf (s .args .limits)) ≡ refused _ = both-refused l (limitsOf (s .args .limits)) _ (sym (g .checked .ensures .is) ∙ ended-refused _ _ _ (c .before .before .ending .given .1)) in (
+      c .refuse .ensures .0 ∙ ap reported (sym h),
+      (
+        c .refuse .ensures .1 ∙ ap (curveAfter (s .args .mode) (s .args .d)) (sym h),
+        ap (λ (z : Answer Result). resultsAfter z (results (s .args .breaks .now) (s .args .coefficients .now) (s .args .other-breaks .now) (s .args .other-coefficients .now) (s .args .errors .now))) (sym h),
+      ),
+    )
+
+returns-3 : tie.Need-returns-3
+unfolding reported curveAfter resultsAfter
+returns-3 c =
+    let g = c .before .before .before .before .before .before .before in
+    let s = g .before .before .before .before .before .before .before .before .before .before .before .before in
+    let l = lane s in
+    let h : checkedOf l (limitsOf (s .args .limits)) ≡ exhausted _ = both-exhausted l (limitsOf (s .args .limits)) _ (sym (g .checked .ensures .is) ∙ ended-exhausted _ _ _ (c .before .before .ending2 .given .1)) in (
+      ap reported (sym h),
+      (
+        c .no-curve .ensures ∙ ap (curveAfter (s .args .mode) (s .args .d)) (sym h),
+        ap (λ (z : Answer Result). resultsAfter z (results (s .args .breaks .now) (s .args .coefficients .now) (s .args .other-breaks .now) (s .args .other-coefficients .now) (s .args .errors .now))) (sym h),
+      ),
+    )
+
+pub finish-spec : {M : Type 1} → statement M
+finish-spec =
+    tie.close
+    (tie.spec
+    (λ c κs. search needs)
+    (λ c. search needs)
+    (λ c κs. search needs)
+    write-results-requires
+    accept-requires
+    (λ c. search needs)
+    refuse-requires
+    (λ c. search needs)
+    (λ c κs. search needs)
+    same-length
+    (λ c. search needs)
+    (λ c. search needs)
+    (λ c. search needs)
+    (λ c. search needs)
+    (λ c. search needs)
+    returns
+    (λ c. search needs)
+    returns-2
+    (λ c. search needs)
+    returns-3)

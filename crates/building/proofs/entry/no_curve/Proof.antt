@@ -1,0 +1,12 @@
+-- `entry::no_curve` meets its contract.
+use mathlib.Core.Path.{refl}
+use Rattle.building.specs.Outcome.{noCurve}
+use Rattle.building.proofs.entry.no_curve.Statement.{statement}
+use Rattle.building.proofs.entry.no_curve.Tie as tie
+
+returns : tie.Need-returns
+unfolding noCurve
+returns c = refl
+
+pub no-curve-spec : {M : Type 1} → statement M
+no-curve-spec = tie.close (tie.spec returns)

@@ -1,0 +1,5 @@
+pub mod Request
+pub mod Checks
+pub mod Outcome
+pub mod Computed
+pub mod Answered
