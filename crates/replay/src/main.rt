@@ -1,21 +1,22 @@
 // The fixed list of the Rust's answers, replayed: reads cases from standard input, calls the proved
 // functions, and writes a line for each case. oracle/README.md has the form of a list and of the
-// lines. A module's cases stand in a file of their own here, with one function for each kind.
-mod audits;
-mod cases;
-mod certificates;
-mod fits;
-mod knots;
-mod leaves;
-mod list;
-mod output;
-mod queries;
-mod splines;
-mod systems;
-
-use list::Head;
-use list::Status;
-use output::Line;
+// lines. A module's cases stand in a file of a library `replay_..`, with one function for each kind.
+use listing::list;
+use listing::list::Head;
+use listing::list::Status;
+use listing::output;
+use listing::output::Line;
+use listing::turn;
+use listing::turn::Turn;
+use replay_curves::audits;
+use replay_curves::certificates;
+use replay_curves::queries;
+use replay_leaves::cases;
+use replay_leaves::leaves;
+use replay_splines::knots;
+use replay_splines::splines;
+use replay_systems::fits;
+use replay_systems::systems;
 
 // The line of one case.
 fn answer(head: Head, cells: &[f64], work: &mut [f64], out: &mut [u8], at: usize) -> Line {
@@ -41,20 +42,6 @@ fn answer(head: Head, cells: &[f64], work: &mut [f64], out: &mut [u8], at: usize
     }
 }
 
-// The list is damaged: one line that says at which byte the case that does not read starts.
-fn damaged(out: &mut [u8], at: usize, place: u64) {
-    let at = output::text(out, at, b"damaged at byte");
-    let at = output::whole(out, at, place);
-    output::close(out, at);
-}
-
-// Where the next byte of output goes, the byte of the list that comes next, and whether it goes on.
-struct Turn {
-    at: usize,
-    place: u64,
-    more: bool,
-}
-
 // Reads one case, which starts at the byte `place`, and answers it.
 fn step(
     bytes: &mut [u8],
@@ -64,42 +51,20 @@ fn step(
     at: usize,
     place: u64,
 ) -> Turn {
-    let stopped = Turn {
-        at,
-        place,
-        more: false,
-    };
-    let head = list::next_case(bytes, cells.len());
+    let head = list::next_case(bytes, cells);
     let status = head.status;
     let n = head.cells;
-    if let Status::End = status {
-        output::flush(out, at);
-        return stopped;
+    if let Status::Case = status {
+        let line = answer(head, &cells[0..n], work, out, at);
+        return turn::answered(out, line, place, head);
     }
-    if let Status::Damaged = status {
-        damaged(out, at, place);
-        return stopped;
-    }
-    if !list::fill(bytes, &mut cells[..n]) {
-        damaged(out, at, place);
-        return stopped;
-    }
-    let line = answer(head, &cells[..n], work, out, at);
-    if !line.good {
-        damaged(out, line.at, place);
-        return stopped;
-    }
-    Turn {
-        at: line.at,
-        place: list::after(place, head.count, n),
-        more: true,
-    }
+    turn::stopped(out, at, place, status)
 }
 
 // Reads and answers cases until the list ends, at most a million of them.
 fn run(bytes: &mut [u8], cells: &mut [f64], work: &mut [f64], out: &mut [u8]) {
     if !list::opens(bytes) {
-        damaged(out, 0, 0);
+        output::damaged(out, 0, 0);
         return;
     }
     let mut at = 0;
@@ -114,7 +79,7 @@ fn run(bytes: &mut [u8], cells: &mut [f64], work: &mut [f64], out: &mut [u8]) {
         }
         left -= 1;
     }
-    damaged(out, at, place);
+    output::damaged(out, at, place);
 }
 
 fn main() {

@@ -1,2 +1,0 @@
--- Laws about the cases.
-mod Sizes

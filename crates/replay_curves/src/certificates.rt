@@ -1,0 +1,183 @@
+// Cases of crate `certificate`.
+ghost use Prim.Native.Nat.{_≤_};
+ghost use lib.ListN.{length};
+use certificate::certify::Certificate;
+use certificate::certify::Refusal;
+use curve::Curve;
+use curve::Mode;
+use listing::axes;
+use listing::list::Head;
+use listing::output;
+use listing::output::Line;
+use request::parameters::Spacing;
+
+// The parts of a case's cells after `start` and `end`: where the first begins, and where each of the
+// breaks, coefficients, other breaks, other coefficients and points ends; the parameters follow. Where
+// the counts do not fit the cells, `good` says so.
+struct Parts {
+    good: bool,
+    from: usize,
+    breaks: usize,
+    coefficients: usize,
+    other_breaks: usize,
+    other_coefficients: usize,
+    points: usize,
+}
+
+// The parts of `count` cells; their own counts are whole numbers 9 to 14.
+fn find_parts(wholes: &[u64; 16], count: usize) -> Parts
+    ensures { λ r. ⌜ (r .from ≤ r .breaks) × (r .breaks ≤ r .coefficients) × (r .coefficients ≤ r .«other_breaks») × (r .«other_breaks» ≤ r .«other_coefficients») × (r .«other_coefficients» ≤ r .points) × (r .points ≤ count) ⌝ }
+{
+    let bad = Parts {
+        good: false,
+        from: 0,
+        breaks: 0,
+        coefficients: 0,
+        other_breaks: 0,
+        other_coefficients: 0,
+        points: 0,
+    };
+    if count < 2 {
+        return bad;
+    }
+    let n = wholes[9] as usize;
+    if count - 2 < n {
+        return bad;
+    }
+    let breaks = 2 + n;
+    let n = wholes[10] as usize;
+    if count - breaks < n {
+        return bad;
+    }
+    let coefficients = breaks + n;
+    let n = wholes[11] as usize;
+    if count - coefficients < n {
+        return bad;
+    }
+    let other_breaks = coefficients + n;
+    let n = wholes[12] as usize;
+    if count - other_breaks < n {
+        return bad;
+    }
+    let other_coefficients = other_breaks + n;
+    let n = wholes[13] as usize;
+    if count - other_coefficients < n {
+        return bad;
+    }
+    let points = other_coefficients + n;
+    let n = wholes[14] as usize;
+    if count - points != n {
+        return bad;
+    }
+    Parts {
+        good: true,
+        from: 2,
+        breaks,
+        coefficients,
+        other_breaks,
+        other_coefficients,
+        points,
+    }
+}
+
+// Document 01's number of a refusal.
+fn number(refusal: Refusal) -> u64 {
+    match refusal {
+        Refusal::AboveDomain => 18,
+        Refusal::PointCells => 20,
+        Refusal::BadPoints => 1,
+        Refusal::BadParameters => 5,
+        Refusal::BadRange => 6,
+        Refusal::Malformed => 24,
+        Refusal::NotSelected => 3,
+    }
+}
+
+// The line of a certificate.
+fn line(certificate: Certificate, out: &mut [u8], at: usize) -> Line {
+    let next = output::text(out, at, b"certify");
+    match certificate {
+        Certificate::Figure(x) => {
+            let next = output::text(out, next, b" figure");
+            let next = output::cell(out, next, x);
+            output::end(out, next)
+        }
+        Certificate::None => {
+            let next = output::text(out, next, b" none");
+            output::end(out, next)
+        }
+        Certificate::Refused(refusal) => output::refused(out, next, number(refusal)),
+    }
+}
+
+// Parameters are even in mode 0.
+fn spacing_of(mode: u64) -> Spacing {
+    if mode == 0 {
+        return Spacing::Even;
+    }
+    Spacing::Listed
+}
+
+// The answer for a curve whose slices, points and parameters are these parts of the cells.
+fn answer(
+    curve: Curve,
+    cells: &[f64],
+    p: Parts,
+    n: usize,
+    spacing: Spacing,
+    axis: usize,
+) -> Certificate
+    requires { ⌜ (p .from ≤ p .breaks) × (p .breaks ≤ p .coefficients) × (p .coefficients ≤ p .«other_breaks») × (p .«other_breaks» ≤ p .«other_coefficients») × (p .«other_coefficients» ≤ p .points) × (p .points ≤ length (now cells)) ⌝ }
+{
+    let a = p.from;
+    let b = p.breaks;
+    let c = p.coefficients;
+    let e = p.other_breaks;
+    let f = p.other_coefficients;
+    let g = p.points;
+    certificate::certify::certify(
+        curve,
+        &cells[a..b],
+        &cells[b..c],
+        &cells[c..e],
+        &cells[e..f],
+        &cells[f..g],
+        n,
+        spacing,
+        &cells[g..],
+        axis,
+    )
+}
+
+// Kind 90, whole numbers d, k, segments of both sets, n, four of axes, six counts of cells, and the
+// axis with the parameter mode: the certified figure.
+pub fn certify(head: Head, cells: &[f64], out: &mut [u8], at: usize) -> Line {
+    let wholes = head.wholes;
+    let p = find_parts(&wholes, cells.len());
+    if !p.good {
+        return output::unanswered(at);
+    }
+    if cells.len() < 2 {
+        return output::unanswered(at);
+    }
+    let axis = wholes[15] % 256;
+    let mode = wholes[15] / 256;
+    if 1 < mode {
+        return output::unanswered(at);
+    }
+    let found = axes::axes_of(&wholes, 5);
+    let axes = found.listed;
+    let curve = Curve {
+        d: wholes[0] as usize,
+        k: wholes[1] as usize,
+        axes,
+        start: cells[0],
+        end: cells[1],
+        mode: Mode::Error,
+        segments: wholes[2] as usize,
+        other_segments: wholes[3] as usize,
+    };
+    let spacing = spacing_of(mode);
+    let certificate = answer(curve, cells, p, wholes[4] as usize, spacing, axis as usize);
+    line(certificate, out, at)
+}

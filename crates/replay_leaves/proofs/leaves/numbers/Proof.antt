@@ -1,0 +1,32 @@
+-- `leaves::numbers` is safe and ends: i rises to the count of cells.
+use mathlib.Core.Path.{_≡_}
+use Prim.Native.Nat.{_-_}
+use native.Mathlib.Omega.{arith}
+use lib.ListN.{length}
+use Rattle.replay_leaves.proofs.leaves.numbers.Statement.{statement}
+use Rattle.replay_leaves.proofs.leaves.numbers.Tie as tie
+
+abbrev Inv-loop : tie.InvT-loop
+Inv-loop kind cells out₀ at next₀ i₀ out next i = length out ≡ length out₀
+
+abbrev μ-loop : tie.MeasureT-loop
+μ-loop kind cells out₀ at next₀ i₀ out next i = length cells - i
+
+pub numbers-spec : {M : Type 1} → statement M
+numbers-spec =
+    tie.close
+    (tie.spec
+    Inv-loop
+    μ-loop
+    (λ c κs. omega arith)
+    (λ c. omega arith)
+    (λ c. omega arith)
+    (λ c. omega arith)
+    (λ c κs. omega arith)
+    (λ c κs. omega arith)
+    (λ c. omega arith)
+    (λ c. omega arith)
+    (λ c. omega arith)
+    (λ c κs. omega arith)
+    (λ c. omega arith)
+    (λ c. tt))

@@ -1,0 +1,3 @@
+// Cases of the list that `replay` answers: crates `window` and `float`.
+pub mod cases;
+pub mod leaves;

@@ -1,0 +1,36 @@
+-- `knots::regions` is safe.
+use native.Mathlib.Omega.{arith}
+use borrow.Author.Needs.{needs}
+use lib.ListN.{length-take}
+use Rattle.replay_splines.proofs.knots.regions.Statement.{statement}
+use Rattle.replay_splines.proofs.knots.regions.Tie as tie
+
+slice-aggregate-t : tie.Need-slice-aggregate-t
+slice-aggregate-t c = simp length-take (omega arith)
+
+pub regions-spec : {M : Type 1} → statement M
+regions-spec =
+    tie.close
+    (tie.spec
+    (λ c. search needs)
+    (λ c. search needs)
+    (λ c κs. search needs)
+    (λ c. search needs)
+    (λ c κs. search needs)
+    (λ c. search needs)
+    (λ c. search needs)
+    (λ c κs. search needs)
+    (λ c. search needs)
+    slice-aggregate-t
+    (λ c. search needs)
+    (λ c. search needs)
+    (λ c. search needs)
+    (λ c. search needs)
+    (λ c. search needs)
+    (λ c κs. search needs)
+    (λ c κs. search needs)
+    (λ c κs. search needs)
+    (λ c κs. search needs)
+    (λ c κs. search needs)
+    (λ c. search needs)
+    (λ c. search needs))

@@ -1,0 +1,3 @@
+// Cases of the list that `replay` answers: crates `bspline`, `sorting` and `seed`.
+pub mod knots;
+pub mod splines;
