@@ -1,5 +1,5 @@
 #!/usr/bin/env bash
-# All tests: the layout, the unchanged Rust with the stored list of its answers, and last the
+# All tests: the layout, the unchanged Rust with the stored lists of its answers, and last the
 # toolchain's gate, so that the last line is `N passed, 0 failed`.
 set -euo pipefail
 cd "$(dirname "$0")"
@@ -14,7 +14,7 @@ command -v rt > /dev/null || fail "rt, the command of the Rattle toolchain, is n
 echo "== layout of the files"
 rt fmt --check || fail "a file is not in the layout: run 'rt fmt'"
 
-echo "== the unchanged Rust, and the stored list of its answers"
+echo "== the unchanged Rust, and the stored lists of its answers"
 source=${SMOOTHING_RS:-../shared/docs/src/path/smoothing.rs}
 if command -v cargo > /dev/null && [ -f "$source" ]; then
     SMOOTHING_RS=$(realpath "$source")
@@ -25,12 +25,13 @@ if command -v cargo > /dev/null && [ -f "$source" ]; then
         cat "$scratch/log" >&2
         fail "the oracle's own tests fail"
     }
-    oracle/store.sh "$scratch" || fail "the oracle does not make the list of oracle/lists.txt"
-    for name in stdin stdout; do
-        cmp "$scratch/$name" "crates/replay/$name" ||
-            fail "crates/replay/$name is not what the oracle makes of oracle/lists.txt: run oracle/store.sh"
+    oracle/store.sh "$scratch" || fail "the oracle does not make the lists of oracle/lists.txt and oracle/builds.txt"
+    for name in replay/stdin replay/stdout replay_builds/stdin replay_builds/stdout; do
+        cmp "$scratch/$name" "crates/$name" ||
+            fail "crates/$name is not what the oracle makes of its recipe: run oracle/store.sh"
     done
-    echo "the oracle's tests pass, and the stored list is the oracle's: $(wc -l < crates/replay/stdout) lines"
+    lines=$(cat crates/replay/stdout crates/replay_builds/stdout | wc -l)
+    echo "the oracle's tests pass, and the stored lists are the oracle's: $lines lines"
     if command -v python3 > /dev/null; then
         grep '^certify' oracle/lists.txt > "$scratch/recipe"
         oracle/target/release/oracle list "$scratch/recipe" > "$scratch/list"
@@ -44,7 +45,7 @@ if command -v cargo > /dev/null && [ -f "$source" ]; then
         echo "skipped: python3 is not at hand; the certified figures are not computed a second time"
     fi
 else
-    echo "skipped: cargo or $source is not at hand; the stored list is replayed as it is"
+    echo "skipped: cargo or $source is not at hand; the stored lists are replayed as they are"
 fi
 
 echo "== proofs, must-fail edits and programs"

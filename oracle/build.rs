@@ -1,5 +1,6 @@
 //! Writes the text that is compiled: the source file, byte for byte, with
 //! `src/appendix.rs` after it, and a one-line file that loads it as a module.
+//! `../bench` builds with the same text, and one appendix more.
 
 use std::path::{Path, PathBuf};
 use std::{env, fs};
@@ -7,14 +8,21 @@ use std::{env, fs};
 /// The source file's place, relative to this folder, unless `SMOOTHING_RS` names another.
 const DEFAULT_SOURCE: &str = "../../shared/docs/src/path/smoothing.rs";
 
-pub fn main() {
+fn main() {
+    compile(&["src/appendix.rs"]);
+}
+
+/// The source file with these files after it.
+pub fn compile(appendices: &[&str]) {
     let here = PathBuf::from(env::var("CARGO_MANIFEST_DIR").unwrap());
     let out = PathBuf::from(env::var("OUT_DIR").unwrap());
     let source = here.join(env::var("SMOOTHING_RS").unwrap_or(DEFAULT_SOURCE.to_string()));
-    let appendix = here.join("src/appendix.rs");
 
     let mut text = read(&source);
-    text.extend(read(&appendix));
+    for appendix in appendices {
+        text.extend(read(&here.join(appendix)));
+        println!("cargo::rerun-if-changed={appendix}");
+    }
     let compiled = out.join("smoothing.rs");
     fs::write(&compiled, text).unwrap();
     // An included file cannot begin with `//!`, and `#[path]` takes a literal only.
@@ -30,7 +38,6 @@ pub fn main() {
     println!("cargo::rustc-env=SMOOTHING_COMPILED={}", compiled.display());
     println!("cargo::rerun-if-env-changed=SMOOTHING_RS");
     println!("cargo::rerun-if-changed={}", source.display());
-    println!("cargo::rerun-if-changed={}", appendix.display());
 }
 
 fn read(file: &Path) -> Vec<u8> {

@@ -328,20 +328,35 @@ fn regions(mut input: Input) -> Result<Answer, String> {
 }
 
 fn build(input: Input) -> Result<Answer, String> {
-    let result = reach::build(&request(input)?).map(|built| {
+    let request = request(input)?;
+    if let Some(number) = request.refused_before_source() {
+        return Ok(Answer::Refused(number.into()));
+    }
+    let result = reach::build(&request).map(|built| {
         let curve = built.curve;
-        let mut cells = built.max_errors;
+        let whole = [&built.counts[..], &curve.axes].concat();
+        let mut cells = vec![curve.start, curve.end];
+        cells.extend(built.max_errors);
         for p in [Some(curve.selected), curve.other].into_iter().flatten() {
             cells.extend(p.breaks);
             cells.extend(p.coefficients);
         }
-        (built.counts.to_vec(), cells)
+        (whole, cells)
     });
     Ok(Answer::of(result))
 }
 
-/// The request of a `build` case.
+/// The request of a `build` case. Without the last three whole numbers the lent slices have
+/// document 01's room, and the point cells are d times n.
 fn request(mut input: Input) -> Result<Request, String> {
+    let whole: [usize; 16] = match input.whole::<13>() {
+        Ok(w) => std::array::from_fn(|i| match i {
+            0..13 => w[i],
+            15 => w[0].saturating_mul(w[1]),
+            _ => 0,
+        }),
+        Err(_) => input.whole()?,
+    };
     let [
         d,
         n,
@@ -356,14 +371,17 @@ fn request(mut input: Input) -> Result<Request, String> {
         w1,
         w2,
         w3,
-    ] = input.whole()?;
+        m0,
+        m1,
+        points,
+    ] = whole;
     require(k <= ALL_AXES, || format!("{k} axes"))?;
     let tolerance = match (tolerance_mode, input.cells(tolerances)?) {
         (0, [x]) => SmoothingTolerance::Uniform(*x),
         (1, list) => SmoothingTolerance::PerAxis(list.to_vec()),
         _ => return Err("tolerance mode or count".to_string()),
     };
-    let points = input.cells(d * n)?.to_vec();
+    let points = input.cells(points)?.to_vec();
     let parameters = match (parameter_mode, input.cells(parameters)?) {
         (0, []) => None,
         (1, list) => Some(list.to_vec()),
@@ -378,11 +396,13 @@ fn request(mut input: Input) -> Result<Request, String> {
         max_segments,
         out_of_range_mode: OutOfRangeMode::Error,
     };
+    let more = unpack(&[m0, m1, 0, 0], 6);
     Ok(Request {
         d,
         n,
         points,
         config,
+        more: std::array::from_fn(|i| more[i] as u8 as i8),
     })
 }
 
@@ -449,9 +469,6 @@ fn certify(mut input: Input) -> Result<Answer, String> {
     Ok(match question.certify() {
         Certificate::Figure(figure) => Answer::Figure(Some(figure)),
         Certificate::None => Answer::Figure(None),
-        Certificate::Refused(number) => Answer::Refused(Refusal {
-            number,
-            ratio: None,
-        }),
+        Certificate::Refused(number) => Answer::Refused(number.into()),
     })
 }

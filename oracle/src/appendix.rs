@@ -117,6 +117,12 @@ pub(crate) mod reach {
         super::regions(&knots(t), x)
     }
 
+    /// The windows of a case of kind `regions`.
+    pub(crate) fn regions_of(case: &Case) -> Vec<(usize, usize)> {
+        let (t, x) = case.cells.split_at(case.whole[0] as usize);
+        regions(t, x)
+    }
+
     pub(crate) fn build(request: &Request) -> Result<Built, PathError> {
         let points = DMatrixView::from_slice(&request.points, request.d, request.n);
         let built = SmoothedSpline::build(points, &request.config)?;

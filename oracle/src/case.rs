@@ -261,7 +261,13 @@ impl Case {
             config.max_refinements,
             config.max_segments,
         ];
-        let whole = [&counts[..], &pack(axes.unwrap_or(&[]))].concat();
+        let mut whole = [&counts[..], &pack(axes.unwrap_or(&[]))].concat();
+        let points = request.points.len();
+        if request.more != [0; 6] || points != request.d * request.n {
+            let more = request.more.map(|v| usize::from(v as u8));
+            whole.extend(&pack(&more)[..2]);
+            whole.push(points);
+        }
         Self::new(
             Kind::Build,
             &whole,

@@ -38,6 +38,16 @@ const MESSAGES: [(usize, &str); 16] = [
 /// digits that read back as the same number.
 const MESSAGE_14: &str = "refinement limit reached; error/tolerance=";
 
+impl From<usize> for Refusal {
+    /// A refusal that carries nothing.
+    fn from(number: usize) -> Self {
+        Self {
+            number,
+            ratio: None,
+        }
+    }
+}
+
 impl From<PathError> for Refusal {
     fn from(PathError::Smoothing { message }: PathError) -> Self {
         if let Some(ratio) = message.strip_prefix(MESSAGE_14) {
@@ -47,11 +57,9 @@ impl From<PathError> for Refusal {
             };
         }
         let known = MESSAGES.iter().find(|m| m.1 == message);
-        Self {
-            number: known
-                .unwrap_or_else(|| panic!("unknown message {message:?}"))
-                .0,
-            ratio: None,
-        }
+        known
+            .unwrap_or_else(|| panic!("unknown message {message:?}"))
+            .0
+            .into()
     }
 }

@@ -11,6 +11,8 @@ pub struct Request {
     pub n: usize,
     pub points: Vec<f64>,
     pub config: SmoothingConfig,
+    /// By how many cells each lent slice is longer than `room` asks, below 0 where it is shorter.
+    pub more: [i8; 6],
 }
 
 /// Waypoints times refinements are kept below this: the source takes long beyond.
@@ -33,6 +35,7 @@ impl Request {
                 max_segments: 20_000,
                 out_of_range_mode: OutOfRangeMode::Error,
             },
+            more: [0; 6],
         }
     }
 
@@ -43,9 +46,41 @@ impl Request {
         request
     }
 
-    pub fn with_parameters(mut self, list: &[f64]) -> Self {
-        self.config.parameters = Some(list.to_vec());
+    pub fn with(mut self, change: impl Fn(&mut Self)) -> Self {
+        change(&mut self);
         self
+    }
+
+    pub fn with_parameters(self, list: &[f64]) -> Self {
+        self.with(|q| q.config.parameters = Some(list.to_vec()))
+    }
+
+    /// Document 01's room in the lent slices: work, breaks, coefficients, other breaks, other
+    /// coefficients, errors.
+    pub fn room(&self) -> [usize; 6] {
+        let (d, n, segments) = (self.d, self.n, self.config.max_segments);
+        [
+            (n.max(segments) + 16) * (16 * d + 32),
+            segments + 1,
+            6 * d * segments,
+            n,
+            6 * d * n,
+            d,
+        ]
+    }
+
+    /// Document 01's 18, 20 and 19, in this order: they come before the source's own checks.
+    pub fn refused_before_source(&self) -> Option<usize> {
+        let config = &self.config;
+        if self.d > 16 || self.n.max(config.max_segments) > 20_000 || config.max_refinements > 200 {
+            return Some(18);
+        }
+        if self.points.len() != self.d * self.n {
+            return Some(20);
+        }
+        let mut lent = self.room().into_iter().zip(self.more);
+        let short = lent.any(|(needed, more)| needed > 0 && more < 0);
+        short.then_some(19)
     }
 
     /// How many axes are smoothed.
@@ -83,6 +118,25 @@ pub fn near_refusal(r: &mut Random, number: usize) -> Request {
         _ => extreme(r),
     }
     .limit_work()
+}
+
+/// Puts the request outside: above the domain, with a lent slice too short, or with point cells that
+/// differ from d times n (18, 19, 20).
+pub fn put_outside(r: &mut Random, request: &mut Request, number: usize) {
+    let config = &mut request.config;
+    match number {
+        18 => match r.below(4) {
+            0 => request.d = r.between(17, 40),
+            1 => request.n = r.between(20_001, 30_000),
+            2 => config.max_segments = r.between(20_001, 30_000),
+            _ => config.max_refinements = r.between(201, 300),
+        },
+        19 => request.more[r.below(6)] = -(r.between(1, 100) as i8),
+        _ if r.chance(50) => request.points.push(0.),
+        _ => {
+            request.points.pop();
+        }
+    }
 }
 
 /// A lane small enough to store the states of its steps, mostly one that is fitted.

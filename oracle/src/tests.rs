@@ -4,11 +4,12 @@
 use crate::answer::{Answer, answer, digits};
 use crate::case::{Case, Kind};
 use crate::certificate::{Certificate, Question};
+use crate::generate::known;
 use crate::path::smoothing::{SmoothingTolerance, reach};
 use crate::random::{Random, power_of_two};
 use crate::refusal::Refusal;
 use crate::request::{Request, draw};
-use crate::{generate, list, requests, table};
+use crate::{generate, list, recipe, requests, table};
 use std::fs;
 
 #[test]
@@ -76,84 +77,43 @@ fn line(request: &Request, words: usize) -> String {
     line.split(' ').take(words).collect::<Vec<_>>().join(" ")
 }
 
-fn refusal(request: &Request) -> usize {
-    match reach::build(request) {
-        Ok(_) => 0,
-        Err(e) => Refusal::from(e).number,
-    }
-}
-
 fn one_row(row: &[f64]) -> Request {
     Request::of_rows(&[row.to_vec()])
 }
 
-fn with(mut request: Request, change: impl Fn(&mut Request)) -> Request {
-    change(&mut request);
-    request
+#[test]
+fn known_requests_end_as_noted() {
+    for (i, (number, request)) in known::requests().iter().enumerate() {
+        let case = Case::build(request);
+        let found = match answer(&case).unwrap() {
+            Answer::Refused(refusal) => refusal.number,
+            _ => 0,
+        };
+        assert_eq!(found, *number, "request {i}: {request:?}");
+    }
 }
 
 #[test]
-fn lanes_of_document_01() {
+fn lines_of_known_lanes() {
     let flat = one_row(&[0., 0.]);
-    assert_eq!(line(&flat, 7), "build 1 0 0 0 2 0000000000000000");
-    assert_eq!(
-        refusal(&with(flat.clone(), |q| q.config.max_segments = 0)),
-        8
-    );
-    assert_eq!(refusal(&one_row(&[0.])), 1);
-    let no_axes = |q: &mut Request| q.config.axes = Some(Vec::new());
-    assert_eq!(refusal(&with(one_row(&[0.]), no_axes)), 1);
-    assert_eq!(refusal(&with(flat.clone(), no_axes)), 2);
-    let twice = |q: &mut Request| q.config.axes = Some(vec![0, 0]);
-    assert_eq!(refusal(&with(flat.clone(), twice)), 3);
-    let zero = |q: &mut Request| q.config.tolerance = SmoothingTolerance::Uniform(0.);
-    assert_eq!(refusal(&with(flat.clone(), zero)), 4);
-    let parameters = |list| refusal(&flat.clone().with_parameters(list));
-    assert_eq!(parameters(&[1., 1.]), 5);
-    assert_eq!(parameters(&[-1.5e308, 1.5e308]), 6);
-    let steep = with(one_row(&[-1.7e308, 1.7e308]), |q| {
-        q.config.tolerance = SmoothingTolerance::Uniform(1e300);
-    });
-    assert_eq!(refusal(&steep), 7);
+    let ends = "0000000000000000 3FF0000000000000";
+    let told = format!("build 1 0 0 0 2 0 {ends} 0000000000000000");
+    assert_eq!(line(&flat, 10), told);
     let straight = one_row(&[0., 0.95, 0.]);
-    assert_eq!(line(&straight, 7), "build 1 0 0 0 4 3FEE666666666666");
+    let told = format!("build 1 0 0 0 4 0 {ends} 3FEE666666666666");
+    assert_eq!(line(&straight, 10), told);
     let fitted = reach::build(&one_row(&[0., 0.96, 0.])).unwrap();
     assert!(fitted.counts[3] > 0);
-}
-
-#[test]
-fn smallest_inputs_of_the_refusals_by_the_state() {
     let corner = |segments: usize, refinements: usize| {
-        with(one_row(&[0., 1., 0.]), |q| {
+        one_row(&[0., 1., 0.]).with(|q| {
             q.config.tolerance = SmoothingTolerance::Uniform(1e-3);
             q.config.max_segments = segments;
             q.config.max_refinements = refinements;
         })
     };
-    assert_eq!(refusal(&corner(3, 20)), 8);
-    assert_eq!(
-        line(&corner(20_000, 0), 9),
-        "build refused 14 406938D88BB438B4"
-    );
-    assert_eq!(refusal(&corner(5, 20)), 15);
+    let told = "build refused 14 406938D88BB438B4";
+    assert_eq!(line(&corner(20_000, 0), 9), told);
     assert_eq!(line(&corner(6, 20), 6), "build 6 0 1 60 6");
-
-    let beside = Request::flat_beside(&[0., 1., 0.]).with_parameters(&[0., 1e-100, 1.]);
-    assert_eq!(refusal(&beside), 9);
-    let beside = Request::flat_beside(&[0., 1., 0., 1.]);
-    let parameters = [0., power_of_two(-28), power_of_two(-14), 1.];
-    assert_eq!(refusal(&beside.with_parameters(&parameters)), 10);
-    let mut row = [0.; 12];
-    row[1] = 5.;
-    let parameters: Vec<_> = (0..11).map(|i| f64::from(i) * 1e-7).chain([1.]).collect();
-    assert_eq!(refusal(&one_row(&row).with_parameters(&parameters)), 10);
-
-    assert_eq!(refusal(&one_row(&[0., 0., 1e305])), 11);
-    assert_eq!(refusal(&one_row(&[0., 1e300, 0.])), 13);
-    let long = with(one_row(&[0., 0., 1e16]), |q| q.config.max_refinements = 200);
-    assert_eq!(refusal(&long), 16);
-    assert_eq!(refusal(&one_row(&[1e300, 1e300])), 17);
-    assert_eq!(refusal(&one_row(&[0., 1e17 / 3.])), 14);
 }
 
 #[test]
@@ -239,6 +199,30 @@ fn requests_reach_every_refusal_but_12() {
         assert_eq!(words[..2], ["refused", &number.to_string()]);
         assert_eq!(words[2] == "0", number == 12, "{line}");
     }
+}
+
+/// What the stored list of requests has: every refusal but 12, rounds, other axes, and cells that are
+/// no numbers.
+#[test]
+fn stored_requests_reach_every_answer() {
+    let mut found = [0; 21];
+    let (mut rounds, mut others, mut nan) = (0, 0, 0);
+    for case in recipe("builds.txt").unwrap() {
+        match answer(&case).unwrap() {
+            Answer::Given(whole, cells) => {
+                found[0] += 1;
+                rounds += usize::from(whole[2] > 2);
+                others += usize::from(whole[1] > 0);
+                nan += usize::from(cells.iter().any(|v| v.is_nan()));
+            }
+            Answer::Refused(refusal) => found[refusal.number] += 1,
+            Answer::Figure(_) => panic!("no answer of this kind"),
+        }
+    }
+    for (number, count) in found.iter().enumerate() {
+        assert_eq!(*count == 0, number == 12, "{number}: {count}");
+    }
+    assert!(rounds > 10 && others > 10 && nan > 2);
 }
 
 /// A straight curve of one axis beside another, with a corner of 0.95 between its waypoints.
@@ -408,7 +392,7 @@ fn seed_cases_are_finite() {
 
 /// Recorded; a change of a generator changes them, and the stored list with them.
 const REQUESTS_1_200: u64 = 0xEE59_68FF_F28F_F0FA;
-const GROUPS_1_20: u64 = 0xE4D9_D708_31C6_8F7A;
+const GROUPS_1_20: u64 = 0x10F8_3B04_B32A_4097;
 
 #[test]
 fn refusal_14_prints_its_ratio() {

@@ -97,13 +97,13 @@ fn traced_long(r: &mut Random, wanted: fn(Window) -> bool) -> Case {
 
 /// The window of a fit: its first control, whether it leaves out a control that may change, and
 /// whether it reaches a dense span.
-struct Window {
+pub struct Window {
     a: usize,
     part: bool,
-    dense: bool,
+    pub dense: bool,
 }
 
-fn window_of(case: &Case) -> Window {
+pub fn window_of(case: &Case) -> Window {
     let [d, n, a, z, knots] = from_fn(|i| case.whole[i] as usize);
     let (t, m) = (&case.cells[1..=knots], knots - 6);
     let s = &case.cells[1 + knots + m * d..][..n];
