@@ -1,10 +1,11 @@
-//! Compiles the unchanged source with `src/appendix.rs` after it, as the oracle does, and links the
-//! proved functions: `rt staticlib exports` writes the archive.
+//! Compiles the unchanged source as the oracle does, with `src/appendix.rs` after the oracle's, and links
+//! the proved functions: `rt staticlib exports` writes the archive.
 #[path = "../oracle/build.rs"]
+#[allow(dead_code)]
 mod source;
 
 fn main() {
-    source::main();
+    source::compile(&["../oracle/src/appendix.rs", "src/appendix.rs"]);
     let folder = std::path::Path::new(env!("CARGO_MANIFEST_DIR")).join("../target/staticlib");
     println!(
         "cargo::rerun-if-changed={}",

@@ -1,5 +1,6 @@
 //! The float leaves: compared with Rust's own on many inputs, bit for bit; the square root measured against C's.
-use crate::random::{Random, same};
+use crate::numbers::{number, same};
+use crate::random::Random;
 use std::cmp::Ordering;
 use std::hint::black_box;
 use std::time::Instant;
@@ -82,11 +83,11 @@ fn others(random: &mut Random) {
     ];
     let mut tallies: [Tally; 8] = Default::default();
     for _ in 0..20_000_000 {
-        let x = random.number();
+        let x = number(random);
         let y = if random.next().is_multiple_of(8) {
             x
         } else {
-            random.number()
+            number(random)
         };
         let zeros = x == 0. && y == 0.;
         let before = y.is_nan() || (!x.is_nan() && x.total_cmp(&y) != Ordering::Greater);
@@ -137,7 +138,7 @@ fn time(inputs: &[f64], f: impl Fn(f64) -> f64) -> f64 {
 }
 
 pub fn run() {
-    let mut random = Random(1);
+    let mut random = Random::new(1);
     roots(&mut random).print("sqrt");
     others(&mut random);
     let kinds: [(&str, fn(&mut Random) -> u64); 3] = [

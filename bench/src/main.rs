@@ -4,9 +4,28 @@
 extern crate self as nalgebra;
 pub(crate) use standin::DMatrixView;
 
+mod builds;
 mod leaves;
+mod numbers;
 mod queries;
+
+// The oracle's: what the source takes from elsewhere, requests with their generator, and what its appendix hands out.
+#[path = "../../oracle/src/case.rs"]
+#[allow(dead_code)]
+mod case;
+#[path = "../../oracle/src/certificate.rs"]
+#[allow(dead_code)]
+mod certificate;
+#[path = "../../oracle/src/generate/known.rs"]
+mod known;
+#[path = "../../oracle/src/random.rs"]
+#[allow(dead_code)]
 mod random;
+#[path = "../../oracle/src/refusal.rs"]
+mod refusal;
+#[path = "../../oracle/src/request.rs"]
+#[allow(dead_code)]
+mod request;
 #[path = "../../oracle/src/standin.rs"]
 #[allow(dead_code)]
 mod standin;
@@ -30,5 +49,8 @@ fn main() {
     }
     if asked("queries") {
         queries::run();
+    }
+    if asked("builds") {
+        builds::run();
     }
 }

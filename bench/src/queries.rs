@@ -1,7 +1,8 @@
 //! Queries: many in one call, and one in each call, against the unchanged source's `evaluate`. All four orders are
 //! asked. Every value is compared, bit for bit; then both sides are measured in turn, and the least time of each counts.
-use crate::path::smoothing::reach;
-use crate::random::{Random, same};
+use crate::numbers::{number, same};
+use crate::path::smoothing::timed;
+use crate::random::Random;
 use std::hint::black_box;
 use std::time::Instant;
 
@@ -104,7 +105,7 @@ struct Case {
     coefficients: Vec<f64>,
     other_breaks: Vec<f64>,
     other_coefficients: Vec<f64>,
-    source: reach::Curve,
+    source: timed::Curve,
 }
 
 /// Breaks that rise from 0 to 1: even ones, each moved by less than half a step.
@@ -162,7 +163,7 @@ impl Case {
         let mut row = |n: usize| (0..n).map(|_| coefficient(random)).collect::<Vec<f64>>();
         let coefficients = row(6 * k * breaks.len().saturating_sub(1));
         let other_coefficients = row(6 * (d - k) * other_breaks.len().saturating_sub(1));
-        let source = reach::curve(
+        let source = timed::curve(
             d,
             &axes[..k],
             (start, end),
@@ -234,7 +235,7 @@ impl Case {
     /// The source's answers.
     fn source(&self, xs: &[f64], out: &mut [Vec<f64>; 4]) {
         for (x, row) in xs.iter().zip(rows(out, self.d)) {
-            reach::evaluate(&self.source, *x, row);
+            timed::evaluate(&self.source, *x, row);
         }
     }
 
@@ -298,7 +299,7 @@ fn compare(random: &mut Random) {
             breaks(random, others)
         };
         let coefficient: fn(&mut Random) -> f64 = if random.next().is_multiple_of(4) {
-            Random::number
+            number
         } else {
             Random::unit
         };
@@ -406,7 +407,7 @@ pub fn run() {
         .nth(2)
         .and_then(|n| n.parse().ok())
         .unwrap_or(1000);
-    let mut random = Random(2);
+    let mut random = Random::new(2);
     compare(&mut random);
     println!(
         "d k segments + others | many, random: ns a query of the port, of the source, ratio | many, rising | single, random"

@@ -1,3 +1,4 @@
 -- Definitions that the contracts cite.
 
 pub mod Curve
+pub mod Builds

@@ -1,5 +1,6 @@
 // Proved functions under C names, for the Rust driver in bench/ to link: the same code as in the
 // crates, each with the contract of what it calls.
+pub mod builds; // builds.rt: a whole request
 pub mod queries; // queries.rt: one query, and many in one call
 
 ghost use mathlib.Core.Path.{_≡_};

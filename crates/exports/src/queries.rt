@@ -35,7 +35,7 @@ fn number_of_all(answers: Answers) -> u64
 }
 
 // What a parameter outside start to end gets.
-fn mode(clamp: bool) -> Mode
+pub(crate) fn mode(clamp: bool) -> Mode
     ensures { λ r. ⌜ r ≡ modeOf clamp ⌝ }
 {
     if clamp { Mode::Clamp } else { Mode::Error }
@@ -89,8 +89,14 @@ pub extern "C" fn pamitoye_evaluate<'a>(
     ddq: &mut [f64],
     dddq: &mut [f64],
 ) -> u64
-    ensures { λ r. ⌜ r ≡ evaluateOf (curveOf d k (now (axes .entry)) start end clamp segments «other_segments») (slices (now (breaks .entry)) (now (coefficients .entry)) (now («other_breaks» .entry)) (now («other_coefficients» .entry))) x order (outputs (now (q .entry)) (now (dq .entry)) (now (ddq .entry)) (now (dddq .entry))) .number ⌝ }
-    ensures { λ _. ⌜ outputs (now (q .exit)) (now (dq .exit)) (now (ddq .exit)) (now (dddq .exit)) ≡ evaluateOf (curveOf d k (now (axes .entry)) start end clamp segments «other_segments») (slices (now (breaks .entry)) (now (coefficients .entry)) (now («other_breaks» .entry)) (now («other_coefficients» .entry))) x order (outputs (now (q .entry)) (now (dq .entry)) (now (ddq .entry)) (now (dddq .entry))) .after ⌝ }
+    ensures { λ r. ⌜ r ≡ evaluateOf (curveOf d k (now (axes .entry)) start end clamp segments «other_segments») (slices
+        (now (breaks .entry)) (now (coefficients .entry)) (now («other_breaks» .entry))
+        (now («other_coefficients» .entry))) x order (outputs (now (q .entry)) (now (dq .entry)) (now (ddq .entry))
+        (now (dddq .entry))) .number ⌝ }
+    ensures { λ _. ⌜ outputs (now (q .exit)) (now (dq .exit)) (now (ddq .exit)) (now (dddq .exit)) ≡ evaluateOf (curveOf d k
+        (now (axes .entry)) start end clamp segments «other_segments») (slices (now (breaks .entry)) (now (coefficients .entry))
+        (now («other_breaks» .entry)) (now («other_coefficients» .entry))) x order (outputs (now (q .entry)) (now (dq .entry))
+        (now (ddq .entry)) (now (dddq .entry))) .after ⌝ }
 {
     let answered = query::evaluate(
         curve(d, k, axes, start, end, clamp, segments, other_segments),
@@ -129,8 +135,13 @@ pub extern "C" fn pamitoye_evaluate_all<'a>(
     ddq: &mut [f64],
     dddq: &mut [f64],
 ) -> u64
-    ensures { λ r. ⌜ r ≡ evaluateAllOf (curveOf d k (now (axes .entry)) start end clamp segments «other_segments») (slices (now (breaks .entry)) (now (coefficients .entry)) (now («other_breaks» .entry)) (now («other_coefficients» .entry))) (now (xs .entry)) order (outputs (now (q .entry)) (now (dq .entry)) (now (ddq .entry)) (now (dddq .entry))) .number ⌝ }
-    ensures { λ _. ⌜ outputs (now (q .exit)) (now (dq .exit)) (now (ddq .exit)) (now (dddq .exit)) ≡ evaluateAllOf (curveOf d k (now (axes .entry)) start end clamp segments «other_segments») (slices (now (breaks .entry)) (now (coefficients .entry)) (now («other_breaks» .entry)) (now («other_coefficients» .entry))) (now (xs .entry)) order (outputs (now (q .entry)) (now (dq .entry)) (now (ddq .entry)) (now (dddq .entry))) .after ⌝ }
+    ensures { λ r. ⌜ r ≡ evaluateAllOf (curveOf d k (now (axes .entry)) start end clamp segments «other_segments») (slices
+        (now (breaks .entry)) (now (coefficients .entry)) (now («other_breaks» .entry)) (now («other_coefficients» .entry)))
+        (now (xs .entry)) order (outputs (now (q .entry)) (now (dq .entry)) (now (ddq .entry)) (now (dddq .entry))) .number ⌝ }
+    ensures { λ _. ⌜ outputs (now (q .exit)) (now (dq .exit)) (now (ddq .exit)) (now (dddq .exit)) ≡ evaluateAllOf (curveOf d k
+        (now (axes .entry)) start end clamp segments «other_segments») (slices (now (breaks .entry)) (now (coefficients .entry))
+        (now («other_breaks» .entry)) (now («other_coefficients» .entry))) (now (xs .entry)) order (outputs (now (q .entry))
+        (now (dq .entry)) (now (ddq .entry)) (now (dddq .entry))) .after ⌝ }
 {
     let answered = query::evaluate_all(
         curve(d, k, axes, start, end, clamp, segments, other_segments),
