@@ -1,67 +1,57 @@
 -- The cases of the code of absolute value, total order and the test for a finite number.
 use mathlib.Core.Path.{_≡_, refl, sym, ap, _∙_}
-use mathlib.Core.Bool.{Bool, true, false, not, _&&_, _||_, Bool·beq, true≢false}
-use Prim.Native.Nat.{ℕ, zero, suc, _+_, _*_, _^_, _<_}
+use mathlib.Core.Bool.{Bool, true, false, not, _&&_, _||_, Bool·beq, cond, true≢false}
+use Prim.Native.Nat.{ℕ, zero, suc, _+_, _*_, _^_, _%_, _/_, _<_}
 use native.Mathlib.Nat.{mul-pos, zero-lt-suc, pow-suc}
 use native.Mathlib.Omega.{arith}
-use lib.Dec.{T, ltb, eqb, ltb→lt, lt→ltb, eqb→eq}
+use lib.Dec.{T, leb, ltb, eqb, ltb→lt, lt→ltb, eqb→eq}
+use lib.Arith.{lt→nleb}
 use lib.IntN.{ℤ, pos, negsuc}
 use lib.Pow.{pow-pos}
-use lib.Ieee.{Float, nan, inf, fin, binary64, up, down, fits, isNan, lt, eq, le, neg, div}
-use lib.Ieee.Bits.{is-true}
+use lib.Ieee.{Float, Format, nan, inf, fin, binary64, prec, low, hid, ones, up, down, fits, isNan, lt, eq, le, neg, div, odd, ofFields, ofBits, toBits}
+use lib.Ieee.Bits.{is-true, is-false, ofBits-toBits}
 use lib.Ieee.Fits.{up-pos, and-r}
 use lib.Ieee.Scale.{finite}
 use Rattle.fraction.specs.Value.{absoluteFloat}
 use Rattle.float.specs.Order.{negative, totalLe}
 use Rattle.float.proofs.Tests.{clash, holds, +0, +1, zero-is, one-is, infinity-is, minus-infinity-is, Zero, not-zero, zero-of, is-zero, zero-eq}
 
--- ---- absolute value
-zero-held : (s : Bool) (e : ℤ) → T (fits binary64 (fin s zero e)) → e ≡ pos 0
-unfolding fits
-zero-held s (pos zero) t = refl
-zero-held s (pos (suc k)) t = absurd (big (2 ^ k) (2 ^ suc k) (pow-suc 2 k) (pow-pos k) (eqb→eq (2 ^ suc k * 1) 1 t))
-  where
-    big : (p q : ℕ) → q ≡ p * 2 → 0 < p → q * 1 ≡ 1 → ⊥
-    big p q e h g = omega arith
-zero-held s (negsuc k) t = absurd (big (2 ^ k) (2 ^ suc k) (pow-suc 2 k) (pow-pos k) (eqb→eq (1 * 2 ^ suc k) 1 t))
-  where
-    big : (p q : ℕ) → q ≡ p * 2 → 0 < p → 1 * q ≡ 1 → ⊥
-    big p q e h g = omega arith
+-- ---- absolute value: the sign's bit cleared
+odd-absolute : (d : ℕ) (s : Bool) (q k l : ℕ) → absoluteFloat (odd d s q k l) ≡ odd d false q k l
+unfolding odd
+odd-absolute d s zero k l = refl
+odd-absolute d s (suc q) k l = refl
 
-pub abs-zero : (x : Float) → T (fits binary64 x) → eq x +0 ≡ true → +0 ≡ absoluteFloat x
-abs-zero x F h = zero-is ∙ go x F (is-zero x h)
+fields-absolute : (f : Format) (s : Bool) (x t : ℕ) → absoluteFloat (ofFields f s x t) ≡ ofFields f false x t
+unfolding ofFields
+fields-absolute f s zero t = odd-absolute (prec f) s t 0 (low f)
+fields-absolute f s (suc x) t = go (eqb (suc x) (ones f)) (eqb t 0)
   where
-    go : (x : Float) → T (fits binary64 x) → Zero x → fin false 0 (pos 0) ≡ absoluteFloat x
-    go x F (Zero.a-zero s e) = ap (fin false 0) (sym (zero-held s e F))
+    go : (a b : Bool) → absoluteFloat (cond a (cond b (inf s) nan) (odd (prec f) s (hid f + t) x (low f)))
+        ≡ cond a (cond b (inf false) nan) (odd (prec f) false (hid f + t) x (low f))
+    go true true = refl
+    go true false = refl
+    go false b = odd-absolute (prec f) s (hid f + t) x (low f)
 
-pub abs-below : (x : Float) → lt x +0 ≡ true → neg x ≡ absoluteFloat x
-unfolding lt neg
-abs-below x h = go x (ap (lt x) (sym zero-is) ∙ h)
+pub abs-bits : (x : Float) → T (fits binary64 x) → ofBits binary64 (toBits binary64 x % 0x8000_0000_0000_0000) ≡ absoluteFloat x
+unfolding ofBits
+abs-bits x F = cleared (toBits binary64 x) ∙ ap absoluteFloat (ofBits-toBits binary64 x F)
   where
-    go : (x : Float) → lt x (fin false 0 (pos 0)) ≡ true → neg x ≡ absoluteFloat x
-    go nan h = absurd (true≢false (sym h))
-    go (inf true) h = refl
-    go (inf false) h = absurd (true≢false (sym h))
-    go (fin true m e) h = refl
-    go (fin false m e) h = absurd (none (ltb→lt (m * up e * 1) (0 * 1 * down e) (holds h)))
-      where
-        none : m * up e * 1 < 0 * 1 * down e → ⊥
-        none h = omega arith
+    sign : (n : ℕ) → leb 0x8000_0000_0000_0000 (n % 0x8000_0000_0000_0000) ≡ false
+    sign n =
+        let small : n % 0x8000_0000_0000_0000 < 0x8000_0000_0000_0000 = omega arith in
+        is-false (leb 0x8000_0000_0000_0000 (n % 0x8000_0000_0000_0000)) (lt→nleb 0x8000_0000_0000_0000 (n % 0x8000_0000_0000_0000) small)
 
-pub abs-above : (x : Float) → eq x +0 ≡ false → lt x +0 ≡ false → x ≡ absoluteFloat x
-unfolding lt
-abs-above x h k = go x h (ap (lt x) (sym zero-is) ∙ k)
-  where
-    go : (x : Float) → eq x +0 ≡ false → lt x (fin false 0 (pos 0)) ≡ false → x ≡ absoluteFloat x
-    go nan h k = refl
-    go (inf true) h k = absurd (true≢false k)
-    go (inf false) h k = refl
-    go (fin false m e) h k = refl
-    go (fin true zero e) h k = clash (zero-eq true e) h
-    go (fin true (suc m) e) h k = clash (is-true (ltb 0 (suc m * up e * 1 + 0 * 1 * down e)) (lt→ltb 0 (suc m * up e * 1 + 0 * 1 * down e) (more (mul-pos (zero-lt-suc m) (up-pos e))))) k
-      where
-        more : 0 < suc m * up e → 0 < suc m * up e * 1 + 0 * 1 * down e
-        more g = omega arith
+    exponent : (n : ℕ) → n % 0x8000_0000_0000_0000 % 0x8000_0000_0000_0000 ≡ n % 0x8000_0000_0000_0000
+    exponent n = omega arith
+
+    digits : (n : ℕ) → n % 0x8000_0000_0000_0000 % 0x10_0000_0000_0000 ≡ n % 0x10_0000_0000_0000
+    digits n = omega arith
+
+    cleared : (n : ℕ) → ofBits binary64 (n % 0x8000_0000_0000_0000) ≡ absoluteFloat (ofBits binary64 n)
+    cleared n =
+        rw (sign n, exponent n, digits n) (sym (fields-absolute binary64 (leb 0x8000_0000_0000_0000 n)
+        (n % 0x8000_0000_0000_0000 / 0x10_0000_0000_0000) (n % 0x10_0000_0000_0000)))
 
 -- ---- finite: below +infinity and above -infinity
 pub finite-above : (x : Float) → lt x (div binary64 +1 +0) ≡ true → lt (div binary64 (neg +1) +0) x ≡ finite x
@@ -116,7 +106,9 @@ alike (inf s) (fin t n d) h k = absurd (true≢false (sym h))
 alike (fin s m e) nan h k = absurd (true≢false (sym h))
 alike (fin s m e) (inf t) h k = absurd (true≢false (sym h))
 alike (fin s zero e) (fin t n d) h k = clash (zero-eq s e) k
-alike (fin s (suc m) e) (fin t n d) h k = same-sign s t (eqb (suc m * up e * down d) 0) (and-r (eqb (suc m * up e * down d) (n * up d * down e)) (Bool·beq s t || eqb (suc m * up e * down d) 0) (holds h)) (λ g. not-zero m e d (eqb→eq (suc m * up e * down d) 0 g))
+alike (fin s (suc m) e) (fin t n d) h k = same-sign s t (eqb (suc m * up e * down d) 0)
+    (and-r (eqb (suc m * up e * down d) (n * up d * down e)) (Bool·beq s t || eqb (suc m * up e * down d) 0) (holds h))
+    (λ g. not-zero m e d (eqb→eq (suc m * up e * down d) 0 g))
   where
     same-sign : (s t b : Bool) → T (Bool·beq s t || b) → (T b → ⊥) → (s || not t) ≡ true
     same-sign true t b h n = refl
@@ -133,7 +125,8 @@ unfolding div
 over true e = ap (λ (z : Float). div binary64 z (fin true zero e)) one-is
 over false e = ap (λ (z : Float). div binary64 z (fin false zero e)) one-is
 
-pub le-zero : (x y : Float) → isNan y ≡ false → lt x y ≡ false → eq x y ≡ true → eq x +0 ≡ true → le (div binary64 +1 x) (div binary64 +1 y) ≡ totalLe x y
+pub le-zero : (x y : Float) → isNan y ≡ false → lt x y ≡ false → eq x y ≡ true → eq x +0 ≡ true → le (div binary64 +1 x) (div binary64 +1 y)
+    ≡ totalLe x y
 le-zero x y n h k g = zeros x y (is-zero x g) k ∙ le-or x y false true n h k
   where
     infinities : (s t : Bool) → le (inf s) (inf t) ≡ (s || not t)

@@ -18,13 +18,10 @@ pub fn is_finite(x: f64) -> bool
 pub fn abs(x: f64) -> f64
     ensures { λ r. ⌜ r ≡ absoluteFloat x ⌝ }
 {
-    if x == 0.0 {
-        return 0.0;
+    if x != x {
+        return x;
     }
-    if x < 0.0 {
-        return -x;
-    }
-    x
+    f64::from_bits(f64::to_bits(x) % 0x8000_0000_0000_0000)
 }
 
 // y where x is a NaN or `second` holds, and otherwise x.
