@@ -11,11 +11,10 @@ use Rattle.arith.specs.Loop.Step.{next, stop}
 use Rattle.arith.proofs.Loops.{Holds, till-done, till-holds, till-next, till-stop}
 use Rattle.arith.proofs.Loops.Holds.{goes, ends}
 use Rattle.window.specs.Cells.{at}
-use Rattle.polynomial.specs.declared.interval.Interval.{Interval}
 use Rattle.polynomial.specs.declared.interval.Outcome.the-variants.{Done}
 use Rattle.polynomial.specs.Span.{spanOf}
 use Rattle.polynomial.specs.Outcome.{isDone}
-use Rattle.polynomial.specs.Interval.{intervalOf}
+use Rattle.polynomial.specs.Interval.{Interval, intervalOf}
 use Rattle.polynomial.specs.Audit.{Audit, boundsWith, auditTurn, auditOf}
 use Rattle.polynomial.proofs.Placed.{bounds-length}
 
@@ -25,11 +24,19 @@ shift v c k h = omega arith
 module _ (breaks coefficients s y : List Float) (d : ℕ) where
   -- the turn of interval i, which is r
   module _ (i : ℕ) (a : Audit) (r : Interval) (is : r ≡ intervalOf breaks coefficients s y d i (a .span) (at (a .witness) i)) where
-    pub goes-on : isDone (r .outcome) ≡ true → auditTurn breaks coefficients s y d i a ≡ next (record { bounds = boundsWith (i * d) d (r .bounds) (a .bounds); witness = set (a .witness) i (r .witness); span = r .span; checked = a .checked + 1; outcome = Done })
+    pub goes-on : isDone (r .outcome) ≡ true → auditTurn breaks coefficients s y d i a
+        ≡ next (record {
+          bounds = boundsWith (i * d) d (r .bounds) (a .bounds);
+          witness = set (a .witness) i (r .witness);
+          span = r .span;
+          checked = a .checked + 1;
+          outcome = Done;
+        })
     unfolding auditTurn
     goes-on g = rw (← is, g)
 
-    pub stops : isDone (r .outcome) ≡ false → auditTurn breaks coefficients s y d i a ≡ stop (record { bounds = a .bounds; witness = a .witness; span = a .span; checked = a .checked; outcome = r .outcome })
+    pub stops : isDone (r .outcome) ≡ false → auditTurn breaks coefficients s y d i a
+        ≡ stop (record { bounds = a .bounds; witness = a .witness; span = a .span; checked = a .checked; outcome = r .outcome })
     unfolding auditTurn
     stops g = rw (← is, g)
 
@@ -40,12 +47,15 @@ module _ (breaks coefficients s y : List Float) (d : ℕ) where
   counted : (k i last : ℕ) (a : Audit) → last - i ≡ k
       → (rest i last a .checked ≤ a .checked + k) × (rest i last a .outcome ≡ Done → rest i last a .checked ≡ a .checked + k)
   counted zero i last a e =
-      let t = till-done (auditTurn breaks coefficients s y d) (λ a. a) i last a (omega arith) in (rw t (omega arith), λ h. rw t (omega arith))
+      let t = till-done (auditTurn breaks coefficients s y d) (λ a. a) i last a (omega arith) in
+      (rw t (omega arith), λ h. rw t (omega arith))
   counted (suc k) i last a e =
-      go (isDone (intervalOf breaks coefficients s y d i (a .span) (at (a .witness) i) .outcome)) refl (λ b. counted k (i + 1) last b (omega arith))
+      go (isDone (intervalOf breaks coefficients s y d i (a .span) (at (a .witness) i) .outcome)) refl
+      (λ b. counted k (i + 1) last b (omega arith))
     where
       go : (b : Bool) → isDone (intervalOf breaks coefficients s y d i (a .span) (at (a .witness) i) .outcome) ≡ b
-          → ((b : Audit) → (rest (i + 1) last b .checked ≤ b .checked + k) × (rest (i + 1) last b .outcome ≡ Done → rest (i + 1) last b .checked ≡ b .checked + k))
+          → ((b : Audit) → (rest (i + 1) last b .checked ≤ b .checked + k) × (rest (i + 1) last b .outcome ≡ Done → rest (i + 1) last
+          b .checked ≡ b .checked + k))
           → (rest i last a .checked ≤ a .checked + suc k) × (rest i last a .outcome ≡ Done → rest i last a .checked ≡ a .checked + suc k)
       go true g again =
           let t = till-next (auditTurn breaks coefficients s y d) (λ a. a) i last a _ (omega arith) (goes-on i a _ refl g) in
@@ -56,17 +66,26 @@ module _ (breaks coefficients s y : List Float) (d : ℕ) where
           (rw t (omega arith), λ h. absurd (true≢false (sym (ap isDone (rw t at h)) ∙ g)))
 
   -- an audit that is not refused checked every interval of the range
-  pub audit-counts : (first last : ℕ) (bounds witness : List Float) → auditOf breaks coefficients s y d first last bounds witness .outcome ≡ Done
+  pub audit-counts : (first last : ℕ) (bounds witness : List Float) → auditOf breaks coefficients s y d first last bounds witness .outcome
+      ≡ Done
       → auditOf breaks coefficients s y d first last bounds witness .checked ≡ last - first
   unfolding auditOf
   audit-counts first last bounds witness h =
       let n = counted (last - first) first last _ refl .1 h in omega arith
 
   -- and no audit more than these
-  pub audit-few : (first last : ℕ) (bounds witness : List Float) → auditOf breaks coefficients s y d first last bounds witness .checked ≤ last - first
+  pub audit-few : (first last : ℕ) (bounds witness : List Float) → auditOf breaks coefficients s y d first last bounds witness .checked
+      ≤ last - first
   unfolding auditOf
   audit-few first last bounds witness =
-      let n = counted (last - first) first last (record { bounds = bounds; witness = witness; span = spanOf breaks (at s first); checked = 0; outcome = Done }) refl .0 in
+      let n = counted (last - first) first last (record {
+        bounds = bounds;
+        witness = witness;
+        span = spanOf breaks (at s first);
+        checked =
+            0;
+        outcome = Done;
+      }) refl .0 in
       omega arith
 
   -- an audit writes in place
@@ -80,12 +99,18 @@ module _ (breaks coefficients s y : List Float) (d : ℕ) where
       r = intervalOf breaks coefficients s y d i (a .span) (at (a .witness) i)
 
       go : (c : Bool) → isDone (r .outcome) ≡ c → Holds (Long m n) (Long m n) (auditTurn breaks coefficients s y d i a)
-      go true e = rw (goes-on i a r refl e) (goes (bounds-length (i * d) d (r .bounds) (a .bounds) ∙ h .0, length-set (a .witness) i (r .witness) ∙ h .1))
+      go true e = rw (goes-on i a r refl e) (goes (
+        bounds-length (i * d) d (r .bounds) (a .bounds)
+            ∙ h .0,
+        length-set (a .witness) i (r .witness) ∙ h .1,
+      ))
       go false e = rw (stops i a r refl e) (ends h)
 
-  pub audit-lengths : (first last : ℕ) (bounds witness : List Float) → let a = auditOf breaks coefficients s y d first last bounds witness in
+  pub audit-lengths : (first last : ℕ) (bounds witness : List Float) → let a = auditOf breaks coefficients s y d first last bounds
+      witness in
       (length (a .bounds) ≡ length bounds) × (length (a .witness) ≡ length witness)
   unfolding auditOf
   audit-lengths first last bounds witness =
-      till-holds (Long (length bounds) (length witness)) (Long (length bounds) (length witness)) (auditTurn breaks coefficients s y d) (λ a. a)
+      till-holds (Long (length bounds) (length witness)) (Long (length bounds) (length witness)) (auditTurn breaks coefficients s y d)
+      (λ a. a)
       (turn-long (length bounds) (length witness)) (λ a h. h) first last _ (refl, refl)

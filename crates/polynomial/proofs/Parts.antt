@@ -12,7 +12,8 @@ use lib.Seq.{length-take-le}
 
 module _ {A : Type 0} where
   -- two writes of parts that lie apart can be told in either order
-  module _ (a e : ℕ) (u : List A) (b f : ℕ) (v l : List A) (ae : a ≤ e) (eb : e ≤ b) (bf : b ≤ f) (fl : f ≤ length l) (lu : length u ≡ e - a) (lv : length v ≡ f - b) where
+  module _ (a e : ℕ) (u : List A) (b f : ℕ) (v l : List A) (ae : a ≤ e) (eb : e ≤ b) (bf : b ≤ f) (fl : f ≤ length l)
+      (lu : length u ≡ e - a) (lv : length v ≡ f - b) where
     abbrev five : List A → List A → List (List A)
     five q x = take a l ∷ q ∷ window e b l ∷ x ∷ drop f l ∷ []
 
@@ -23,7 +24,8 @@ module _ {A : Type 0} where
         ∙ ap (λ (t : List A). take a l ++ t)
         (cut l a e ae
         ∙ ap (λ (t : List A). window a e l ++ t)
-        (cut l e b eb ∙ ap (λ (t : List A). window e b l ++ t) (cut l b f bf ∙ ap (λ (t : List A). window b f l ++ t) (sym (append-nil (drop f l))))))
+        (cut l e b eb ∙ ap (λ (t : List A). window e b l ++ t) (cut l b f bf ∙ ap (λ (t : List A). window b f l ++ t)
+        (sym (append-nil (drop f l))))))
 
     first-at : (q x : List A) → length q ≡ e - a → splice a e u (joined (five q x)) ≡ joined (five u x)
     unfolding offset
@@ -73,7 +75,8 @@ module _ {A : Type 0} where
     pub both-after : (c g : ℕ) → f ≤ c → window c g (splice w f z (splice b e x l)) ≡ window c g l
     both-after c g p =
         let n = one in
-        window-after w f z (splice b e x l) c g p (h .wf) (omega arith) (h .second-fits) ∙ window-after b e x l c g (omega arith) (h .be) (omega arith) (h .first-fits)
+        window-after w f z (splice b e x l) c g p (h .wf) (omega arith) (h .second-fits) ∙ window-after b e x l c g (omega
+        arith) (h .be) (omega arith) (h .first-fits)
 
     pub both-between : (c g : ℕ) → c ≤ g → e ≤ c → g ≤ w → window c g (splice w f z (splice b e x l)) ≡ window c g l
     both-between c g p q r =
@@ -88,7 +91,8 @@ module _ {A : Type 0} where
     pub both-second : window w f (splice w f z (splice b e x l)) ≡ z
     both-second = let n = one in window-same w f z (splice b e x l) (omega arith) (h .second-fits)
 
-    pub both-again : (x′ z′ : List A) → length x′ ≡ e - b → splice w f z′ (splice b e x′ (splice w f z (splice b e x l))) ≡ splice w f z′ (splice b e x′ l)
+    pub both-again : (x′ z′ : List A) → length x′ ≡ e - b → splice w f z′ (splice b e x′ (splice w f z (splice b e x l)))
+        ≡ splice w f z′ (splice b e x′ l)
     both-again x′ z′ p =
         let n = one in
         let m = length-splice b e x′ l (h .be) (omega arith) p in

@@ -9,8 +9,7 @@ use Rattle.arith.proofs.Loops.{each-keeps}
 use Rattle.window.specs.Cells.{at}
 use Rattle.window.proofs.Windows.{splice-window}
 use Rattle.polynomial.specs.declared.audit.Parts.{Parts}
-use Rattle.polynomial.specs.declared.interval.Interval.{Interval}
-use Rattle.polynomial.specs.Interval.{intervalOf}
+use Rattle.polynomial.specs.Interval.{Interval, intervalOf}
 use Rattle.polynomial.specs.Audit.{boundsWith}
 use Rattle.polynomial.specs.Placed.{Laid, breaksAt, coefficientsAt, parametersAt, pointsAt, boundsAt, witnessAt, intervalAt, withBounds}
 use Rattle.polynomial.proofs.Parts.{Apart, both-length, both-before, both-after, both-first, both-second, both-again}
@@ -29,7 +28,8 @@ bounds-own p w =
     let g = p .witness + (p .count - 1) in
     rw (splice-window b e w) (splice-window f g w)
 
-module _ (p : Parts) (w x z : List Float) (laid : Laid p (length w)) (lx : length x ≡ (p .count - 1) * p .axes) (lz : length z ≡ p .count - 1) where
+module _ (p : Parts) (w x z : List Float) (laid : Laid p (length w)) (lx : length x ≡ (p .count - 1) * p .axes)
+    (lz : length z ≡ p .count - 1) where
   abbrev e : ℕ
   e = p .bounds + (p .count - 1) * p .axes
 
@@ -55,7 +55,8 @@ module _ (p : Parts) (w x z : List Float) (laid : Laid p (length w)) (lx : lengt
       → r ≡ intervalOf (breaksAt p w) (coefficientsAt p w) (parametersAt p w) (pointsAt p w) (p .axes) i span (at z i)
   interval-same i span e is = is ∙ ap (intervalAt p i span) e ∙ same
     where
-      same : intervalAt p i span (withBounds p x z w) ≡ intervalOf (breaksAt p w) (coefficientsAt p w) (parametersAt p w) (pointsAt p w) (p .axes) i span (at z i)
+      same : intervalAt p i span (withBounds p x z w) ≡ intervalOf (breaksAt p w) (coefficientsAt p w) (parametersAt p w) (pointsAt p w)
+          (p .axes) i span (at z i)
       same =
           rw (
             both-after apart (p .breaks) (p .breaks + p .segments + 1) (laid .before-breaks),

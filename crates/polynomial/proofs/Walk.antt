@@ -1,6 +1,7 @@
--- Why the walk along a waypoint interval ends, whatever the numbers are, NaN included: `turnsLeft` falls with each turn that does not end it.
--- A turn goes to the interval's end, where no turn is left, or to the right break of its segment. In the second case the next turn moves the
--- span on, or, in the last segment, finds its right end not above its left end.
+-- Why the walk along a waypoint interval ends, whatever the numbers are, NaN included: `turnsLeft` falls with each turn that does not end
+-- it.
+-- A turn goes to the interval's end, where no turn is left, or to the right break of its segment. In the second case the next turn moves
+-- the span on, or, in the last segment, finds its right end not above its left end.
 use mathlib.Core.Path.{_≡_, refl, sym, ap, _∙_}
 use mathlib.Core.Bool.{Bool, true, false, cond, true≢false}
 use mathlib.Core.List.{List}
@@ -53,15 +54,16 @@ module _ (end left break : Float) (below : lt left end ≡ true) where
   unfolding chosen
   to-break h = rw (above-number left end below, h)
 
--- at most so many turns are left at `left` in segment `span`: one for each segment from there on, one more where the right break of this one
--- is not passed yet, and one; none at the interval's end
+-- at most so many turns are left at `left` in segment `span`: one for each segment from there on, one more where the right break of this
+-- one is not passed yet, and one; none at the interval's end
 abbrev unpassed : Bool → ℕ
 unpassed passed = cond passed 0 1
 
 unfoldable pub turnsLeft : List Float → Float → Float → ℕ → ℕ
 turnsLeft breaks end left span = cond (lt left end) (1 + (segments breaks - span) + unpassed (le (at breaks (span + 1)) left)) 0
 
-pub turns-most : (breaks : List Float) (end left : Float) (span : ℕ) → span + 1 < length breaks → turnsLeft breaks end left span < length breaks + 2
+pub turns-most : (breaks : List Float) (end left : Float) (span : ℕ) → span + 1 < length breaks → turnsLeft breaks end left span
+    < length breaks + 2
 unfolding turnsLeft
 turns-most breaks end left span h = go (lt left end) (le (at breaks (span + 1)) left)
   where
@@ -85,7 +87,8 @@ module _ (breaks : List Float) (end left : Float) (span k : ℕ) (on : span ≤ 
   pub turns-fall : turnsLeft breaks end (minOf end (at breaks (k + 1))) k < turnsLeft breaks end left span
   turns-fall = go (lt (at breaks (k + 1)) end) refl
     where
-      go : (t : Bool) → lt (at breaks (k + 1)) end ≡ t → turnsLeft breaks end (minOf end (at breaks (k + 1))) k < turnsLeft breaks end left span
+      go : (t : Bool) → lt (at breaks (k + 1)) end ≡ t → turnsLeft breaks end (minOf end (at breaks (k + 1))) k
+          < turnsLeft breaks end left span
       go false e =
           let now = some-left breaks end left span below in
           let then = none-left breaks end end k (lt-itself end) in
@@ -99,7 +102,8 @@ module _ (breaks : List Float) (end left : Float) (span k : ℕ) (on : span ≤ 
             | yes s ↦ omega arith
             | no s ↦
                 let same : span ≡ k = omega arith in
-                let ahead : le (at breaks (span + 1)) left ≡ false = ap (λ (m : ℕ). le (at breaks (m + 1)) left) same ∙ (rw (to-break end left (at breaks (k + 1)) below e) at above) in
+                let ahead : le (at breaks (span + 1)) left ≡ false = ap (λ (m : ℕ). le (at breaks (m + 1)) left) same
+                ∙ (rw (to-break end left (at breaks (k + 1)) below e) at above) in
                 let one : unpassed (le (at breaks (span + 1)) left) ≡ 1 = ap unpassed ahead in
                 omega arith
           ])

@@ -1,17 +1,17 @@
--- One waypoint interval of the source's `audit`, step by step: the pieces that it has in common with the segments, on each piece the axes, and
--- of each axis the six Bernstein coefficients of curve less line. `breaks` and `coefficients` are the curve, s the waypoints' parameters, y their
--- coordinates, d axes each.
+-- One waypoint interval of the source's `audit`, step by step: the pieces that it has in common with the segments, on each piece the axes,
+-- and of each axis the six Bernstein coefficients of curve less line. `breaks` and `coefficients` are the curve, s the waypoints'
+-- parameters, y their coordinates, d axes each.
 use Prim.Native.Nat.{ℕ, _+_, _*_}
 use mathlib.Core.Bool.{Bool, true, _&&_, cond}
 use mathlib.Core.List.{List}
-use lib.ListN.{length, set, replicate}
+use lib.ListN.{length, set}
 use lib.Ieee.{Float, binary64, ofBits, add, sub, mul, div, neg, lt, le}
 use lib.Ieee.Scale.{finite}
 use Rattle.arith.specs.Operations.{floats}
 use Rattle.arith.specs.Loop.{each, till, Step}
 use Rattle.arith.specs.Loop.Step.{next, stop}
 use Rattle.window.specs.Window.{window}
-use Rattle.window.specs.Cells.{+0, at}
+use Rattle.window.specs.Cells.{at, zeros}
 use Rattle.fraction.specs.Value.{absoluteFloat}
 use Rattle.float.specs.Order.{maxOf, minOf}
 use Rattle.float.specs.Power.{powerOf}
@@ -19,13 +19,35 @@ use Rattle.polynomial.specs.declared.piece.Piece.{Piece}
 use Rattle.polynomial.specs.declared.piece.Largest.{Largest}
 use Rattle.polynomial.specs.declared.interval.Outcome.{Outcome}
 use Rattle.polynomial.specs.declared.interval.Outcome.the-variants.{Done, NotAbove, NotFinite}
-use Rattle.polynomial.specs.declared.interval.Found.{Found}
-use Rattle.polynomial.specs.declared.interval.Interval.{Interval}
+use Rattle.polynomial.specs.declared.interval.Peak.{Peak}
+use Rattle.polynomial.specs.declared.interval.Ended.{Ended}
 use Rattle.polynomial.specs.Span.{advanced}
 use Rattle.polynomial.specs.Piece.{errorOf, bernsteinForm}
 use Rattle.polynomial.specs.Outcome.{isDone}
 
--- the piece from left to right, in segment `span` and interval i: u and w, what part of the interval lies before it and what part it is, its middle
+-- what was found so far: for each axis the largest absolute coefficient, the largest of all, and the middle of the piece that it is of
+pub record Found : Type 0 where
+  pub bounds : List Float
+  pub peak : Float
+  pub witness : Float
+  pub outcome : Outcome
+
+-- an audited interval: its bounds, an axis after the other, its witness, and the last segment that was used
+pub record Interval : Type 0 where
+  pub bounds : List Float
+  pub witness : Float
+  pub span : ℕ
+  pub outcome : Outcome
+
+-- the two, where the bounds stand in a slice of their own
+abbrev pub found : List Float → Peak → Found
+found bounds f = record { bounds = bounds; peak = f .peak; witness = f .witness; outcome = f .outcome }
+
+abbrev pub interval : List Float → Ended → Interval
+interval bounds r = record { bounds = bounds; witness = r .witness; span = r .span; outcome = r .outcome }
+
+-- the piece from left to right, in segment `span` and interval i: u and w, what part of the interval lies before it and what part it is,
+-- its middle
 unfoldable pub placeOf : List Float → List Float → ℕ → ℕ → Float → Float → Piece
 placeOf breaks s i span left right =
     let h = sub binary64 (at breaks (span + 1)) (at breaks span) in
@@ -107,5 +129,5 @@ intervalOf breaks coefficients s y d i span before =
     (record {
       left = at s i;
       span = span;
-      found = record { bounds = replicate 16 +0; peak = neg (ofBits binary64 0x3ff0_0000_0000_0000); witness = before; outcome = Done };
+      found = record { bounds = zeros d; peak = neg (ofBits binary64 0x3ff0_0000_0000_0000); witness = before; outcome = Done };
     })

@@ -1,4 +1,5 @@
--- One axis on one piece, which is what a segment and a waypoint interval have in common: the steps of the source's `audit` over any arithmetic.
+-- One axis on one piece, which is what a segment and a waypoint interval have in common: the steps of the source's `audit` over any
+-- arithmetic.
 -- The local parameter on the segment is u + w y, with y from 0 to 1 on the piece.
 use Prim.Native.Nat.{ℕ, _+_, _-_}
 use mathlib.Core.List.{List, [], _∷_}

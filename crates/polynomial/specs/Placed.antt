@@ -5,8 +5,7 @@ use lib.Ieee.{Float}
 use Rattle.window.specs.Window.{window, splice}
 use Rattle.window.specs.Cells.{at}
 use Rattle.polynomial.specs.declared.audit.Parts.{Parts}
-use Rattle.polynomial.specs.declared.interval.Interval.{Interval}
-use Rattle.polynomial.specs.Interval.{intervalOf}
+use Rattle.polynomial.specs.Interval.{Interval, intervalOf}
 use Rattle.polynomial.specs.Audit.{Audit, auditOf}
 
 -- the parts lie within n cells, what is written apart from what is read

@@ -4,9 +4,10 @@ ghost use Prim.Native.Nat.{_+_, _-_, _*_, _≤_, _<_};
 ghost use lib.ListN.{length, set};
 ghost use Rattle.window.specs.Cells.{at};
 ghost use Rattle.polynomial.specs.Span.{spanOf};
+ghost use Rattle.polynomial.specs.Interval.{interval};
 ghost use Rattle.polynomial.specs.Audit.{boundsWith};
 ghost use Rattle.polynomial.specs.Placed.{Laid, breaksAt, parametersAt, boundsAt, witnessAt, intervalAt, auditAt, withBounds};
-use crate::interval::Interval;
+use crate::interval::Ended;
 use crate::interval::Outcome;
 
 // Where a curve with `segments` segments of `axes` axes lies in a lent slice, its waypoints, of which
@@ -39,11 +40,10 @@ fn span_at(work: &[f64], p: Parts, i: usize) -> usize
     let s = p.parameters;
     crate::span::span(&work[b..e], work[s + i])
 }
-
-// Interval i of the curve at p, from segment `span` on.
-fn interval_at(work: &[f64], p: Parts, i: usize, span: usize) -> Interval
-    requires { ⌜ Laid p (length (now work)) × (i + 1 < p .count) × (span < p .segments) ⌝ }
-    ensures { λ r. ⌜ (r ≡ intervalAt p i span (now (work .entry))) × (r .span < p .segments) ⌝ }
+// Interval i of the curve at p, from segment `span` on; its bounds go to `bounds`.
+fn interval_at(bounds: &mut [f64], work: &[f64], p: Parts, i: usize, span: usize) -> Ended
+    requires { ⌜ (length (now bounds) ≡ p .axes) × Laid p (length (now work)) × (i + 1 < p .count) × (span < p .segments) ⌝ }
+    ensures { λ r. ⌜ (interval (now (bounds .exit)) r ≡ intervalAt p i span (now (work .entry))) × (r .span < p .segments) ⌝ }
 {
     let d = p.axes;
     let b = p.breaks;
@@ -56,6 +56,7 @@ fn interval_at(work: &[f64], p: Parts, i: usize, span: usize) -> Interval
     let y_end = y + p.count * d;
     let w = p.witness;
     crate::interval::audit_interval(
+        bounds,
         &work[b..b_end],
         &work[c..c_end],
         &work[s..s_end],
@@ -67,12 +68,11 @@ fn interval_at(work: &[f64], p: Parts, i: usize, span: usize) -> Interval
     )
 }
 
-// The first d cells of r, from `row` on.
-fn put_bounds(bounds: &mut [f64], row: usize, d: usize, r: Interval)
-    requires { ⌜ (d ≤ 16) × (row + d ≤ length (now bounds)) ⌝ }
-    ensures { λ _. ⌜ now (bounds .exit) ≡ boundsWith row d (r .bounds) (now (bounds .entry)) ⌝ }
+// The first d of the cells, from `row` on.
+fn put_bounds(bounds: &mut [f64], row: usize, d: usize, cells: &[f64])
+    requires { ⌜ (d ≤ length (now cells)) × (row + d ≤ length (now bounds)) ⌝ }
+    ensures { λ _. ⌜ now (bounds .exit) ≡ boundsWith row d (now (cells .entry)) (now (bounds .entry)) ⌝ }
 {
-    let cells = r.bounds;
     let mut axis = 0;
     while axis < d {
         bounds[row + axis] = cells[axis];
@@ -89,18 +89,47 @@ fn put_witness(witness: &mut [f64], i: usize, x: f64)
 }
 
 // The bounds and the witness of interval i.
-fn put(work: &mut [f64], p: Parts, i: usize, r: Interval)
-    requires { ⌜ Laid p (length (now work)) × (i + 1 < p .count) ⌝ }
-    ensures { λ _. ⌜ now (work .exit) ≡ withBounds p (boundsWith (i * p .axes) (p .axes) (r .bounds) (boundsAt p (now (work .entry))))
-        (set (witnessAt p (now (work .entry))) i (r .witness)) (now (work .entry)) ⌝ }
+fn put(work: &mut [f64], p: Parts, i: usize, cells: &[f64], x: f64)
+    requires { ⌜ Laid p (length (now work)) × (i + 1 < p .count) × (p .axes ≤ length (now cells)) ⌝ }
+    ensures { λ _. ⌜ now (work .exit) ≡ withBounds p (boundsWith (i * p .axes) (p .axes) (now (cells .entry))
+        (boundsAt p (now (work .entry))))
+        (set (witnessAt p (now (work .entry))) i x) (now (work .entry)) ⌝ }
 {
     let d = p.axes;
     let b = p.bounds;
     let e = b + (p.count - 1) * d;
     let w = p.witness;
     let f = w + (p.count - 1);
-    put_bounds(&mut work[b..e], i * d, d, r);
-    put_witness(&mut work[w..f], i, r.witness);
+    put_bounds(&mut work[b..e], i * d, d, cells);
+    put_witness(&mut work[w..f], i, x);
+}
+
+// The audit of the curve at p; an interval's bounds are collected in `cells`, one for each axis.
+fn audit_with(work: &mut [f64], p: Parts, first: usize, last: usize, cells: &mut [f64]) -> Audited
+    requires { ⌜ Laid p (length (now work)) × (first < p .count) × (last < p .count) × (length (now cells) ≡ p .axes) ⌝ }
+    ensures { λ r. ⌜ (r .outcome ≡ auditAt p first last (now (work .entry)) .outcome)
+        × (r .checked ≡ auditAt p first last (now (work .entry)) .checked)
+        × (now (work .exit) ≡ withBounds p (auditAt p first last (now (work .entry)) .bounds)
+        (auditAt p first last (now (work .entry)) .witness) (now (work .entry))) ⌝ }
+{
+    let mut k = span_at(work, p, first);
+    let mut checked = 0;
+    let mut i = first;
+    while i < last {
+        let r = interval_at(cells, work, p, i, k);
+        let outcome = r.outcome;
+        if !crate::interval::is_done(outcome) {
+            return Audited { outcome, checked };
+        }
+        put(work, p, i, cells, r.witness);
+        k = r.span;
+        checked += 1;
+        i += 1;
+    }
+    Audited {
+        outcome: Outcome::Done,
+        checked,
+    }
 }
 
 // The source's `audit` of the curve at p, over the intervals from `first` up to `last`. Their bounds
@@ -112,22 +141,7 @@ pub fn audit(work: &mut [f64], p: Parts, first: usize, last: usize) -> Audited
         × (now (work .exit) ≡ withBounds p (auditAt p first last (now (work .entry)) .bounds)
         (auditAt p first last (now (work .entry)) .witness) (now (work .entry))) ⌝ }
 {
-    let mut k = span_at(work, p, first);
-    let mut checked = 0;
-    let mut i = first;
-    while i < last {
-        let r = interval_at(work, p, i, k);
-        let outcome = r.outcome;
-        if !crate::interval::is_done(outcome) {
-            return Audited { outcome, checked };
-        }
-        put(work, p, i, r);
-        k = r.span;
-        checked += 1;
-        i += 1;
-    }
-    Audited {
-        outcome: Outcome::Done,
-        checked,
-    }
+    let mut cells = [0.0; 16];
+    let d = p.axes;
+    audit_with(work, p, first, last, &mut cells[0..d])
 }

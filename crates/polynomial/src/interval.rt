@@ -3,7 +3,7 @@ ghost use mathlib.Core.Path.{_≡_};
 ghost use Prim.Native.Nat.{_+_, _-_, _*_, _≤_, _<_};
 ghost use lib.ListN.{length};
 ghost use Rattle.polynomial.specs.Outcome.{isDone};
-ghost use Rattle.polynomial.specs.Interval.{placeOf, axesOf, endedBy, intervalOf};
+ghost use Rattle.polynomial.specs.Interval.{found, interval, placeOf, axesOf, intervalOf};
 use crate::piece;
 use crate::piece::Largest;
 use crate::piece::Piece;
@@ -16,26 +16,23 @@ pub enum Outcome {
     NotFinite,
 }
 
-// What was found so far: for each axis the largest absolute coefficient, the largest of all, and the
-// middle of the piece that it is of.
-pub struct Found {
-    pub bounds: [f64; 16],
+// What was found so far beside the bounds: the largest absolute coefficient of all axes, and the middle
+// of the piece that it is of.
+pub struct Peak {
     pub peak: f64,
     pub witness: f64,
     pub outcome: Outcome,
 }
 
-// An audited interval: its bounds, an axis after the other, its witness, and the last segment that
-// was used.
-pub struct Interval {
-    pub bounds: [f64; 16],
+// How an interval ended: its witness, and the last segment that was used.
+pub struct Ended {
     pub witness: f64,
     pub span: usize,
     pub outcome: Outcome,
 }
 
 // Whether nothing was refused.
-pub fn is_done(o: Outcome) -> bool
+pub(crate) fn is_done(o: Outcome) -> bool
     ensures { λ r. ⌜ r ≡ isDone o ⌝ }
 {
     match o {
@@ -64,18 +61,19 @@ fn place(breaks: &[f64], s: &[f64], i: usize, span: usize, left: f64, right: f64
 // All d axes on a piece. The segment's first axis is number `first` of all axes of all segments, and
 // the first coordinate of the interval's waypoint stands at `row`.
 fn axes(
+    bounds: &mut [f64],
     coefficients: &[f64],
     y: &[f64],
     d: usize,
     first: usize,
     row: usize,
     q: Piece,
-    f: Found,
-) -> Found
-    requires { ⌜ (d ≤ 16) × (6 * (first + d) ≤ length (now coefficients)) × (row + d + d ≤ length (now y)) ⌝ }
-    ensures { λ r. ⌜ r ≡ axesOf (now (coefficients .entry)) (now (y .entry)) d first row q f ⌝ }
+    f: Peak,
+) -> Peak
+    requires { ⌜ (length (now bounds) ≡ d) × (6 * (first + d) ≤ length (now coefficients)) × (row + d + d ≤ length (now y)) ⌝ }
+    ensures { λ r. ⌜ found (now (bounds .exit)) r ≡ axesOf (now (coefficients .entry)) (now (y .entry)) d first row q
+        (found (now (bounds .entry)) f) ⌝ }
 {
-    let mut bounds = f.bounds;
     let mut peak = f.peak;
     let mut witness = f.witness;
     let outcome = f.outcome;
@@ -86,8 +84,7 @@ fn axes(
         let b = piece::error_form(&coefficients[from..to], y[row + axis], y[row + d + axis], q);
         let cells = b.cells;
         if !piece::all_finite(cells) {
-            return Found {
-                bounds,
+            return Peak {
                 peak,
                 witness,
                 outcome: Outcome::NotFinite,
@@ -104,29 +101,17 @@ fn axes(
         witness = l.witness;
         axis += 1;
     }
-    Found {
-        bounds,
+    Peak {
         peak,
         witness,
         outcome,
     }
 }
 
-// The interval, as it ends.
-fn ended(o: Outcome, span: usize, f: Found) -> Interval
-    ensures { λ r. ⌜ r ≡ endedBy o span f ⌝ }
-{
-    let bounds = f.bounds;
-    Interval {
-        bounds,
-        witness: f.witness,
-        span,
-        outcome: o,
-    }
-}
-
-// Interval i, from segment `span` on, where its witness was `before`.
-pub fn audit_interval(
+// Interval i, from segment `span` on, where its witness was `before`. Its bounds go to `bounds`, which has
+// a cell for each of d axes.
+pub(crate) fn audit_interval(
+    bounds: &mut [f64],
     breaks: &[f64],
     coefficients: &[f64],
     s: &[f64],
@@ -135,17 +120,19 @@ pub fn audit_interval(
     i: usize,
     span: usize,
     before: f64,
-) -> Interval
-    requires { ⌜ (d ≤ 16) × (span + 1 < length (now breaks)) × ((length (now breaks) - 1) * (6 * d) ≤ length (now coefficients))
+) -> Ended
+    requires { ⌜ (length (now bounds) ≡ d) × (span + 1 < length (now breaks))
+        × ((length (now breaks) - 1) * (6 * d) ≤ length (now coefficients))
         × (i + 1 < length (now s)) × (i * d + d + d ≤ length (now y)) ⌝ }
-    ensures { λ r. ⌜ (r ≡ intervalOf (now (breaks .entry)) (now (coefficients .entry)) (now (s .entry)) (now (y .entry)) d i span before)
+    ensures { λ r. ⌜ (interval (now (bounds .exit)) r
+        ≡ intervalOf (now (breaks .entry)) (now (coefficients .entry)) (now (s .entry)) (now (y .entry)) d i span before)
         × (r .span + 1 < length (now (breaks .entry))) ⌝ }
 {
+    window::clear(bounds);
     let end = s[i + 1];
     let mut left = s[i];
     let mut k = span;
-    let mut f = Found {
-        bounds: [0.0; 16],
+    let mut f = Peak {
         peak: -1.0,
         witness: before,
         outcome: Outcome::Done,
@@ -154,15 +141,27 @@ pub fn audit_interval(
         k = crate::span::advance(breaks, left, k);
         let right = float::min(end, breaks[k + 1]);
         if right <= left {
-            return ended(Outcome::NotAbove, k, f);
+            return Ended {
+                witness: f.witness,
+                span: k,
+                outcome: Outcome::NotAbove,
+            };
         }
         let q = place(breaks, s, i, k, left, right);
-        f = axes(coefficients, y, d, k * d, i * d, q, f);
+        f = axes(bounds, coefficients, y, d, k * d, i * d, q, f);
         let outcome = f.outcome;
         if !is_done(outcome) {
-            return ended(outcome, k, f);
+            return Ended {
+                witness: f.witness,
+                span: k,
+                outcome,
+            };
         }
         left = right;
     }
-    ended(Outcome::Done, k, f)
+    Ended {
+        witness: f.witness,
+        span: k,
+        outcome: Outcome::Done,
+    }
 }

@@ -1,7 +1,7 @@
 // One axis on one piece of a segment: the error's power coefficients on the piece, its Bernstein
 // coefficients, and the largest of these.
 ghost use mathlib.Core.Path.{_≡_};
-ghost use mathlib.Core.Bool.{_&&_, cond};
+ghost use mathlib.Core.Bool.{true, _&&_, cond};
 ghost use Prim.Native.Nat.{_+_, _<_};
 ghost use lib.ListN.{length};
 ghost use Rattle.arith.specs.Operations.{floats};
@@ -9,6 +9,7 @@ ghost use Rattle.arith.specs.Loop.{each};
 ghost use Rattle.float.specs.Power.{powerOf};
 ghost use Rattle.polynomial.specs.Piece.{piecePower, errorOf, bernsteinOf, bernsteinForm};
 ghost use Rattle.polynomial.specs.Interval.{errorForm, allFinite, largestTurn};
+ghost use Rattle.polynomial.specs.Largest.{largerOf, largestOf};
 
 // Where a piece lies. `u` and `w`: its left end and its width, by the segment's local parameter.
 // `before` and `part`: what part of the waypoint interval lies before it, and what part it is.
@@ -136,25 +137,37 @@ fn either(test: bool, x: f64, y: f64) -> f64
     if test { x } else { y }
 }
 
-// The coefficients b of a piece with this middle are taken in, one after the other.
-pub fn take_in(b: [f64; 6], middle: f64, before: Largest) -> Largest
-    ensures { λ r. ⌜ r ≡ each (largestTurn b middle) 0 6 before ⌝ }
+// The larger of two numbers.
+fn larger(x: f64, y: f64) -> f64
+    ensures { λ r. ⌜ r ≡ largerOf x y ⌝ }
 {
-    let mut bound = before.bound;
-    let mut peak = before.peak;
-    let mut witness = before.witness;
-    let mut k = 0;
+    either(x < y, y, x)
+}
+
+// The largest absolute coefficient.
+fn maximum(b: [f64; 6]) -> f64
+    ensures { λ r. ⌜ r ≡ largestOf b ⌝ }
+{
+    let mut m = float::abs(b[0]);
+    let mut k = 1;
     while k < 6 {
-        let v = float::abs(b[k]);
-        let higher = peak < v;
-        bound = float::max(bound, v);
-        witness = either(higher, middle, witness);
-        peak = either(higher, v, peak);
+        m = larger(m, float::abs(b[k]));
         k += 1;
     }
+    m
+}
+
+// The coefficients b of a piece with this middle are taken in, which are all finite. The largest of
+// them does what all do one after the other.
+pub fn take_in(b: [f64; 6], middle: f64, before: Largest) -> Largest
+    requires { ⌜ allFinite b ≡ true ⌝ }
+    ensures { λ r. ⌜ r ≡ each (largestTurn b middle) 0 6 before ⌝ }
+{
+    let m = maximum(b);
+    let higher = before.peak < m;
     Largest {
-        bound,
-        peak,
-        witness,
+        bound: float::max(before.bound, m),
+        peak: either(higher, m, before.peak),
+        witness: either(higher, middle, before.witness),
     }
 }

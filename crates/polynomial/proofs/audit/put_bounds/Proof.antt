@@ -12,7 +12,9 @@ use Rattle.polynomial.proofs.audit.put_bounds.Tie as tie
 
 abbrev Inv-loop : tie.InvT-loop
 Inv-loop bounds₀ row d cells axis₀ bounds axis =
-    (axis ≤ d) × (length bounds ≡ length bounds₀) × (each (λ axis b. set b (row + axis) (at cells axis)) axis d bounds ≡ each (λ axis b. set b (row + axis) (at cells axis)) 0 d bounds₀)
+    (axis ≤ d)
+    × (length bounds ≡ length bounds₀)
+    × (each (λ axis b. set b (row + axis) (at cells axis)) axis d bounds ≡ each (λ axis b. set b (row + axis) (at cells axis)) 0 d bounds₀)
 
 abbrev μ-loop : tie.MeasureT-loop
 μ-loop bounds₀ row d cells axis₀ bounds axis = d - axis
@@ -21,7 +23,7 @@ loop-holds : tie.Need-loop-holds Inv-loop μ-loop
 loop-holds c = (omega arith, refl, refl)
 
 loop-again : tie.Need-loop-again Inv-loop μ-loop
-loop-again c = (omega arith, simp length-set (omega arith), sym (each-turn _ _ _ _ (omega arith)) ∙ c .before .loop .inv .2)
+loop-again c = (omega arith, simp length-set (omega arith), sym (each-turn _ _ _ _ (omega arith)) ∙ c .before .before .loop .inv .2)
 
 returns : tie.Need-returns Inv-loop μ-loop
 unfolding boundsWith

@@ -22,8 +22,11 @@ loop-holds : tie.Need-loop-holds Inv-loop μ-loop
 loop-holds c = (omega arith, refl)
 
 loop-again : tie.Need-loop-again Inv-loop μ-loop
-loop-again c =
-    (omega arith, rw (c .both .ensures, c .before .is-finite .ensures) (sym (each-turn _ _ _ _ (omega arith)) ∙ c .before .before .before .loop .inv .1))
+loop-again c = (
+  omega arith,
+  rw (c .both .ensures, c .before .is-finite .ensures) (sym (each-turn _ _ _ _ (omega arith))
+      ∙ c .before .before .before .loop .inv .1),
+)
 
 returns : tie.Need-returns Inv-loop μ-loop
 unfolding allFinite

@@ -21,8 +21,11 @@ loop-holds c = (omega arith, refl)
 
 loop-again : tie.Need-loop-again Inv-loop μ-loop
 unfolding addShare
-loop-again c =
-    (omega arith, rw (c .choose2 .ensures, c .before .choose .ensures) (sym (each-turn _ _ _ _ (omega arith)) ∙ c .before .before .before .loop .inv .1))
+loop-again c = (
+  omega arith,
+  rw (c .choose2 .ensures, c .before .choose .ensures) (sym (each-turn _ _ _ _ (omega arith))
+      ∙ c .before .before .before .loop .inv .1),
+)
 
 returns : tie.Need-returns Inv-loop μ-loop
 unfolding bernsteinOf

@@ -7,7 +7,14 @@ use Rattle.polynomial.proofs.piece.bernsteins.Tie as tie
 returns : tie.Need-returns
 unfolding bernsteinForm
 returns c =
-    rw (c .bernstein6 .ensures, c .before .bernstein5 .ensures, c .before .before .bernstein4 .ensures, c .before .before .before .bernstein3 .ensures, c .before .before .before .before .bernstein2 .ensures, c .before .before .before .before .before .bernstein .ensures)
+    rw (
+      c .bernstein6 .ensures,
+      c .before .bernstein5 .ensures,
+      c .before .before .bernstein4 .ensures,
+      c .before .before .before .bernstein3 .ensures,
+      c .before .before .before .before .bernstein2 .ensures,
+      c .before .before .before .before .before .bernstein .ensures,
+    )
 
 pub bernsteins-spec : {M : Type 1} → statement M
 bernsteins-spec =

@@ -7,7 +7,14 @@ use Rattle.polynomial.proofs.piece.error.Tie as tie
 returns : tie.Need-returns
 unfolding errorOf
 returns c =
-    rw (c .power6 .ensures, c .before .power5 .ensures, c .before .before .power4 .ensures, c .before .before .before .power3 .ensures, c .before .before .before .before .power2 .ensures, c .before .before .before .before .before .power .ensures)
+    rw (
+      c .power6 .ensures,
+      c .before .power5 .ensures,
+      c .before .before .power4 .ensures,
+      c .before .before .before .power3 .ensures,
+      c .before .before .before .before .power2 .ensures,
+      c .before .before .before .before .before .power .ensures,
+    )
 
 pub error-spec : {M : Type 1} → statement M
 error-spec =

@@ -22,8 +22,12 @@ loop-holds c = (omega arith, omega arith, refl)
 
 loop-again : tie.Need-loop-again Inv-loop μ-loop
 unfolding addTerm
-loop-again c =
-    (omega arith, omega arith, rw (c .before .powi .ensures, c .before .before .choose .ensures) (sym (each-turn _ _ _ _ (omega arith)) ∙ c .before .before .before .before .loop .inv .2))
+loop-again c = (
+  omega arith,
+  omega arith,
+  rw (c .before .powi .ensures, c .before .before .choose .ensures)
+      (sym (each-turn _ _ _ _ (omega arith)) ∙ c .before .before .before .before .loop .inv .2),
+)
 
 returns : tie.Need-returns Inv-loop μ-loop
 unfolding piecePower

@@ -1,4 +1,5 @@
--- `span::advance` meets its contract. The invariant: the turns left, from the span now, give what all give; there are enough to reach the last segment.
+-- `span::advance` meets its contract. The invariant: the turns left, from the span now, give what all give; there are enough to reach the
+-- last segment.
 use mathlib.Core.Path.{_≡_, refl, sym, _∙_}
 use Prim.Native.Nat.{ℕ, _+_, _-_, _≤_, _<_}
 use native.Mathlib.Omega.{arith}
@@ -12,7 +13,8 @@ use Rattle.polynomial.proofs.span.advance.Tie as tie
 
 abbrev Inv-loop : tie.InvT-loop
 Inv-loop breaks left span n k₀ k =
-    (k + 1 < length breaks) × (span ≤ k) × ((m : ℕ) × (length breaks ≤ m + k + 1) × (whilst (passed breaks left) (λ k. k + 1) m k ≡ whilst (passed breaks left) (λ k. k + 1) (length breaks) span))
+    (k + 1 < length breaks) × (span ≤ k) × ((m : ℕ) × (length breaks ≤ m + k + 1) × (whilst (passed breaks left) (λ k. k + 1) m k ≡ whilst
+    (passed breaks left) (λ k. k + 1) (length breaks) span))
 
 abbrev μ-loop : tie.MeasureT-loop
 μ-loop breaks left span n k₀ k = length breaks - k
@@ -24,8 +26,16 @@ loop-again : tie.Need-loop-again Inv-loop μ-loop
 loop-again c =
     let l = c .before .before .before .loop in
     let w = l .inv .2 in
-    let more = c .before .before .loop-test .taken in
-    (omega arith, omega arith, (w .0 - 1, omega arith, sym (whilst-turn _ _ _ _ (omega arith) (rw (lt-ltb _ _ more) (c .if1 .taken))) ∙ w .2))
+    let more = c .before .before .loop-test .taken in (
+      omega arith,
+      omega arith,
+      (
+        w .0 - 1,
+        omega arith,
+        sym (whilst-turn _ _ _ _ (omega arith) (rw (lt-ltb _ _ more) (c .if1 .taken)))
+            ∙ w .2,
+      ),
+    )
 
 returns : tie.Need-returns Inv-loop μ-loop
 unfolding advanced
