@@ -83,11 +83,14 @@ fn falls(spacing: Spacing, list: &[f64], n: usize, normal: bool) -> bool
     requires { ⌜ (2 ≤ n) × (n ≤ 20000) × (spacing ≡ Listed → n ≤ length (now list)) ⌝ }
     ensures { λ r. ⌜ r ≡ anyFall n (valueOf spacing (now (list .entry)) n normal) ⌝ }
 {
+    let mut previous = value(spacing, list, n, 0, normal);
     let mut i = 0;
     while i < n - 1 {
-        if value(spacing, list, n, i + 1, normal) <= value(spacing, list, n, i, normal) {
+        let next = value(spacing, list, n, i + 1, normal);
+        if next <= previous {
             return true;
         }
+        previous = next;
         i += 1;
     }
     false
