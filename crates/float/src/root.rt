@@ -4,7 +4,7 @@ ghost use mathlib.Core.Path.{_≡_};
 ghost use mathlib.Core.Bool.{true};
 ghost use Prim.Native.Nat.{_+_, _*_, _^_, _≤_, _<_};
 ghost use lib.Ieee.{binary64, hid, ones};
-ghost use Rattle.float.specs.Root.{sqrtOf};
+ghost use Rattle.float.specs.Root.{sqrtOf, SquareRoot};
 ghost use Rattle.float.specs.RootSteps.{rootBits, Floor, Scaling, Nearest};
 
 // A number above 0 as significand * 2^(exponent - 2148), the significand of 53 digits: the number's
@@ -155,6 +155,7 @@ fn root_bits(bits: u64) -> u64
 // gives -0, +infinity itself, a NaN and every number below 0 a NaN.
 pub fn sqrt(x: f64) -> f64
     ensures { λ r. ⌜ r ≡ sqrtOf binary64 x ⌝ }
+    ensures { λ r. ⌜ SquareRoot binary64 x r ⌝ }
 {
     if 0.0 < x {
         if x < 1.0 / 0.0 {

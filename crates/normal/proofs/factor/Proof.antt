@@ -38,7 +38,7 @@ loop-again c =
     let e = c .before .before .before .before .before .before .before .eliminate .ensures in
     let v = c .before .before .before .reduced .ensures ∙ ap (λ (g : List Float). reducedOf g (l .i) (l .i)) e in
     let t = sym (c .before .before .unfit .ensures) ∙ c .before .if1 .left in
-    (omega arith, simp length-set (omega arith), rw (c .sqrt .ensures, e) (sym (till-next _ _ _ _ _ _ (omega arith) (pivot-next (l .i) (l .h) _ v t)) ∙ l .inv .2))
+    (omega arith, simp length-set (omega arith), rw (c .sqrt .ensures .0, e) (sym (till-next _ _ _ _ _ _ (omega arith) (pivot-next (l .i) (l .h) _ v t)) ∙ l .inv .2))
 
 returns-2 : tie.Need-returns-2 Inv-loop μ-loop
 returns-2 c =
