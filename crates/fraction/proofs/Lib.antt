@@ -1,4 +1,5 @@
 -- The laws. docs/FRACTIONS.md lists the main ones.
+pub mod Adjacent
 pub mod Bernstein
 pub mod Binomial
 pub mod Comparison

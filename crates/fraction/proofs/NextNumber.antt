@@ -31,13 +31,13 @@ ne→neqb a b n = go (eqb a b) (eqb→eq a b)
     go true e = absurd (n (e tt))
     go false e = tt
 
-suc-one : (t : ℕ) → suc t ≡ t + 1
+pub suc-one : (t : ℕ) → suc t ≡ t + 1
 suc-one t = omega arith
 
 prev-le : (i : ℕ) → i - 1 ≤ i
 prev-le i = omega arith
 
-prev-lt : (i : ℕ) → 0 < i → i - 1 < i
+pub prev-lt : (i : ℕ) → 0 < i → i - 1 < i
 prev-lt i l = omega arith
 
 suc-prev : (i : ℕ) → 0 < i → i ≡ suc (i - 1)
@@ -51,7 +51,7 @@ module _ (f : Format) where
       go : (h o : ℕ) → 0 < h → o * h < h * suc o
       go h o l = omega arith
 
-  infinity-positive : 0 < ones f * hid f
+  pub infinity-positive : 0 < ones f * hid f
   infinity-positive = go (hid f) (emax f) (hidden-pos f)
     where
       go : (h e : ℕ) → 0 < h → 0 < (2 * e + 1) * h
