@@ -2,6 +2,5 @@
 pub mod Anys
 pub mod Counts
 pub mod Difference
-pub mod Examples
 pub mod Normalised
 pub mod ZeroToOne
