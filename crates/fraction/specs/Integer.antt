@@ -1,3 +1,4 @@
+-- LAWS, but for `positivePart`, `negativePart`, `_≤ℤ_` and `signed`, which a reader must believe; pass over the rest.
 -- ℤ as an ordered commutative ring. An integer is its positive part less its negative part, of which one is 0, and each law is one of ℕ.
 -- The laws stand here, and not in proofs/, since the definition of the operations and the order on ℚ (Rational) needs them.
 use mathlib.Core.Bool.{Bool, cond, false, not, true}

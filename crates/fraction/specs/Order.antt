@@ -1,3 +1,4 @@
+-- LAWS: nothing here need be believed; pass over it.
 -- Orders in a commutative ring, proved by multiplying out. Example, over an ordered ring: from h : a ≤ b and k : 0 ≤ c, that a * c ≤ b * c, by
 --   le-one R le L (a ∷ b ∷ c ∷ []) (v0 ⊗ v2) (v1 ⊗ v2) v2 v0 v1 tt k h
 -- The laws stand here, and not in proofs/, since the definition of the order on ℚ (Rational) needs them.

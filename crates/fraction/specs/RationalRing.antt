@@ -1,3 +1,4 @@
+-- LAWS, but for the four operations in `rationalRing`, which are those of ℚ (Rational); pass over the rest.
 -- ℚ as a commutative ring. Sums and polynomials take their operations from this record, which asks for the laws: so the laws stand here.
 use mathlib.Core.List.{[], _∷_}
 use mathlib.Core.Path.{_≡_, refl}

@@ -1,3 +1,4 @@
+-- LAWS, but for the operations of the record `CommutativeRing`, over which sums and polynomials are defined; pass over the rest.
 -- Identities of a commutative ring, decided by computation: both sides are multiplied out, and every coefficient of the difference must be 0.
 -- Example, over any ring R: (a + b) * (a - b) is a * a - b * b, by
 --   solve R (a ∷ b ∷ []) ((v0 ⊕ v1) ⊗ (v0 ⊖ v1)) (v0 ⊗ v0 ⊖ v1 ⊗ v1) tt

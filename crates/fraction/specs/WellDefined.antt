@@ -1,3 +1,4 @@
+-- LAWS: nothing here need be believed; pass over it.
 -- The laws that make the operations and the order on ℚ well defined: equal fractions have equal sums, products, inverses and orders.
 -- They stand here, and not in proofs/, since the definitions of Rational need them.
 use mathlib.Core.Bool.{Bool, false, true}
