@@ -1,4 +1,4 @@
--- Laws of the Bernstein polynomials: de Casteljau's recursion gives the sum of c i * B_{i,n}(u); powers to Bernstein coefficients and back;
+-- Laws of the Bernstein polynomials: de Casteljau's recursion gives the sum of c i * B_{i,n}(u); powers to Bernstein coefficients;
 -- and coefficients within m keep the polynomial within m on 0 to 1.
 use mathlib.Core.List.{List, [], _∷_}
 use mathlib.Core.Path.{_∙_, _≡_, ap, fun-ext, refl, subst, sym}
@@ -8,7 +8,7 @@ use native.Mathlib.Nat.{le-refl, le-suc, le-trans}
 use native.Mathlib.Omega.{arith}
 use lib.Arith.{lt→nleb}
 use lib.IntN.{negsuc, pos}
-use Rattle.fraction.specs.Bernstein.{bernstein, bernsteinCoefficient, bernsteinForm, complement, deCasteljau, difference, powerCoefficient}
+use Rattle.fraction.specs.Bernstein.{bernstein, bernsteinCoefficient, bernsteinForm, complement, deCasteljau}
 use Rattle.fraction.specs.Binomial.{choose}
 use Rattle.fraction.specs.Fraction.{multiplyFractions, wholeFraction}
 use Rattle.fraction.specs.Integer.{integerRing}
@@ -114,49 +114,6 @@ module _ {A : Type 0} (R : CommutativeRing A) where
   de-casteljau n c u =
       cut-form n c u
       ∙ ap (λ (e : ℕ → ℕ). sum R n (λ i. R .mul (c i) (R .mul (R .mul (R .of (pos (choose n i))) (power R u i)) (power R (complement R u) (e i))))) (fun-ext (λ i. monus-is n i))
-
-  -- ---- Bernstein coefficients to powers
-  abbrev step : (ℕ → A) → ℕ → A
-  step c i = R .add (c (suc i)) (R .neg (c i))
-
-  difference-shift : (k : ℕ) (c : ℕ → A) (i : ℕ) → difference R k (step c) i ≡ difference R (suc k) c i
-  difference-shift zero c i = refl
-  difference-shift (suc k) c i =
-      ap (λ (z : A). R .add z (R .neg (difference R k (step c) i))) (difference-shift k c (suc i))
-      ∙ ap (λ (z : A). R .add (difference R (suc k) c (suc i)) (R .neg z)) (difference-shift k c i)
-
-  deCasteljau-step : (n : ℕ) (c : ℕ → A) (u : A) → deCasteljau R (suc n) c u ≡ R .add (deCasteljau R n c u) (R .mul u (deCasteljau R n (step c) u))
-  deCasteljau-step n c u =
-      let a = deCasteljau R n c u in
-      let b = deCasteljau R n (λ i. c (suc i)) u in
-      solve R (u ∷ a ∷ b ∷ []) ((I1 ⊖ v0) ⊗ v1 ⊕ v0 ⊗ v2) (v1 ⊕ v0 ⊗ (v2 ⊕ con (negsuc 0) ⊗ v1)) tt
-      ∙ ap (λ (z : A). R .add a (R .mul u z)) (sym (deCasteljau-linear n (R .of (negsuc 0)) (λ i. c (suc i)) c u)
-      ∙ ap (λ (f : ℕ → A). deCasteljau R n f u) (fun-ext (λ i. ap (λ (z : A). R .add (c (suc i)) z) (sym (R .neg-is (c i))))))
-
-  powers-are : (n : ℕ) (c : ℕ → A) (u : A) → deCasteljau R n c u ≡ polynomial R n (powerCoefficient R n c) u
-  powers-are zero c u = solve R (c zero ∷ []) v0 (I1 ⊗ v0 ⊗ I1) tt
-  powers-are (suc n) c u =
-      let f : ℕ → A = λ k. R .mul (powerCoefficient R n c k) (power R u k) in
-      let g : ℕ → A = λ k. R .mul (R .mul (R .of (pos (choose n k))) (difference R (suc k) c zero)) (power R u (suc k)) in
-      deCasteljau-step n c u
-      ∙ ap (λ (z : A). R .add z (R .mul u (deCasteljau R n (step c) u))) (powers-are n c u)
-      ∙ ap (λ (z : A). R .add (sum R n f) (R .mul u z)) (powers-are n (step c) u)
-      ∙ ap (λ (z : A). R .add (sum R n f) z) (sym (sum-scale R n u (λ k. R .mul (powerCoefficient R n (step c) k) (power R u k)))
-      ∙ ap (sum R n) (fun-ext (λ k. ap (λ (z : A). R .mul u (R .mul (R .mul (R .of (pos (choose n k))) z) (power R u k))) (difference-shift k c zero)
-      ∙ solve R (u ∷ R .of (pos (choose n k)) ∷ difference R (suc k) c zero ∷ power R u k ∷ []) (v0 ⊗ (v1 ⊗ v2 ⊗ v3)) (v1 ⊗ v2 ⊗ (v0 ⊗ v3)) tt)))
-      ∙ ap (λ (z : A). R .add z (sum R n g)) (sym (last n f (ap (λ (z : ℕ). R .mul (R .mul (R .of (pos z)) (difference R (suc n) c zero)) (power R u (suc n))) (choose-above n (suc n) (le-refl (suc n)))
-      ∙ solve R (difference R (suc n) c zero ∷ power R u (suc n) ∷ []) (con (pos 0) ⊗ v0 ⊗ v1) (con (pos 0)) tt)))
-      ∙ solve R (f zero ∷ sum R n (λ k. f (suc k)) ∷ sum R n g ∷ []) (v0 ⊕ v1 ⊕ v2) (v0 ⊕ (v2 ⊕ v1)) tt
-      ∙ ap (λ (z : A). R .add (f zero) z) (sym (sum-add R n g (λ k. f (suc k)))
-      ∙ ap (sum R n) (fun-ext (λ k. solve R (R .of (pos (choose n k)) ∷ R .of (pos (choose n (suc k))) ∷ difference R (suc k) c zero ∷ power R u (suc k) ∷ []) (v0 ⊗ v2 ⊗ v3 ⊕ v1 ⊗ v2 ⊗ v3) ((v0 ⊕ v1) ⊗ v2 ⊗ v3) tt
-      ∙ ap (λ (z : A). R .mul (R .mul z (difference R (suc k) c zero)) (power R u (suc k))) (sym (R .of-add (pos (choose n k)) (pos (choose n (suc k))))))))
-    where
-      last : (n : ℕ) (f : ℕ → A) → f (suc n) ≡ R .of (pos 0) → sum R (suc n) f ≡ sum R n f
-      last n f h = sum-last R n f ∙ ap (λ (z : A). R .add (sum R n f) z) h ∙ R .add-zero (sum R n f)
-
-  -- the sum of c i * B_{i,n}(u) by the powers of u
-  pub bernstein-to-powers : (n : ℕ) (c : ℕ → A) (u : A) → bernsteinForm R n c u ≡ polynomial R n (powerCoefficient R n c) u
-  bernstein-to-powers n c u = sym (de-casteljau n c u) ∙ powers-are n c u
 
   -- ---- powers to Bernstein coefficients
   module _ (inv : ℕ → A) (inv-is : (n : ℕ) → R .mul (inv n) (R .of (pos (suc n))) ≡ R .of (pos 1)) where

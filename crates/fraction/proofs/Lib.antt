@@ -21,5 +21,4 @@ pub mod Rational
 pub mod RoundedPlace
 pub mod Rounding
 pub mod Sum
-pub mod TwoEnds
 pub mod Value

@@ -2,7 +2,6 @@
 use Prim.Native.Nat.{_-_, suc, zero, ℕ}
 use lib.IntN.{pos}
 use Rattle.fraction.specs.Binomial.{choose}
-use Rattle.fraction.specs.Fraction.{Fraction, divideFractions, multiplyFractions, sumFractions, wholeFraction}
 use Rattle.fraction.specs.Rational.{_*q_, _/q_, wholeq, ℚ}
 use Rattle.fraction.specs.RationalRing.{rationalRing}
 use Rattle.fraction.specs.Ring.{CommutativeRing}
@@ -26,20 +25,7 @@ module _ {A : Type 0} (R : CommutativeRing A) where
   deCasteljau zero c u = c zero
   deCasteljau (suc n) c u = R .add (R .mul (complement u) (deCasteljau n c u)) (R .mul u (deCasteljau n (λ i. c (suc i)) u))
 
-  -- the k-th forward difference of c at i
-  abbrev pub difference : ℕ → (ℕ → A) → ℕ → A
-  difference zero c i = c i
-  difference (suc k) c i = R .add (difference k c (suc i)) (R .neg (difference k c i))
-
-  -- the coefficient of u ^ k in the sum of c i * B_{i,n}(u)
-  abbrev pub powerCoefficient : ℕ → (ℕ → A) → ℕ → A
-  powerCoefficient n c k = R .mul (R .of (pos (choose n k))) (difference k c zero)
-
 -- the Bernstein coefficient i, of degree n, of the polynomial with coefficients p: the sum over j of p j * C(i, j) / C(n, j)
 -- (document 01: "Bernstein k = sum over j ≤ k of power j·C(k,j)/C(5,j)"; C(i, j) is 0 for a j above i)
 abbrev pub bernsteinCoefficient : ℕ → (ℕ → ℚ) → ℕ → ℚ
 bernsteinCoefficient n p i = sum rationalRing n (λ j. p j *q wholeq (pos (choose i j)) /q wholeq (pos (choose n j)))
-
--- the same on fractions as they are written
-abbrev pub fractionBernsteinCoefficient : ℕ → (ℕ → Fraction) → ℕ → Fraction
-fractionBernsteinCoefficient n p i = sumFractions n (λ j. divideFractions (multiplyFractions (p j) (wholeFraction (pos (choose i j)))) (wholeFraction (pos (choose n j))))
