@@ -199,10 +199,10 @@ module _ (t : List ℚ) (u : ℚ) (m k : ℕ) (five : 5 ≤ k) (km : k < m) (lon
       ∙ sym (half-open-curve (knot t) m sorted (oldSpan k s) (old-span-below s (omega (arith, f .1))) x (old-span-low s x (f .2)) (old-span-high s x (f .3)) (axisOf c d axis))
 
   -- with the right end of the domain, where the last span is wider than 0 and u before its end
-  pub closed-kept : u <q knot t (k + 1) → knot t (m - 1) <q knot t m → (d axis : ℕ) → axis < d → (c : List ℚ) (x : ℚ) → knot t 5 ≤q x
+  pub closed-kept : u <q knot t (k + 1) → knot t (m - 1) <q knot t m → (d axis : ℕ) → axis < d → (c : List ℚ) (x : ℚ) → knot t 5 ≤q x → x ≤q knot t m
       → curve t′ (closedAtEnd (m + 1) t′ x) (m + 1) (axisOf (controlsWith fractions t u d m k c) d axis) x ≡ curve (knot t) (closedAtEnd m (knot t) x) m (axisOf c d axis) x
   unfolding oldSpan
-  closed-kept before last d axis z c x a = go (atMostq (knot t m) x) refl
+  closed-kept before last d axis z c x a b = go (atMostq (knot t m) x) refl
     where
       c′ : ℕ → ℚ
       c′ = axisOf (controlsWith fractions t u d m k c) d axis
@@ -221,11 +221,11 @@ module _ (t : List ℚ) (u : ℚ) (m k : ℕ) (five : 5 ≤ k) (km : k < m) (lon
       go true e =
           let e′ : atMostq (t′ (m + 1)) x ≡ true = rw new-end e in
           let o : oldSpan k m ≡ m - 1 = rw (lt-leb m k km) in
-          curve-reading t′ (closedAtEnd (m + 1) t′ x) (onSpan (m + 1 - 1)) (m + 1) c′ x (omega arith) (λ i l. closed-last (m + 1) t′ x e′ 5 i)
+          curve-reading t′ (closedAtEnd (m + 1) t′ x) (onSpan (m + 1 - 1)) (m + 1) c′ x (omega arith) (λ i l. closed-last (m + 1) t′ x e′ (rw new-end b) 5 i)
           ∙ ap (λ (n : ℕ). curve t′ (onSpan n) (m + 1) c′ x) one
           ∙ curve-kept m (omega arith) wide d axis z c x
           ∙ ap (λ (n : ℕ). curve (knot t) (onSpan n) m (axisOf c d axis) x) o
-          ∙ sym (curve-reading (knot t) (closedAtEnd m (knot t) x) (onSpan (m - 1)) m (axisOf c d axis) x (omega arith) (λ i l. closed-last m (knot t) x e 5 i))
+          ∙ sym (curve-reading (knot t) (closedAtEnd m (knot t) x) (onSpan (m - 1)) m (axisOf c d axis) x (omega arith) (λ i l. closed-last m (knot t) x e b 5 i))
       go false e =
           let e′ : atMostq (t′ (m + 1)) x ≡ false = rw new-end e in
           curve-reading t′ (closedAtEnd (m + 1) t′ x) (halfOpen t′ x) (m + 1) c′ x (omega arith) (λ i l. closed-before (m + 1) t′ x e′ 5 i)

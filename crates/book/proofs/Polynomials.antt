@@ -208,10 +208,10 @@ module _ (t : List ℚ) (m : ℕ) (sorted : Nondecreasing (m + 6) (knot t)) (end
   value-half-open x low high =
       value-on-span x ∙ sym (half-open-curve (knot t) m sorted (own .span) (own .below) x (rw (own .start) at low) (rw (own .next h) at high) (axisOf c d axis))
 
-  -- the last segment: from its break on
-  pub value-last : knot t (m - 1) <q knot t m → ℓ + 2 ≡ length (polynomialOf fractions t c d m .breaks) → (x : ℚ) → breakOf (polynomialOf fractions t c d m) ℓ ≤q x
+  -- the last segment: from its break to the right end
+  pub value-last : knot t (m - 1) <q knot t m → ℓ + 2 ≡ length (polynomialOf fractions t c d m .breaks) → (x : ℚ) → breakOf (polynomialOf fractions t c d m) ℓ ≤q x → x ≤q knot t m
       → segmentValue (polynomialOf fractions t c d m) d axis ℓ x ≡ curve (knot t) (closedAtEnd m (knot t) x) m (axisOf c d axis) x
-  value-last wide e x low = go (atMostq (knot t m) x) refl
+  value-last wide e x low high = go (atMostq (knot t m) x) refl
     where
       ends : knot t (own .span + 1) ≡ knot t m
       ends = sym (own .next h) ∙ last-break t c d m ℓ e ∙ sym end
@@ -225,7 +225,7 @@ module _ (t : List ℚ) (m : ℕ) (sorted : Nondecreasing (m + 6) (knot t)) (end
       go : (b : Bool) → atMostq (knot t m) x ≡ b → segmentValue (polynomialOf fractions t c d m) d axis ℓ x ≡ curve (knot t) (closedAtEnd m (knot t) x) m (axisOf c d axis) x
       go true g =
           value-on-span x ∙ ap (λ (s : ℕ). curve (knot t) (onSpan s) m (axisOf c d axis) x) last
-          ∙ sym (curve-reading (knot t) (closedAtEnd m (knot t) x) (onSpan (m - 1)) m (axisOf c d axis) x (omega (arith, own .below)) (λ i l. closed-last m (knot t) x g 5 i))
+          ∙ sym (curve-reading (knot t) (closedAtEnd m (knot t) x) (onSpan (m - 1)) m (axisOf c d axis) x (omega (arith, own .below)) (λ i l. closed-last m (knot t) x g high 5 i))
       go false g =
           value-half-open x low (rw (own .next h, ends, g) tt)
           ∙ sym (curve-reading (knot t) (closedAtEnd m (knot t) x) (halfOpen (knot t) x) m (axisOf c d axis) x (omega (arith, own .below)) (λ i l. closed-before m (knot t) x g 5 i))

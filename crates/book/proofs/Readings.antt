@@ -45,10 +45,10 @@ module _ (t : ℕ → ℚ) (n : ℕ) (sorted : Nondecreasing n t) (span : ℕ) (
   pub half-open-basis : (p i : ℕ) → i + p + 1 < n → basis t (halfOpen t x) x p i ≡ basis t (onSpan span) x p i
   half-open-basis p i h = basis-first t (halfOpen t x) (onSpan span) x p i (λ m a b. half-open-on m (omega arith))
 
--- from the right end on, the closed reading is that of the last span
-pub closed-last : (m : ℕ) (t : ℕ → ℚ) (x : ℚ) → atMostq (t m) x ≡ true → (p i : ℕ) → basis t (closedAtEnd m t x) x p i ≡ basis t (onSpan (m - 1)) x p i
+-- at the right end, the closed reading is that of the last span
+pub closed-last : (m : ℕ) (t : ℕ → ℚ) (x : ℚ) → atMostq (t m) x ≡ true → x ≤q t m → (p i : ℕ) → basis t (closedAtEnd m t x) x p i ≡ basis t (onSpan (m - 1)) x p i
 unfolding closedAtEnd
-closed-last m t x h p i = basis-first t (closedAtEnd m t x) (onSpan (m - 1)) x p i (λ j a b. rw h)
+closed-last m t x h k p i = basis-first t (closedAtEnd m t x) (onSpan (m - 1)) x p i (λ j a b. rw (h, is-true (atMostq x (t m)) k))
 
 -- before it, the book's
 pub closed-before : (m : ℕ) (t : ℕ → ℚ) (x : ℚ) → atMostq (t m) x ≡ false → (p i : ℕ) → basis t (closedAtEnd m t x) x p i ≡ basis t (halfOpen t x) x p i

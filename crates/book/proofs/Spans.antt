@@ -62,13 +62,13 @@ module _ (t : List ℚ) (m : ℕ) (long : length t ≡ m + 6) (sorted : Nondecre
       omega arith
 
   -- the six values there, the right end of the domain included
-  pub values-found : 6 ≤ m → knot t 5 ≤q x → (r : ℕ) → r < 6
+  pub values-found : 6 ≤ m → knot t 5 ≤q x → x ≤q knot t m → (r : ℕ) → r < 6
       → getD (valuesOf fractions t (spanOf fractions t m x) x) r 𝟘 ≡ basis (knot t) (closedAtEnd m (knot t) x) x 5 (spanOf fractions t m x - 5 + r)
-  values-found six low r h = go (atMostq (knot t m) x) refl
+  values-found six low high r h = go (atMostq (knot t m) x) refl
     where
       go : (b : Bool) → atMostq (knot t m) x ≡ b → getD (valuesOf fractions t (spanOf fractions t m x) x) r 𝟘 ≡ basis (knot t) (closedAtEnd m (knot t) x) x 5 (spanOf fractions t m x - 5 + r)
       go true e =
-          rw (found-last six (rw e tt)) (entries-are t (m - 1) x (omega arith) r h ∙ sym (closed-last m (knot t) x e 5 (m - 1 - 5 + r)))
+          rw (found-last six (rw e tt)) (entries-are t (m - 1) x (omega arith) r h ∙ sym (closed-last m (knot t) x e high 5 (m - 1 - 5 + r)))
       go false e =
           let f = found-holds low (rw e tt) in
           let s = spanOf fractions t m x in
@@ -77,9 +77,9 @@ module _ (t : List ℚ) (m : ℕ) (long : length t ≡ m + 6) (sorted : Nondecre
           ∙ sym (closed-before m (knot t) x e 5 (s - 5 + r))
 
   -- and the curve by them
-  pub curve-found : 6 ≤ m → knot t 5 ≤q x → (c : ℕ → ℚ)
+  pub curve-found : 6 ≤ m → knot t 5 ≤q x → x ≤q knot t m → (c : ℕ → ℚ)
       → sum rationalRing 5 (λ r. getD (valuesOf fractions t (spanOf fractions t m x) x) r 𝟘 *q c (spanOf fractions t m x - 5 + r)) ≡ curve (knot t) (closedAtEnd m (knot t) x) m c x
-  curve-found six low c = go (atMostq (knot t m) x) refl
+  curve-found six low high c = go (atMostq (knot t m) x) refl
     where
       six-terms : (s : ℕ) → 5 ≤ s → s < m → sum rationalRing 5 (λ r. getD (valuesOf fractions t s x) r 𝟘 *q c (s - 5 + r)) ≡ curve (knot t) (onSpan s) m c x
       six-terms s five below =
@@ -91,7 +91,7 @@ module _ (t : List ℚ) (m : ℕ) (long : length t ≡ m + 6) (sorted : Nondecre
           → sum rationalRing 5 (λ r. getD (valuesOf fractions t (spanOf fractions t m x) x) r 𝟘 *q c (spanOf fractions t m x - 5 + r)) ≡ curve (knot t) (closedAtEnd m (knot t) x) m c x
       go true e =
           rw (found-last six (rw e tt))
-          (six-terms (m - 1) (omega arith) (omega arith) ∙ sym (curve-reading (knot t) (closedAtEnd m (knot t) x) (onSpan (m - 1)) m c x (omega arith) (λ i l. closed-last m (knot t) x e 5 i)))
+          (six-terms (m - 1) (omega arith) (omega arith) ∙ sym (curve-reading (knot t) (closedAtEnd m (knot t) x) (onSpan (m - 1)) m c x (omega arith) (λ i l. closed-last m (knot t) x e high 5 i)))
       go false e =
           let f = found-holds low (rw e tt) in
           let s = spanOf fractions t m x in

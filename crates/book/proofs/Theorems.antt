@@ -85,10 +85,10 @@ pub polynomial-is-curve : (t : List ℚ) (m : ℕ) → Nondecreasing (m + 6) (kn
     → segmentValue (polynomialOf fractions t c d m) d axis ℓ x ≡ curve (knot t) (halfOpen (knot t) x) m (axisOf c d axis) x
 polynomial-is-curve = value-half-open
 
--- The last segment is so up to the right end, where the last span is wider than 0.
+-- The last segment is so up to the right end, that end included, where the last span is wider than 0.
 pub polynomial-is-curve-at-end : (t : List ℚ) (m : ℕ) → Nondecreasing (m + 6) (knot t) → knot t m ≡ 𝟙 → knot t (m - 1) <q knot t m
     → (c : List ℚ) (d axis ℓ : ℕ) → axis < d → ℓ + 2 ≡ length (polynomialOf fractions t c d m .breaks)
-    → (x : ℚ) → breakOf (polynomialOf fractions t c d m) ℓ ≤q x
+    → (x : ℚ) → breakOf (polynomialOf fractions t c d m) ℓ ≤q x → x ≤q knot t m
     → segmentValue (polynomialOf fractions t c d m) d axis ℓ x ≡ curve (knot t) (closedAtEnd m (knot t) x) m (axisOf c d axis) x
 polynomial-is-curve-at-end t m sorted end wide c d axis ℓ z h = value-last t m sorted end c d axis ℓ z (omega arith) wide h
 
@@ -116,15 +116,15 @@ module _ (t : List ℚ) (m : ℕ) (count : length t ≡ m + 6) (sorted : Nondecr
   span-at-end six x = found-last t m count sorted x six
 
   -- There the six values are the book's, on the whole domain, its right end included.
-  pub values-at-own-span : 6 ≤ m → (x : ℚ) → knot t 5 ≤q x → (r : ℕ) → r < 6
+  pub values-at-own-span : 6 ≤ m → (x : ℚ) → knot t 5 ≤q x → x ≤q knot t m → (r : ℕ) → r < 6
       → getD (valuesOf fractions t (spanOf fractions t m x) x) r 𝟘 ≡ basis (knot t) (closedAtEnd m (knot t) x) x 5 (spanOf fractions t m x - 5 + r)
   values-at-own-span six x = values-found t m count sorted x six
 
   -- And six products of a value and a control give the curve (eq. 3.1, algorithm A3.1).
-  pub values-give-curve : 6 ≤ m → (x : ℚ) → knot t 5 ≤q x → (c : List ℚ) (d axis : ℕ)
+  pub values-give-curve : 6 ≤ m → (x : ℚ) → knot t 5 ≤q x → x ≤q knot t m → (c : List ℚ) (d axis : ℕ)
       → sum rationalRing 5 (λ r. getD (valuesOf fractions t (spanOf fractions t m x) x) r 𝟘 *q axisOf c d axis (spanOf fractions t m x - 5 + r))
       ≡ curve (knot t) (closedAtEnd m (knot t) x) m (axisOf c d axis) x
-  values-give-curve six x low c d axis = curve-found t m count sorted x six low (axisOf c d axis)
+  values-give-curve six x low high c d axis = curve-found t m count sorted x six low high (axisOf c d axis)
 
   -- ---- insertion leaves the curve as it is
 
@@ -143,7 +143,7 @@ module _ (t : List ℚ) (m : ℕ) (count : length t ≡ m + 6) (sorted : Nondecr
 
   -- With the span that the code finds for u it is so on the whole domain, its right end included, where the last span is wider than 0.
   pub insertion-at-own-span : (u : ℚ) → knot t 5 ≤q u → u <q knot t m → knot t (m - 1) <q knot t m
-      → (c : List ℚ) (d axis : ℕ) → axis < d → (x : ℚ) → knot t 5 ≤q x
+      → (c : List ℚ) (d axis : ℕ) → axis < d → (x : ℚ) → knot t 5 ≤q x → x ≤q knot t m
       → curve (knot (knotsWith u (spanOf fractions t m u) t)) (closedAtEnd (m + 1) (knot (knotsWith u (spanOf fractions t m u) t)) x) (m + 1)
       (axisOf (controlsWith fractions t u d m (spanOf fractions t m u) c) d axis) x
       ≡ curve (knot t) (closedAtEnd m (knot t) x) m (axisOf c d axis) x
