@@ -25,6 +25,7 @@ use Rattle.curve.proofs.Formed.{axes-good, formed, set-sizes}
 use Rattle.certificate.specs.Certify.{Certified, Outcome, certifiedAxis, certifyOf, outcome}
 use Rattle.certificate.specs.Distance.{Rises}
 use Rattle.certificate.specs.Figure.{Figure, figure, figureOf, noFigure}
+use Rattle.certificate.proofs.Covering.{covered}
 use Rattle.certificate.proofs.Distance.{distance-theorem}
 
 -- ---- a set of segments that is well formed
@@ -121,16 +122,20 @@ module _ (c : Curve) (s : Slices) (points : List Float) (n : ℕ) (spacing : Spa
         selected-below (c .axes) (c .k) (c .d) axis (λ i l. axes-good (c .axes) (c .k) (c .d) (formed c s (A .well-formed) .axes-formed) i l .0) (A .selected)
 
 -- The theorem about the certificate. Whatever the curve with its slices, the points, the parameters and the axis: if the answer is the figure F, then
--- the curve is well formed, the normalised parameters rise from 0 to 1, and the distance rule holds for the axis and F. By its contract `certify` answers
+-- the curve is well formed, breaks and normalised parameters rise from 0 to 1, and the distance rule holds for the axis and F at every fraction from 0 to 1. By its contract `certify` answers
 -- as `certifyOf` does, and the cells of its slices are f64s, as `Doubles` asks of the parameters.
 pub certificate-theorem : (c : Curve) (s : Slices) (points : List Float) (n : ℕ) (spacing : Spacing) (parameters : List Float) (axis : ℕ) (F : Float) → Doubles parameters
     → certifyOf c s points n spacing parameters axis ≡ outcome 0 (figure F) → Certified c s points n spacing parameters axis F
 certificate-theorem c s points n spacing parameters axis F doubles h =
     let a = accepted c s points n spacing parameters axis (figure F) h in
     let A = a .0 in
+    let x = certifiedAxis c s points n spacing parameters axis in
+    let breaks = breaks-rise c s points n spacing parameters axis A in
     let rise = parameters-rise c s points n spacing parameters axis A doubles in
     record {
       well-formed = A .well-formed;
+      breaks-rise = breaks;
       parameters-rise = rise;
-      distance = distance-theorem (certifiedAxis c s points n spacing parameters axis) F (breaks-rise c s points n spacing parameters axis A) rise (a .1);
+      everywhere = covered x breaks rise;
+      distance = distance-theorem x F breaks rise (a .1);
     }

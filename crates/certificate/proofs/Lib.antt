@@ -2,6 +2,7 @@
 pub mod Answers
 pub mod Certified
 pub mod Coefficients
+pub mod Covering
 pub mod Distance
 pub mod Enclosure
 pub mod Exact

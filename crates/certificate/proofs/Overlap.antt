@@ -60,7 +60,7 @@ pub record Place (x : ℕ → Float) (count : ℕ) (t : ℚ) : Type 0 where
   pub above : value (x place) ≤q t
   pub below : t <q value (x (place + 1))
 
-find : (x : ℕ → Float) (t : ℚ) → value (x 0) ≤q t → (n : ℕ) → t <q value (x n) → Place x n t
+pub find : (x : ℕ → Float) (t : ℚ) → value (x 0) ≤q t → (n : ℕ) → t <q value (x n) → Place x n t
 find x t h zero l = absurd (never t (value (x 0)) l h)
 find x t h (suc n) l = elim (≤q-or-< (value (x n)) t) [
   | inl k ↦ let e : suc n ≡ n + 1 = omega arith in record { place = n; inside = omega arith; above = k; below = subst (λ (j : ℕ). t <q value (x j)) e l }

@@ -14,7 +14,7 @@ use Rattle.fraction.proofs.Rational.{<q-weaken, never, ≤q-refl, ≤q-trans}
 use Rattle.certificate.specs.Distance.{Rises}
 
 -- ---- 0 and 1
-abbrev one : Float
+abbrev pub one : Float
 one = ofBits binary64 0x3ff0_0000_0000_0000
 
 zero-finite : T (finite +0)

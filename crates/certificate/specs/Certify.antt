@@ -6,6 +6,9 @@ use Prim.Native.Nat.{ℕ, _-_, _*_}
 use lib.Dec.{eqb, ltb}
 use lib.ListN.{length}
 use lib.Ieee.{Float}
+use lib.IntN.{pos}
+use Rattle.window.specs.Cells.{at}
+use Rattle.fraction.specs.Fraction.{Fraction, _≤f_, wholeFraction}
 use Rattle.request.specs.declared.parameters.Spacing.{Spacing}
 use Rattle.request.specs.Parameters.{misplaced, normalisedOf, unreliable}
 use Rattle.request.specs.Points.{unfit}
@@ -13,7 +16,7 @@ use Rattle.curve.specs.declared.Curve.{Curve}
 use Rattle.curve.specs.Form.{Slices, wellFormed}
 use Rattle.curve.specs.Places.{positionOf}
 use Rattle.certificate.specs.Axis.{axisOf}
-use Rattle.certificate.specs.Distance.{DistanceRule, Rises}
+use Rattle.certificate.specs.Distance.{Covered, DistanceRule, Rises}
 use Rattle.certificate.specs.Figure.{Axis, Figure, figure, figureOf, noFigure}
 use Rattle.certificate.specs.declared.certify.Certificate.{Certificate}
 use Rattle.certificate.specs.declared.certify.Certificate.the-variants as answers
@@ -61,9 +64,12 @@ outcomeOf (answers.Figure x) = outcome 0 (figure x)
 outcomeOf answers.None = outcome 0 noFigure
 outcomeOf (answers.Refused r) = outcome (refusalNumber r) noFigure
 
--- What the figure F says: the curve is well formed, the normalised parameters rise strictly from 0 to 1, and the distance rule holds; with the rule, the
--- axis's coefficients and its waypoints are finite.
+-- What the figure F says: the curve is well formed, its breaks and the normalised parameters rise strictly from 0 to 1, every exact fraction from 0 to 1 lies in
+-- a segment and in an interval, and the distance rule holds: so curve and line are at most F apart at every fraction from 0 to 1. With the rule, the axis's
+-- coefficients and its waypoints are finite.
 pub record Certified (c : Curve) (s : Slices) (points : List Float) (n : ℕ) (spacing : Spacing) (parameters : List Float) (axis : ℕ) (F : Float) : Type 0 where
   pub well-formed : wellFormed c s ≡ true
+  pub breaks-rise : Rises (length (s .breaks) - 1) (at (s .breaks))
   pub parameters-rise : Rises (n - 1) (normalisedOf spacing parameters n)
+  pub everywhere : (t : Fraction) → wholeFraction (pos 0) ≤f t → t ≤f wholeFraction (pos 1) → Covered (certifiedAxis c s points n spacing parameters axis) t
   pub distance : DistanceRule (certifiedAxis c s points n spacing parameters axis) F

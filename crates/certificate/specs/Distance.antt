@@ -21,6 +21,15 @@ pub record LiesIn (a b : Float) (t : Fraction) : Type 0 where
   pub above : exactFraction a ≤f t
   pub below : t ≤f exactFraction b
 
+-- a segment and an interval of the axis that t lies in
+pub record Covered (x : Axis) (t : Fraction) : Type 0 where
+  pub segment : ℕ
+  pub interval : ℕ
+  pub a-segment : segment < x .segments
+  pub an-interval : interval < x .intervals
+  pub in-segment : LiesIn (x .break segment) (x .break (segment + 1)) t
+  pub in-interval : LiesIn (x .parameter interval) (x .parameter (interval + 1)) t
+
 -- "The curve is the sum over k from 0 to 5 of that segment's p_k·((t - a)/(b - a))^k"
 abbrev pub curveAt : Axis → ℕ → Fraction → Fraction
 curveAt x m t =
