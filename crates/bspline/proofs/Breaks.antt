@@ -9,8 +9,7 @@ use Rattle.arith.specs.Loop.{turns, each}
 use Rattle.arith.specs.Operations.{Arith}
 use Rattle.arith.proofs.Loops.{each-runs}
 use Rattle.bspline.specs.Segments.{Polynomial, spanStart, spanWidth, spanSegments, spanTurn, polynomialOf}
-use Rattle.bspline.proofs.Lengths.{segment-length}
-use Rattle.bspline.proofs.Joined.{join-length}
+use Rattle.bspline.proofs.Lengths.{segments-length}
 
 -- what is read off a state after the turns is what its own turns make of what is read off before
 turns-read : {S R : Type 0} (read : S → R) (f : ℕ → S → S) (g : ℕ → R → R) → ((i : ℕ) (s : S) → read (f i s) ≡ g i (read s))
@@ -49,9 +48,6 @@ module _ {A : Type 0} (o : Arith A) (t c : List A) (d : ℕ) where
     pub few : length (p .breaks) + 5 ≤ span
     pub cells : length (p .coefficients) ≡ length (p .breaks) * (6 * d)
 
-  span-cells : (span : ℕ) → length (spanSegments o t c d span) ≡ 6 * d
-  span-cells span = join-length d 6 _ (λ i l. segment-length o _ _ c _ d) ∙ omega arith
-
   span-partial : (span : ℕ) (p : Polynomial A) → Partial span p → Partial (span + 1) (spanTurn o t c d span p)
   unfolding spanTurn
   span-partial span p h = go (o .atMost (spanWidth o t span) (o .zero))
@@ -64,7 +60,7 @@ module _ {A : Type 0} (o : Arith A) (t c : List A) (d : ℕ) where
       go false =
           let a : length (more .breaks) ≡ length (p .breaks) + 1 = length-append (p .breaks) (spanStart o t span ∷ []) in
           let b = length-append (p .coefficients) (spanSegments o t c d span) in
-          let e = span-cells span in
+          let e = segments-length o t c d span in
           let f = h .cells in
           record { few = omega (arith, h .few); cells = rw (a, b, e, f) (omega arith) }
 

@@ -11,8 +11,8 @@ ghost use Rattle.bspline.specs.Placed.{insertedAt};
 use crate::Spline;
 
 // The weights of the five controls that a knot mixes.
-pub struct Weights {
-    pub alpha: [f64; 5],
+struct Weights {
+    alpha: [f64; 5],
 }
 
 // The cells from `from` up to n, `by` places further right.
@@ -28,7 +28,7 @@ fn shift(s: &mut [f64], from: usize, n: usize, by: usize)
 }
 
 // The knot x after the knot at k, of n knots. The cells after the n + 1 are unchanged.
-pub fn insert_knot(t: &mut [f64], x: f64, n: usize, k: usize)
+fn insert_knot(t: &mut [f64], x: f64, n: usize, k: usize)
     requires { ⌜ (k < n) × (n < length (now t)) ⌝ }
     ensures { λ _. ⌜ now (t .exit) ≡ knotsWith x k (take n (now (t .entry))) ++ drop (n + 1) (now (t .entry)) ⌝ }
 {
@@ -45,7 +45,7 @@ fn weight(t: &[f64], x: f64, i: usize) -> f64
 }
 
 // The weights of the controls k - 4 to k.
-pub fn insert_weights(t: &[f64], k: usize, x: f64) -> Weights
+fn insert_weights(t: &[f64], k: usize, x: f64) -> Weights
     requires { ⌜ (5 ≤ k) × (k + 5 < length (now t)) ⌝ }
     ensures { λ r. ⌜ r .alpha ≡ weightsOf floats (now (t .entry)) x k ⌝ }
 {
@@ -71,7 +71,7 @@ fn mix_row(c: &mut [f64], d: usize, at: usize, a: f64)
 }
 
 // The m + 1 controls of d axes from the m, for a knot in span k. The cells after them are unchanged.
-pub fn insert_controls(c: &mut [f64], w: Weights, d: usize, m: usize, k: usize)
+fn insert_controls(c: &mut [f64], w: Weights, d: usize, m: usize, k: usize)
     requires { ⌜ (5 ≤ k) × (k < m) × ((m + 1) * d ≤ length (now c)) ⌝ }
     ensures { λ _. ⌜ now (c .exit) ≡ mixedControls floats (weightAt floats (w .alpha) k) d m k (take (m * d) (now (c .entry))) ++ drop ((m + 1) * d) (now (c .entry)) ⌝ }
 {

@@ -13,8 +13,8 @@ use crate::Spline;
 use crate::basis::Taylor;
 
 // The six coefficients of one axis.
-pub struct Coefficients {
-    pub powers: [f64; 6],
+struct Coefficients {
+    powers: [f64; 6],
 }
 
 // The coefficients with row r of the table, times a control's axis, added.
@@ -49,7 +49,7 @@ fn scale_by(before: [f64; 6], h: f64) -> Coefficients
 
 // One axis on a span of width h: the axis stands at `at` of the controls c for the span's first
 // control, and d further on for each next one.
-pub fn segment(rows: Taylor, h: f64, c: &[f64], at: usize, d: usize) -> Coefficients
+fn segment(rows: Taylor, h: f64, c: &[f64], at: usize, d: usize) -> Coefficients
     requires { ⌜ at + 5 * d < length (now c) ⌝ }
     ensures { λ s. ⌜ s .powers ≡ segmentOf floats (rows .rows) h (now (c .entry)) at d ⌝ }
 {
