@@ -5,7 +5,7 @@ use mathlib.Core.Bool.{Bool, _||_, cond, false}
 use mathlib.Core.List.{List, [], _∷_}
 use lib.Dec.{eqb}
 use lib.ListN.{set}
-use lib.Ieee.{Float, nan, binary64, le, add, sub, mul, div, round}
+use lib.Ieee.{Float, nan, binary64, le, add, sub, mul, div}
 use Rattle.arith.specs.Operations.{floats}
 use Rattle.arith.specs.Loop.{each}
 use Rattle.window.specs.Cells.{at, zeros}
@@ -21,20 +21,26 @@ use Rattle.fitting_rows.specs.declared.pieces.Mesh.{Mesh}
 abbrev pub atOrBelow : List Float → Float → ℕ
 atOrBelow s x = partitionPoint nan (λ v. le v x) s
 
--- a decimal literal: n over d, rounded once
-abbrev pub literal : ℕ → ℕ → Float
-literal n d = round binary64 false n d
-
 -- `GX`, the nodes, and `GW`, their weights
 abbrev pub nodes : List Float
 nodes =
-    literal 33765242898423975 1000000000000000000 ∷ literal 16939530676686776 100000000000000000 ∷ literal 3806904069584015 10000000000000000
-    ∷ literal 6193095930415985 10000000000000000 ∷ literal 8306046932331322 10000000000000000 ∷ literal 966234757101576 1000000000000000 ∷ []
+    floats .literal 33765242898423975 1000000000000000000
+    ∷ floats .literal 16939530676686776 100000000000000000
+    ∷ floats .literal 3806904069584015 10000000000000000
+    ∷ floats .literal 6193095930415985 10000000000000000
+    ∷ floats .literal 8306046932331322 10000000000000000
+    ∷ floats .literal 966234757101576 1000000000000000
+    ∷ []
 
 abbrev pub weights : List Float
 weights =
-    literal 8566224618958517 100000000000000000 ∷ literal 1803807865240693 10000000000000000 ∷ literal 2339569672863455 10000000000000000
-    ∷ literal 2339569672863455 10000000000000000 ∷ literal 1803807865240693 10000000000000000 ∷ literal 8566224618958517 100000000000000000 ∷ []
+    floats .literal 8566224618958517 100000000000000000
+    ∷ floats .literal 1803807865240693 10000000000000000
+    ∷ floats .literal 2339569672863455 10000000000000000
+    ∷ floats .literal 2339569672863455 10000000000000000
+    ∷ floats .literal 1803807865240693 10000000000000000
+    ∷ floats .literal 8566224618958517 100000000000000000
+    ∷ []
 
 -- the waypoint interval of x: `s.partition_point(|v| *v <= x).saturating_sub(1).min(s.len() - 2)`
 unfoldable pub intervalOf : List Float → ℕ → Float → ℕ

@@ -3,7 +3,6 @@ ghost use mathlib.Core.Path.{_≡_};
 ghost use mathlib.Core.List.{[], _∷_, _++_};
 ghost use Prim.Native.Nat.{_+_, _*_, _≤_, _<_};
 ghost use lib.ListN.{length, drop};
-ghost use Rattle.float.specs.Order.{maxOf};
 ghost use Rattle.sorting.specs.Sort.{sortOf};
 ghost use Rattle.sorting.specs.Thin.{keptOf};
 ghost use Rattle.bspline.specs.Rows.{written};
@@ -21,13 +20,6 @@ struct Three {
     right: f64,
 }
 
-// The larger of the two; a NaN is dropped.
-fn larger(x: f64, y: f64) -> f64
-    ensures { λ r. ⌜ r ≡ maxOf x y ⌝ }
-{
-    float::max(x, y)
-}
-
 // The largest change of slope at the waypoint b, from a and to c, over all axes.
 fn jump(s: &[f64], y: &[f64], d: usize, a: usize, b: usize, c: usize) -> f64
     requires { ⌜ (length (now s) * d ≤ length (now y)) × (a < length (now s)) × (b < length (now s)) × (c < length (now s)) ⌝ }
@@ -43,7 +35,7 @@ fn jump(s: &[f64], y: &[f64], d: usize, a: usize, b: usize, c: usize) -> f64
     while j < d {
         let after = slope(y, second + j, third + j, h1);
         let before = slope(y, first + j, second + j, h0);
-        jump = larger(jump, float::abs(after - before));
+        jump = float::max(jump, float::abs(after - before));
         j += 1;
     }
     jump

@@ -8,13 +8,15 @@ ghost use lib.ListN.{length, drop, set};
 ghost use Rattle.sorting.specs.Thin.{thinned, distinct, inside, apart, testOf, dedupOf, keptOf, lastOf};
 use crate::Rule;
 
+// The `gap` of the source's `seed`: 128 times 2^-52.
+const GAP: f64 = 128.0 * 2.220446049250313e-16;
+
 // Whether x is over the gap from 0 and from 1.
 fn is_inside(x: f64) -> bool
     ensures { λ r. ⌜ r ≡ inside x ⌝ }
 {
-    let gap = 128.0 * 2.220446049250313e-16;
-    if gap < x {
-        return x < 1.0 - gap;
+    if GAP < x {
+        return x < 1.0 - GAP;
     }
     false
 }
@@ -40,8 +42,7 @@ fn is_apart(s: &[f64], kept: usize, x: f64) -> bool
         if kept == 0 {
             return true;
         }
-        let gap = 128.0 * 2.220446049250313e-16;
-        return gap < x - s[kept - 1];
+        return GAP < x - s[kept - 1];
     }
     false
 }

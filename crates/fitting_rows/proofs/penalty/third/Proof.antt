@@ -8,14 +8,14 @@ use lib.Ieee.{Float, binary64, mul, ofBits, round}
 use Rattle.arith.specs.Loop.{each}
 use Rattle.arith.proofs.Loops.{each-done, each-turn}
 use Rattle.window.specs.Cells.{at}
-use Rattle.fitting_rows.specs.Pieces.{literal}
+use Rattle.arith.specs.Operations.{floats}
 use Rattle.fitting_rows.specs.Penalty.{thirdOf}
 use Rattle.fitting_rows.proofs.penalty.third.Statement.{statement}
 use Rattle.fitting_rows.proofs.penalty.third.Tie as tie
 
 -- one function
 abbrev turn : List Float → ℕ → List Float → List Float
-turn powers i b = set b i (mul binary64 (literal 6 1) (at powers (6 * i + 3)))
+turn powers i b = set b i (mul binary64 (floats .literal 6 1) (at powers (6 * i + 3)))
 
 abbrev Inv-loop : tie.InvT-loop
 Inv-loop rows values₀ i₀ values i = (i ≤ 6) × (each (turn (rows .rows)) i 6 values ≡ thirdOf (rows .rows))

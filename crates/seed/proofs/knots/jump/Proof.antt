@@ -55,7 +55,7 @@ loop-again c =
       l .inv .1,
       l .inv .2,
       l .inv .3,
-      rw (c .larger .ensures, c .before .abs .ensures, c .before .before .slope2 .ensures, c .before .before .before .slope .ensures)
+      rw (c .max .ensures, c .before .abs .ensures, c .before .before .slope2 .ensures, c .before .before .before .slope .ensures)
           (sym (each-turn _ _ _ _ (c .before .before .before .before .loop-test .taken)) ∙ l .inv .4),
     )
 
