@@ -9,7 +9,8 @@ use Rattle.arith.specs.Loop.{whilst}
 use Rattle.seed.specs.Corridor.{lowest, highest, narrowed}
 
 -- Waypoint i fits the corridor from the anchor. The first after the anchor always does: where it failed there, the source would find the same anchor
--- again, without end. That takes parameters that do not rise, or a slope that is a NaN, which no request that `build` takes on has.
+-- again, without end. That takes parameters that do not rise, or a slope that is a NaN, which no request that `build` takes on has: so there this scan is
+-- the source's own (`smoothing/proofs/SeedEnds`: `seed-ends`, `lane-anchors`).
 unfoldable pub fits : Bool → ℕ → ℕ → Bool
 fits ok anchor i = ok || eqb i (anchor + 1)
 
