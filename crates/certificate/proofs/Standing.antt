@@ -10,11 +10,10 @@ use lib.ListN.{drop, length, take}
 use Rattle.window.specs.Cells.{+0, at}
 use Rattle.request.specs.declared.parameters.Spacing.{Spacing}
 use Rattle.request.specs.Parameters.{normalisedOf}
-use Rattle.certificate.specs.Axis.{axisOf, intersectionAt}
+use Rattle.certificate.specs.Axis.{axisOf}
 use Rattle.certificate.specs.Distance.{Rises}
-use Rattle.certificate.specs.Figure.{Figure, figure, figureOf, intersection, intersectionFigure, larger, withIntersection}
-use Rattle.certificate.specs.Structs.{intersectionOf}
-use Rattle.certificate.specs.declared.intersection.Intersection.{Intersection}
+use Rattle.certificate.specs.Figure.{Figure, figure, figureOf, intersection, intersectionFigure, larger, meeting, withIntersection}
+use Rattle.certificate.specs.Intersection.{Intersection}
 use Rattle.certificate.proofs.Coefficients.{cell-of-six, six-count}
 use Rattle.certificate.proofs.Steps.{next-interval, next-segment, rest, rest-all, rest-done, segment-remains}
 
@@ -29,7 +28,7 @@ pub record Standing (breaks coefficients : List Float) (k place : ℕ) (points :
 
 -- the largest so far with that of an intersection, as the code has it
 abbrev counted : Intersection → Figure → Figure
-counted y g = cond (lt (y .left) (y .right)) (larger g (intersectionFigure (intersectionOf y))) g
+counted y g = cond (lt (y .left) (y .right)) (larger g (intersectionFigure y)) g
 
 module _ {breaks coefficients : List Float} {k place : ℕ} {points : List Float} {d axis n : ℕ} {spacing : Spacing} {parameters : List Float} where
   -- at interval 0 and segment 0
@@ -43,7 +42,8 @@ module _ {breaks coefficients : List Float} {k place : ℕ} {points : List Float
     standing-last l = sym (rest-done (axisOf breaks coefficients k place points d axis n spacing parameters) i m g (omega arith)) ∙ s .gives
 
     module _ (rising : Rises (length breaks - 1) (at breaks) × Rises (n - 1) (normalisedOf spacing parameters n)) (more : i + 1 < n) {y : Intersection} {h : Figure}
-        (is-met : y ≡ intersectionAt breaks coefficients k place points d axis i m from to) (is-counted : h ≡ counted y g) where
+        (is-met : y ≡ meeting (at breaks m) (at breaks (m + 1)) (at (take 6 (drop (6 * (m * k + place)) coefficients))) from to (at points (i * d + axis)) (at points ((i + 1) * d + axis)))
+        (is-counted : h ≡ counted y g) where
       visited : h ≡ withIntersection (axisOf breaks coefficients k place points d axis n spacing parameters) i m g
       unfolding withIntersection intersection
       visited =

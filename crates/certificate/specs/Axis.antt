@@ -2,13 +2,11 @@
 use Prim.Native.Nat.{ℕ, _*_, _+_, _-_}
 use mathlib.Core.List.{List}
 use lib.Ieee.{Float}
-use lib.ListN.{drop, length, take}
+use lib.ListN.{length}
 use Rattle.window.specs.Cells.{at}
-use Rattle.fraction.specs.Pair.{highest, lowest}
 use Rattle.request.specs.declared.parameters.Spacing.{Spacing}
 use Rattle.request.specs.Parameters.{normalisedOf}
 use Rattle.certificate.specs.Figure.{Axis}
-use Rattle.certificate.specs.declared.intersection.Intersection.{Intersection}
 
 -- The axis at a place of the k axes of a set of segments: "their breaks and six power coefficients per segment and, within it, per axis". Its
 -- waypoints are row `axis` of "waypoint after waypoint, d rows each, n waypoints"; s are "the parameters normalised as `build` does it".
@@ -21,19 +19,4 @@ axisOf breaks coefficients k place points d axis n spacing parameters =
       intervals = n - 1;
       parameter = normalisedOf spacing parameters n;
       waypoint = λ i. at points (i * d + axis);
-    }
-
--- its interval i, from one parameter to another, with its segment m
-abbrev pub intersectionAt : List Float → List Float → ℕ → ℕ → List Float → ℕ → ℕ → ℕ → ℕ → Float → Float → Intersection
-intersectionAt breaks coefficients k place points d axis i m from to =
-    record {
-      start = at breaks m;
-      end = at breaks (m + 1);
-      coefficients = take 6 (drop (6 * (m * k + place)) coefficients);
-      left = highest (at breaks m) from;
-      right = lowest (at breaks (m + 1)) to;
-      from = from;
-      to = to;
-      first = at points (i * d + axis);
-      second = at points ((i + 1) * d + axis);
     }

@@ -29,6 +29,22 @@ unfoldable pub intersectionFigure : Intersection → Figure
 unfolding larger absoluteEnd
 intersectionFigure x = each (λ k so-far. larger so-far (absoluteEnd (differenceBernstein ends x k))) 0 6 (figure +0)
 
+-- The segment from a to b with the coefficients p, and the interval from s to s′ with the waypoints y and y′. left is the larger of a and s, right the
+-- smaller of b and s′; of equal ones (0 and -0 are) either will do, since every difference is moved outward.
+abbrev pub meeting : Float → Float → (ℕ → Float) → Float → Float → Float → Float → Intersection
+meeting a b p s s′ y y′ =
+    record {
+      start = a;
+      end = b;
+      coefficient = p;
+      left = highest a s;
+      right = lowest b s′;
+      from = s;
+      to = s′;
+      first = y;
+      second = y′;
+    }
+
 -- What is certified: the segments of an axis, and its waypoints.
 pub record Axis : Type 0 where
   -- segment m lies from break m to break m + 1 and has the coefficients p_0 .. p_5
@@ -41,21 +57,9 @@ pub record Axis : Type 0 where
   pub waypoint : ℕ → Float
 
 module _ (x : Axis) where
-  -- Interval i with segment m. left is the larger of a and s_i, right the smaller of b and s_(i+1); of equal ones (0 and -0 are) either will do, since
-  -- every difference is moved outward.
+  -- interval i with segment m
   unfoldable pub intersection : ℕ → ℕ → Intersection
-  intersection i m =
-      record {
-        start = x .break m;
-        end = x .break (m + 1);
-        coefficient = x .coefficient m;
-        left = highest (x .break m) (x .parameter i);
-        right = lowest (x .break (m + 1)) (x .parameter (i + 1));
-        from = x .parameter i;
-        to = x .parameter (i + 1);
-        first = x .waypoint i;
-        second = x .waypoint (i + 1);
-      }
+  intersection i m = meeting (x .break m) (x .break (m + 1)) (x .coefficient m) (x .parameter i) (x .parameter (i + 1)) (x .waypoint i) (x .waypoint (i + 1))
 
   -- the largest so far with that of interval i and segment m, if "left below right"
   unfoldable pub withIntersection : ℕ → ℕ → Figure → Figure

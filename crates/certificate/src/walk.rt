@@ -8,9 +8,9 @@ ghost use lib.ListN.{drop, length, take};
 ghost use Rattle.window.specs.Cells.{at};
 ghost use Rattle.request.specs.declared.parameters.Spacing.the-variants.{Listed};
 ghost use Rattle.request.specs.Parameters.{normalisedOf};
-ghost use Rattle.certificate.specs.Axis.{axisOf, intersectionAt};
+ghost use Rattle.certificate.specs.Axis.{axisOf};
 ghost use Rattle.certificate.specs.Distance.{Rises};
-ghost use Rattle.certificate.specs.Figure.{figureOf, intersectionFigure, larger};
+ghost use Rattle.certificate.specs.Figure.{figureOf, intersectionFigure, larger, meeting};
 ghost use Rattle.certificate.specs.Structs.{figureIn, intersectionOf};
 use crate::ends;
 use crate::intersection;
@@ -49,7 +49,8 @@ fn intersect(
     to: f64,
 ) -> Intersection
     requires { ⌜ (m + 1 < length (now breaks)) × (place < k) × (6 * (m * k + k) ≤ length (now coefficients)) × (axis < d) × (i < 20000) × ((i + 1) * d + d ≤ length (now points)) ⌝ }
-    ensures { λ r. ⌜ r ≡ intersectionAt (now (breaks .entry)) (now (coefficients .entry)) k place (now (points .entry)) d axis i m from to ⌝ }
+    ensures { λ r. ⌜ intersectionOf r ≡ meeting (at (now (breaks .entry)) m) (at (now (breaks .entry)) (m + 1)) (at (take 6 (drop (6 * (m * k + place)) (now (coefficients .entry)))))
+        from to (at (now (points .entry)) (i * d + axis)) (at (now (points .entry)) ((i + 1) * d + axis)) ⌝ }
 {
     Intersection {
         start: breaks[m],
