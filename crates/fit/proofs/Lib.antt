@@ -5,4 +5,3 @@ pub mod Solution
 pub mod Fitting
 pub mod Bounds
 pub mod RowCounts
-pub mod Outside

@@ -1,5 +1,7 @@
 -- How many rows a fit counts at most: one for each sample, and six for each piece of each span.
+use mathlib.Core.Path.{_≡_, _∙_, subst, sym}
 use mathlib.Core.Bool.{Bool, true, false, cond}
+use mathlib.Core.List.{List}
 use Prim.Native.Nat.{ℕ, zero, suc, _+_, _-_, _*_, _≤_}
 use native.Mathlib.Omega.{arith}
 use native.Mathlib.Nat.{mul-le-mul-right, suc-mul}
@@ -7,15 +9,18 @@ use lib.ListN.{length}
 use lib.Ieee.{Float, nan, binary64, sub, le, lt}
 use Rattle.arith.specs.Loop.{turns, each}
 use Rattle.window.specs.Cells.{at}
+use Rattle.window.proofs.Windows.{length-window}
 use Rattle.normal.specs.System.{System, newOf}
 use Rattle.fitting_rows.specs.declared.pieces.Mesh.{Mesh}
-use Rattle.fitting_rows.specs.Arrays.{Arrays}
+use Rattle.fitting_rows.specs.declared.Place.{Place}
+use Rattle.fitting_rows.specs.Arrays.{Arrays, arraysAt}
 use Rattle.fitting_rows.specs.Samples.{below, denseOf, sampleSpan, sampleRowOf}
 use Rattle.fitting_rows.specs.Pieces.{atOrBelow, nodeRowOf, passedOver, meshSpan}
 use Rattle.fitting_rows.proofs.Point.{point-within}
 use Rattle.fit.specs.Assembly.{Assembled, assembled, low, high, counted, sampleTurn, samplesOf, pieceOf, meshTurn, meshOf, sparseTurn, sparseOf, assembledOf}
-use Rattle.fit.specs.Fit.{fitOf}
-use Rattle.fit.proofs.Bounds.{fit-either}
+use Rattle.fit.specs.Fit.{Answer, Bounded, fitOf, rowsMost}
+use Rattle.fit.specs.Region.{Laid, before}
+use Rattle.fit.proofs.Bounds.{fit-either, fit-reach}
 
 -- turns that count at most c rows each
 turns-add : (f : ℕ → Assembled → Assembled) (c : ℕ) → ((i : ℕ) (n : Assembled) → f i n .rows ≤ n .rows + c) → (k a : ℕ) (n : Assembled)
@@ -28,10 +33,6 @@ each-adds : (f : ℕ → Assembled → Assembled) (c : ℕ) → ((i : ℕ) (n : 
     → each f a b n .rows ≤ n .rows + (b - a) * c
 unfolding each
 each-adds f c h a b n = turns-add f c h (b - a) a n
-
--- the most that a fit of n samples and m controls counts
-abbrev pub rowsMost : ℕ → ℕ → ℕ
-rowsMost n m = n + m * ((n + 1) * 6)
 
 module _ (x : Arrays) (a z : ℕ) where
   abbrev count : ℕ
@@ -89,3 +90,14 @@ module _ (x : Arrays) (a z : ℕ) where
   fit-rows strength =
       fit-either x a z strength (λ f. f .answered .rows ≤ rowsMost count (x .m)) (assembled-rows strength (newOf (z - a) (x .d)))
       (omega arith)
+
+-- the answer of a fit at a place, with the bounds of its counts
+pub answer-bounded : {C : Type 0} (p : Place) (a z : ℕ) (strength : Float) (l : List Float) {k : Answer} → Laid p a z (length l)
+    → (k ≡ fitOf (arraysAt p (before p l)) a z strength .answered) × C → (k ≡ fitOf (arraysAt p (before p l)) a z strength .answered) × (C × Bounded (p .samples) (p .count) k)
+answer-bounded p a z strength l h e =
+    let x = arraysAt p (before p l) in
+    let b : length (before p l) ≡ p .system = length-window 0 (p .system) l (omega arith) (omega arith) ∙ omega arith in
+    let n : length (x .s) ≡ p .samples = length-window (p .parameters) (p .parameters + p .samples) (before p l) (omega arith) (omega arith) ∙ omega arith in
+    let r = fit-reach x a z strength in
+    let given : Bounded (length (x .s)) (p .count) (fitOf x a z strength .answered) = (r .0, r .1, fit-rows x a z strength) in
+    (e .0, (e .1, subst (Bounded (p .samples) (p .count)) (sym (e .0)) (subst (λ (i : ℕ). Bounded i (p .count) (fitOf x a z strength .answered)) n given)))

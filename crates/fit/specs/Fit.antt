@@ -1,5 +1,5 @@
 -- The source's `fit`: one window [a, z) of controls fitted anew.
-use Prim.Native.Nat.{ℕ, _+_, _-_, _*_}
+use Prim.Native.Nat.{ℕ, _+_, _-_, _*_, _≤_}
 use mathlib.Core.Bool.{cond}
 use mathlib.Core.List.{List, _++_}
 use lib.Dec.{eqb}
@@ -35,6 +35,14 @@ answerOf (Done k) = answer 0 (k .first) (k .last) (k .rows)
 answerOf BadDiagonal = answer 9 0 0 0
 answerOf BadPivot = answer 10 0 0 0
 answerOf BadSolution = answer 11 0 0 0
+
+-- the most rows that a fit of n samples and m controls has: one for each sample, and six for each piece of each span
+abbrev pub rowsMost : ℕ → ℕ → ℕ
+rowsMost n m = n + m * ((n + 1) * 6)
+
+-- the samples that a window holds are among the n there are, and its rows are counted
+abbrev pub Bounded : ℕ → ℕ → Answer → Type 0
+Bounded n m k = (k .first ≤ n) × (k .last ≤ n) × (k .rows ≤ rowsMost n m)
 
 -- `b.c[a * b.d + i] += v`
 unfoldable pub addTurn : List Float → ℕ → ℕ → List Float → List Float

@@ -11,7 +11,7 @@ ghost use Rattle.fit.specs.Region.{Laid, before, systemAt};
 ghost use Rattle.fitting_rows.specs.Samples.{below};
 ghost use Rattle.fitting_rows.specs.Pieces.{atOrBelow};
 ghost use Rattle.fit.specs.Assembly.{low, high, assembled, assembledOf};
-ghost use Rattle.fit.specs.Fit.{addedTo, answerOf, fitOf, cellsAfter};
+ghost use Rattle.fit.specs.Fit.{Bounded, addedTo, answerOf, fitOf, cellsAfter};
 use crate::assembly;
 use fitting_rows::Place;
 
@@ -126,6 +126,7 @@ pub fn fit(work: &mut [f64], p: Place, a: usize, z: usize, strength: f64) -> Fit
     requires { ⌜ Laid p a z (length (now work)) ⌝ }
     ensures { λ r. ⌜ answerOf r ≡ fitOf (arraysAt p (before p (now (work .entry)))) a z strength .answered ⌝ }
     ensures { λ _. ⌜ now (work .exit) ≡ cellsAfter p (fitOf (arraysAt p (before p (now (work .entry)))) a z strength) (now (work .entry)) ⌝ }
+    ensures { λ r. ⌜ Bounded (p .samples) (p .count) (answerOf r) ⌝ }
 {
     let counts = assemble(work, p, a, z, strength);
     let g = p.system;

@@ -19,7 +19,7 @@ use Rattle.bspline.proofs.Lengths.{segments-length}
 use Rattle.bspline.proofs.WideSpans.{segments-local, wide-breaks, wide-coefficients}
 use Rattle.bspline.proofs.SpansPut.{segmentRow, Put, put-all}
 use Rattle.fitting_rows.specs.Arrays.{arrays}
-use Rattle.fit.proofs.Outside.{fit-outside}
+use Rattle.fit.proofs.Bounds.{fit-outside}
 use Rattle.smoothing.specs.State.{polynomialIn, fitIn}
 use Rattle.refinement.specs.declared.plan.Plan.{Plan}
 use Rattle.refinement.specs.Memory.{breaksPlace, coefficientsPlace, splineOf, Roomy, Memory, memoryAt, withControls, withCoefficients, taskIn, splineIn, Wide, Stored}
@@ -39,8 +39,8 @@ fit-stale p a z strength x az s =
       old = x .c;
       breaks-were = s .breaks-are;
       coefficients-were = s .coefficients-are;
-      before = λ i h. sym (fit-outside ar a z i (λ k l q. omega arith) strength);
-      after = λ i h. sym (fit-outside ar a z i (λ k l q. omega arith) strength);
+      before = λ i h. sym (fit-outside ar a z strength i (λ k l q. omega arith));
+      after = λ i h. sym (fit-outside ar a z strength i (λ k l q. omega arith));
     }
 
 -- ---- the segments that a window reaches

@@ -13,7 +13,8 @@ use Rattle.bspline.specs.Segments.{Polynomial}
 use Rattle.seed.specs.Regions.{Range, regionsOf}
 use Rattle.seed.proofs.Windows.{regions-few}
 use Rattle.fitting_rows.specs.Arrays.{arrays}
-use Rattle.fit.proofs.RowCounts.{rowsMost, fit-rows}
+use Rattle.fit.specs.Fit.{rowsMost}
+use Rattle.fit.proofs.RowCounts.{fit-rows}
 use Rattle.polynomial.specs.declared.interval.Outcome.{Outcome}
 use Rattle.polynomial.specs.declared.interval.Outcome.the-variants.{Done, NotAbove, NotFinite}
 use Rattle.polynomial.specs.Outcome as audits
