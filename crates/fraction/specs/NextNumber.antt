@@ -2,8 +2,8 @@
 -- from 0 on up to +∞, and from the sign's weight `top f`, which is -0, on up to -∞.
 use mathlib.Core.Bool.{cond}
 use Prim.Native.Nat.{_*_, _+_, _-_, suc, ℕ}
-use lib.Dec.{eqb, ltb}
-use lib.Ieee.{Float, Format, hid, isNan, nan, ofBits, ones, toBits, top}
+use lib.Dec.{T, eqb, ltb}
+use lib.Ieee.{Float, Format, fits, hid, isNan, le, lt, nan, ofBits, ones, toBits, top}
 
 -- the pattern of the next number up: one more for a number that is not negative, up to +∞, which stays; from -0 to the smallest number
 -- above 0; one less for a negative number
@@ -22,3 +22,12 @@ nextUp f x = cond (isNan x) nan (ofBits f (upBits f (toBits f x)))
 -- the greatest number below x; NaN for NaN, -∞ for -∞ and for the lowest number
 unfoldable pub nextDown : Format → Float → Float
 nextDown f x = cond (isNan x) nan (ofBits f (downBits f (toBits f x)))
+
+-- ---- what they are, by the tests `lt` and `le`: proved in `proofs/Adjacent`. An infinity counts as a number here, as it does for the tests.
+-- y is the least number above x: it is above x, and at or below every w of the format that is above x
+abbrev pub LeastAbove : Format → Float → Float → Type 0
+LeastAbove f x y = T (lt x y) × ((w : Float) → T (fits f w) → T (lt x w) → T (le y w))
+
+-- y is the greatest number below x
+abbrev pub GreatestBelow : Format → Float → Float → Type 0
+GreatestBelow f x y = T (lt y x) × ((w : Float) → T (fits f w) → T (lt w x) → T (le w y))
