@@ -36,8 +36,11 @@ module _ (test : ℕ → Bool) (i c : ℕ) (h : Counted test i c) where
     | yes l ↦ (omega (arith, h .0), ne-eqb (c + 1) (i + 1) (λ e. absurd (omega arith)) ∙ sym (earlier (under l)))
     | no l ↦
         let e : c ≡ i = omega (arith, h .0) in
-        let f = eqb-true first i (sym (h .1) ∙ eq-eqb c i e) in
-        (omega (arith, h .0), eq-eqb (c + 1) (i + 1) (omega arith) ∙ sym (eq-eqb (firstOf (i + 1) fails) (i + 1) (first-next fails i f (ap not t))))
+        let f = eqb-true first i (sym (h .1) ∙ eq-eqb c i e) in (
+          omega (arith, h .0),
+          eq-eqb (c + 1) (i + 1) (omega arith)
+              ∙ sym (eq-eqb (firstOf (i + 1) fails) (i + 1) (first-next fails i f (ap not t))),
+        )
   ]
     where
       under : c < i → first < i
@@ -49,8 +52,11 @@ module _ (test : ℕ → Bool) (i c : ℕ) (h : Counted test i c) where
     | yes l ↦ (omega (arith, h .0), ne-eqb (c + 0) (i + 1) (λ e. absurd (omega (arith, h .0))) ∙ sym (earlier l))
     | no l ↦
         let f : first ≡ i = omega (arith, first-le fails i) in
-        let g : firstOf (i + 1) fails ≡ i = rw (add-one, first-more fails i f, ap not t) in
-        (omega (arith, h .0), ne-eqb (c + 0) (i + 1) (λ e. absurd (omega (arith, h .0))) ∙ sym (ne-eqb (firstOf (i + 1) fails) (i + 1) (λ e. absurd (omega arith))))
+        let g : firstOf (i + 1) fails ≡ i = rw (add-one, first-more fails i f, ap not t) in (
+          omega (arith, h .0),
+          ne-eqb (c + 0) (i + 1) (λ e. absurd (omega (arith, h .0)))
+              ∙ sym (ne-eqb (firstOf (i + 1) fails) (i + 1) (λ e. absurd (omega arith))),
+        )
   ]
 
   pub counted-next : Counted test (i + 1) (c + cond (test i) 1 0)

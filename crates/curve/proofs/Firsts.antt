@@ -57,7 +57,8 @@ module _ (test : ℕ → Bool) where
   first-before zero j l = absurd (omega arith)
   first-before (suc n) j l = go (ltb (firstOf n test) n) refl (test n) refl l (first-before n j)
     where
-      go : (b : Bool) → ltb (firstOf n test) n ≡ b → (t : Bool) → test n ≡ t → j < cond b (firstOf n test) (cond t n (suc n)) → (j < firstOf n test → test j ≡ false) → test j ≡ false
+      go : (b : Bool) → ltb (firstOf n test) n ≡ b → (t : Bool) → test n ≡ t → j < cond b (firstOf n test) (cond t n (suc n))
+          → (j < firstOf n test → test j ≡ false) → test j ≡ false
       go true e t f g again = again g
       go false e true f g again =
           let h = ltb-false (firstOf n test) n e in again (omega arith)

@@ -42,6 +42,10 @@ module _ (axes : List ℕ) (k : ℕ) where
         let q : b ≡ a = omega arith in rw q (getD-set-same at a v 0 l ∙ e)
   ]
 
+-- the first n listed axes are below d, and each is none of those before it
+abbrev pub Distinct : List ℕ → ℕ → ℕ → Type 0
+Distinct axes n d = (i : ℕ) → i < n → (getD axes i 0 < d) × (positionOf axes i (getD axes i 0) ≡ i)
+
 -- an axis that is not listed counts
 abbrev mark : List ℕ → ℕ → ℕ → ℕ
 mark axes n a = cond (ltb (positionOf axes n a) n) 0 1
@@ -67,7 +71,8 @@ module _ (axes : List ℕ) (n : ℕ) where
       (rw (s, eq-eqb (getD axes n 0) a d, lt-ltb n (suc n) (omega arith)), rw (e, le-ltb n n (omega arith)))
 
   -- one listed axis more, none of those before it: of the axes below d one fewer is not listed, if it is below d
-  others-more : positionOf axes n (getD axes n 0) ≡ n → (d : ℕ) → othersBelow axes (suc n) d + cond (ltb (getD axes n 0) d) 1 0 ≡ othersBelow axes n d
+  others-more : positionOf axes n (getD axes n 0) ≡ n → (d : ℕ)
+      → othersBelow axes (suc n) d + cond (ltb (getD axes n 0) d) 1 0 ≡ othersBelow axes n d
   unfolding othersBelow
   others-more e zero = rw (le-ltb (getD axes n 0) 0 (omega arith))
   others-more e (suc d) =
@@ -98,12 +103,13 @@ module _ (axes : List ℕ) where
   others-all (suc d) = let e = others-all d in omega arith
 
   -- where n distinct axes below d are listed, d - n are not
-  pub others-count : (n d : ℕ) → ((i : ℕ) → i < n → (getD axes i 0 < d) × (positionOf axes i (getD axes i 0) ≡ i)) → othersBelow axes n d + n ≡ d
+  pub others-count : (n d : ℕ) → Distinct axes n d → othersBelow axes n d + n ≡ d
   others-count zero d h = let e = others-all d in omega arith
   others-count (suc n) d h =
       let again = others-count n d (λ i l. h i (omega arith)) in
       let g = h n (omega arith) in
-      let m : othersBelow axes (suc n) d + 1 ≡ othersBelow axes n d = rw (lt-ltb (getD axes n 0) d (g .0)) at (others-more axes n (g .1) d) in
+      let m : othersBelow axes (suc n) d + 1 ≡ othersBelow axes n d = rw (lt-ltb (getD axes n 0) d (g .0))
+      at (others-more axes n (g .1) d) in
       omega arith
 
   -- further up there are not fewer
@@ -116,7 +122,7 @@ module _ (axes : List ℕ) where
   ]
 
   -- a place is below d
-  pub place-below : (k d : ℕ) → k ≤ d → ((i : ℕ) → i < k → (getD axes i 0 < d) × (positionOf axes i (getD axes i 0) ≡ i)) → (a : ℕ) → a < d → placeOf axes k a < d
+  pub place-below : (k d : ℕ) → k ≤ d → Distinct axes k d → (a : ℕ) → a < d → placeOf axes k a < d
   place-below k d h good a l = elim (decLt (positionOf axes k a) k) [
     | yes p ↦ rw (listed-place axes k a p) (omega arith)
     | no p ↦

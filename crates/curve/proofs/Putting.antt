@@ -11,7 +11,7 @@ use Rattle.arith.proofs.Rows.{row-end}
 use Rattle.bspline.specs.Rows.{join, listOf}
 use Rattle.bspline.proofs.Joined.{join-length, list-length}
 use Rattle.bspline.proofs.Written.{written-none, written-length, written-next, fill-next}
-use Rattle.curve.specs.Row.{putAt}
+use Rattle.curve.specs.Put.{putAt}
 
 -- nothing yet
 pub put-none : (asked : Bool) (a : ℕ) (l : List Float) → l ≡ putAt asked a [] l
@@ -19,7 +19,8 @@ put-none true a l = sym (written-none a l)
 put-none false a l = refl
 
 -- the length stays
-pub put-length : (asked : Bool) (a : ℕ) (v l : List Float) → (asked ≡ true → a + length v ≤ length l) → length (putAt asked a v l) ≡ length l
+pub put-length : (asked : Bool) (a : ℕ) (v l : List Float) → (asked ≡ true → a + length v ≤ length l)
+    → length (putAt asked a v l) ≡ length l
 put-length true a v l room = written-length a v l (room refl)
 put-length false a v l room = refl
 
@@ -30,7 +31,8 @@ put-next false a j f l x room e = refl
 
 -- one cell more of n
 pub put-step : (asked : Bool) (a j n : ℕ) (f : ℕ → Float) (l₀ l l′ : List Float) (x : Float) → j < n → (asked ≡ true → a + n ≤ length l₀)
-    → l ≡ putAt asked a (listOf j f) l₀ → l′ ≡ cond asked (set l (a + j) x) l → x ≡ f j → (length l′ ≡ length l₀) × (l′ ≡ putAt asked a (listOf (j + 1) f) l₀)
+    → l ≡ putAt asked a (listOf j f) l₀ → l′ ≡ cond asked (set l (a + j) x) l → x ≡ f j
+    → (length l′ ≡ length l₀) × (l′ ≡ putAt asked a (listOf (j + 1) f) l₀)
 put-step asked a j n f l₀ l l′ x h room e p v =
     let q : l′ ≡ putAt asked a (listOf (j + 1) f) l₀ = p ∙ rw e (put-next asked a j f l₀ x (λ b. let r = room b in omega arith) v) in
     let k = list-length (j + 1) f in
@@ -45,8 +47,10 @@ abbrev pub Rows : Bool → ℕ → (ℕ → List Float) → List Float → List 
 Rows asked n f l₀ l = (length l ≡ length l₀) × (l ≡ putAt asked 0 (join n f) l₀)
 
 -- one row more of n
-pub put-rows : (asked : Bool) (d i n : ℕ) (f : ℕ → List Float) (l₀ l l′ : List Float) → ((j : ℕ) → length (f j) ≡ d) → i < n → (asked ≡ true → n * d ≤ length l₀)
-    → l ≡ putAt asked 0 (join i f) l₀ → l′ ≡ putAt asked (i * d) (f i) l → (length l′ ≡ length l₀) × (l′ ≡ putAt asked 0 (join (i + 1) f) l₀)
+pub put-rows : (asked : Bool) (d i n : ℕ) (f : ℕ → List Float) (l₀ l l′ : List Float) → ((j : ℕ) → length (f j) ≡ d) → i < n
+    → (asked ≡ true → n * d ≤ length l₀)
+    → l ≡ putAt asked 0 (join i f) l₀ → l′ ≡ putAt asked (i * d) (f i) l
+    → (length l′ ≡ length l₀) × (l′ ≡ putAt asked 0 (join (i + 1) f) l₀)
 unfolding join
 put-rows true d i n f l₀ l l′ long h room e p =
     let k = join-length i d f (λ j m. long j) in

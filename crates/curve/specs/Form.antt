@@ -29,7 +29,8 @@ axesFormed axes k d = every k (λ i. ltb (getD axes i 0) d && eqb (positionOf ax
 abbrev pub rises : List Float → ℕ → Bool
 rises breaks n = every n (λ i. lt (at breaks i) (at breaks (i + 1)))
 
--- A set of n segments with m axes: "slice lengths match, each set has at least one and at most 20,000 segments", "breaks rise strictly from 0
+-- A set of n segments with m axes: "slice lengths match, each set has at least one and at most 20,000 segments", "breaks rise strictly
+-- from 0
 -- to 1". Numbers are compared, so that a first break of -0 is 0.
 unfoldable pub setFormed : ℕ → ℕ → List Float → List Float → Bool
 setFormed m n breaks coefficients =
@@ -46,7 +47,8 @@ othersFormed m n breaks coefficients =
 unfoldable pub rangeFormed : Float → Float → Bool
 rangeFormed start end = finite start && finite end && finite (sub binary64 end start) && lt +0 (sub binary64 end start)
 
--- A curve "is well formed if 1 ≤ d ≤ 16, axes are distinct and below d, 1 ≤ k ≤ d", each set is well formed, and so is the range. The cells of
+-- A curve "is well formed if 1 ≤ d ≤ 16, axes are distinct and below d, 1 ≤ k ≤ d", each set is well formed, and so is the range. The
+-- cells of
 -- `axes` from k on mean nothing.
 unfoldable pub wellFormed : Curve → Slices → Bool
 wellFormed c s =

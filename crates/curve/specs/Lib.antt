@@ -3,8 +3,4 @@
 pub mod First
 pub mod Places
 pub mod Form
-pub mod Search
-pub mod Segment
-pub mod Range
-pub mod Row
-pub mod Query
+pub mod Put

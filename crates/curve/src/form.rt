@@ -106,7 +106,8 @@ pub fn well_formed(
     other_breaks: &[f64],
     other_coefficients: &[f64],
 ) -> bool
-    ensures { λ r. ⌜ r ≡ wellFormed curve (slices (now (breaks .entry)) (now (coefficients .entry)) (now («other_breaks» .entry)) (now («other_coefficients» .entry))) ⌝ }
+    ensures { λ r. ⌜ r ≡ wellFormed curve (slices (now (breaks .entry)) (now (coefficients .entry)) (now («other_breaks» .entry))
+        (now («other_coefficients» .entry))) ⌝ }
 {
     let d = curve.d;
     let k = curve.k;

@@ -1,15 +1,9 @@
-// A curve and its queries: the source's `SmoothedSpline::evaluate`, with the range handling that
-// document 01 adds. A curve is a struct by value; beside it stand four slices, which are only read:
-// the breaks and the coefficients of the selected axes, and those of the other axes. Coefficients lie
-// segment after segment, within it axis after axis, six each, from power 0 up.
+// A curve, and when it is well formed. A curve is a struct by value; beside it stand four slices, which
+// are only read: the breaks and the coefficients of the selected axes, and those of the other axes.
+// Coefficients lie segment after segment, within it axis after axis, six each, from power 0 up.
+pub mod count; // count.rt: counts without a branch
 pub mod form; // form.rt: whether a curve is well formed
-mod count; // count.rt: counts without a branch
-pub mod place; // place.rt: where each axis stands in its set
-mod search; // search.rt: the segment of a parameter
-mod segment; // segment.rt: one axis on one segment
-mod range; // range.rt: parameters outside start to end
-mod row; // row.rt: the axes of one query, written
-pub mod query; // query.rt: one query, and many in one call
+pub mod place; // place.rt: where an axis stands in a list of axes
 
 // What a parameter outside start to end gets: a refusal, or the answer at the nearer end.
 pub enum Mode {

@@ -2,13 +2,13 @@
 // number in document 01, 0 for an answer without refusal.
 ghost use mathlib.Core.Path.{_≡_};
 ghost use Rattle.curve.specs.Form.{slices};
-ghost use Rattle.curve.specs.Query.{outputs, evaluateOf, evaluateAllOf, numberOf, numberOfAll};
+ghost use Rattle.query.specs.Row.{outputs};
+ghost use Rattle.query.specs.Query.{evaluateOf, evaluateAllOf, numberOf, numberOfAll};
 ghost use Rattle.exports.specs.Curve.{modeOf, curveOf};
 use curve::Curve;
 use curve::Mode;
-use curve::query;
-use curve::query::Answer;
-use curve::query::Answers;
+use query::Answer;
+use query::Answers;
 
 // The number of an answer.
 fn number(answer: Answer) -> u64
@@ -29,7 +29,9 @@ fn number_of_all(answers: Answers) -> u64
 {
     match answers {
         Answers::All => 0,
-        Answers::Refused(answer) => number(answer),
+        Answers::Malformed => 24,
+        Answers::OrderAboveThree => 23,
+        Answers::TooShort => 19,
         Answers::OutsideAt(_) => 22,
     }
 }

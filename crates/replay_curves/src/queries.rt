@@ -2,12 +2,12 @@
 ghost use Prim.Native.Nat.{_≤_};
 use curve::Curve;
 use curve::Mode;
-use curve::query::Answer;
 use listing::axes;
 use listing::list::Head;
 use listing::output;
 use listing::output::Line;
 use listing::sizes;
+use query::Answer;
 
 // The parts of a case's cells after `start` and `end`: where the first begins, and where each of the
 // breaks, coefficients, other breaks and other coefficients ends; the queries follow. Where the case
@@ -91,7 +91,7 @@ fn query<'a>(
     let mut dq = [0.0; 16];
     let mut ddq = [0.0; 16];
     let mut dddq = [0.0; 16];
-    let answer = curve::query::evaluate(
+    let answer = query::evaluate(
         curve,
         breaks,
         coefficients,

@@ -32,7 +32,8 @@ returns : tie.Need-returns Inv-loop μ-loop
 unfolding axesFormed
 returns c = let l = c .before .before .before .loop in
     let a = c .before .before .before .before .args in
-    sym (every-not (good (a .axes .now) (a .d)) (a .k) (l .i) (c .before .before .loop-test .taken) (l .inv .1) (rw (le-ltb _ _ (c .if1 .taken))))
+    sym (every-not (good (a .axes .now) (a .d)) (a .k) (l .i) (c .before .before .loop-test .taken) (l .inv .1)
+    (rw (le-ltb _ _ (c .if1 .taken))))
 
 returns-2 : tie.Need-returns-2 Inv-loop μ-loop
 unfolding axesFormed
@@ -49,8 +50,11 @@ loop-again c = let l = c .before .before .before .before .before .loop in
     let x = getD (a .axes .now) (l .i) 0 in
     let m = first-le (λ j. eqb (getD (a .axes .now) j 0) x) (l .i) in
     let p = c .before .position .ensures in
-    let e : positionOf (a .axes .now) (l .i) x ≡ l .i = omega arith in
-    (omega arith, first-next (λ j. not (good (a .axes .now) (a .d) j)) (l .i) (l .inv .1) (rw (lt-ltb _ _ (c .before .before .if1 .left), eq-eqb _ _ e)))
+    let e : positionOf (a .axes .now) (l .i) x ≡ l .i = omega arith in (
+      omega arith,
+      first-next (λ j. not (good (a .axes .now) (a .d) j)) (l .i) (l .inv .1)
+          (rw (lt-ltb _ _ (c .before .before .if1 .left), eq-eqb _ _ e)),
+    )
 
 returns-3 : tie.Need-returns-3 Inv-loop μ-loop
 unfolding axesFormed

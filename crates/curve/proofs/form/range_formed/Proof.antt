@@ -7,15 +7,28 @@ use Rattle.curve.proofs.form.range_formed.Tie as tie
 
 returns : tie.Need-returns
 unfolding rangeFormed
-returns c = rw (sym (c .before .before .before .before .before .is-finite .ensures) ∙ c .before .before .before .before .if1 .taken, sym (c .before .before .before .is-finite2 .ensures) ∙ c .before .before .if2 .taken, sym (c .before .is-finite3 .ensures) ∙ c .if3 .taken)
+returns c = let end = c .before .before in
+    let start = end .before .before in
+    rw (
+      sym (start .before .is-finite .ensures) ∙ start .if1 .taken,
+      sym (end .before .is-finite2 .ensures) ∙ end .if2 .taken,
+      sym (c .before .is-finite3 .ensures) ∙ c .if3 .taken,
+    )
 
 returns-2 : tie.Need-returns-2
 unfolding rangeFormed
-returns-2 c = rw (sym (c .before .before .before .before .before .is-finite .ensures) ∙ c .before .before .before .before .if1 .taken, sym (c .before .before .before .is-finite2 .ensures) ∙ c .before .before .if2 .taken, sym (c .before .is-finite3 .ensures) ∙ c .if3 .left)
+returns-2 c = let end = c .before .before in
+    let start = end .before .before in
+    rw (
+      sym (start .before .is-finite .ensures) ∙ start .if1 .taken,
+      sym (end .before .is-finite2 .ensures) ∙ end .if2 .taken,
+      sym (c .before .is-finite3 .ensures) ∙ c .if3 .left,
+    )
 
 returns-3 : tie.Need-returns-3
 unfolding rangeFormed
-returns-3 c = rw (sym (c .before .before .before .is-finite .ensures) ∙ c .before .before .if1 .taken, sym (c .before .is-finite2 .ensures) ∙ c .if2 .left)
+returns-3 c = let start = c .before .before in
+    rw (sym (start .before .is-finite .ensures) ∙ start .if1 .taken, sym (c .before .is-finite2 .ensures) ∙ c .if2 .left)
 
 returns-4 : tie.Need-returns-4
 unfolding rangeFormed

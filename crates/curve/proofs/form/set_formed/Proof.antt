@@ -1,4 +1,5 @@
 -- `form::set_formed` meets its contract: by cases on the tests.
+use mathlib.Core.Bool.{and-false}
 use mathlib.Core.Path.{sym, _∙_}
 use Prim.Native.Nat.{_*_, _≤_}
 use native.Mathlib.Nat.{mul-le-mul-left}
@@ -15,11 +16,11 @@ returns c = rw (lt-leb _ _ (c .if1 .taken))
 
 returns-2 : tie.Need-returns-2
 unfolding setFormed
-returns-2 c = rw (le-leb _ _ (c .before .if1 .left), lt-leb _ _ (c .if2 .taken))
+returns-2 c = rw (lt-leb _ _ (c .if2 .taken), and-false)
 
 returns-3 : tie.Need-returns-3
 unfolding setFormed
-returns-3 c = rw (le-leb _ _ (c .before .before .if1 .left), le-leb _ _ (c .before .if2 .left), ne-eqb _ _ (c .if3 .taken))
+returns-3 c = rw (ne-eqb _ _ (c .if3 .taken), and-false)
 
 mul-if4 : tie.Need-mul-if4
 mul-if4 c = let a = c .before .before .before .before .before .args in
@@ -33,19 +34,28 @@ mul-if4-2 c = let a = c .before .before .before .before .before .args in
 
 returns-4 : tie.Need-returns-4
 unfolding setFormed
-returns-4 c = rw (le-leb _ _ (c .before .before .before .if1 .left), le-leb _ _ (c .before .before .if2 .left), eq-eqb _ _ (c .before .if3 .left), ne-eqb _ _ (c .if4 .taken))
+returns-4 c = rw (ne-eqb _ _ (c .if4 .taken), and-false)
 
 returns-5 : tie.Need-returns-5
 unfolding setFormed
-returns-5 c = rw (le-leb _ _ (c .before .before .before .before .before .before .before .before .if1 .left), le-leb _ _ (c .before .before .before .before .before .before .before .if2 .left), eq-eqb _ _ (c .before .before .before .before .before .before .if3 .left), eq-eqb _ _ (c .before .before .before .before .before .if4 .left), c .before .before .before .if5 .taken, sym (c .before .before .rise .ensures) ∙ c .before .if6 .taken)
+returns-5 c = let zero = c .before .before .before in
+    let cells = zero .before .before in
+    rw (
+      le-leb _ _ (cells .before .before .before .if1 .left),
+      le-leb _ _ (cells .before .before .if2 .left),
+      eq-eqb _ _ (cells .before .if3 .left),
+      eq-eqb _ _ (cells .if4 .left),
+      zero .if5 .taken,
+      sym (c .before .before .rise .ensures) ∙ c .before .if6 .taken,
+    )
 
 returns-6 : tie.Need-returns-6
 unfolding setFormed
-returns-6 c = rw (le-leb _ _ (c .before .before .before .before .before .before .before .if1 .left), le-leb _ _ (c .before .before .before .before .before .before .if2 .left), eq-eqb _ _ (c .before .before .before .before .before .if3 .left), eq-eqb _ _ (c .before .before .before .before .if4 .left), c .before .before .if5 .taken, sym (c .before .rise .ensures) ∙ c .if6 .left)
+returns-6 c = rw (sym (c .before .rise .ensures) ∙ c .if6 .left, and-false)
 
 returns-7 : tie.Need-returns-7
 unfolding setFormed
-returns-7 c = rw (le-leb _ _ (c .before .before .before .before .before .if1 .left), le-leb _ _ (c .before .before .before .before .if2 .left), eq-eqb _ _ (c .before .before .before .if3 .left), eq-eqb _ _ (c .before .before .if4 .left), c .if5 .left)
+returns-7 c = rw (c .if5 .left, and-false)
 
 pub set-formed-spec : {M : Type 1} → statement M
 set-formed-spec =

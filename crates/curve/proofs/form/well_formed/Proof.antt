@@ -1,4 +1,5 @@
 -- `form::well_formed` meets its contract: by cases on the tests, in their order.
+use mathlib.Core.Bool.{and-false}
 use mathlib.Core.Path.{sym, _∙_}
 use borrow.Author.Tests.{le-leb, lt-leb, not-true, not-false}
 use borrow.Author.Needs.{needs}
@@ -12,31 +13,43 @@ returns c = rw (lt-leb 1 _ (c .if1 .taken))
 
 returns-2 : tie.Need-returns-2
 unfolding wellFormed
-returns-2 c = rw (le-leb 1 _ (c .before .if1 .left), lt-leb _ 16 (c .if2 .taken))
+returns-2 c = rw (lt-leb _ 16 (c .if2 .taken), and-false)
 
 returns-3 : tie.Need-returns-3
 unfolding wellFormed
-returns-3 c = rw (le-leb 1 _ (c .before .before .if1 .left), le-leb _ 16 (c .before .if2 .left), lt-leb 1 _ (c .if3 .taken))
+returns-3 c = rw (lt-leb 1 _ (c .if3 .taken), and-false)
 
 returns-4 : tie.Need-returns-4
 unfolding wellFormed
-returns-4 c = rw (le-leb 1 _ (c .before .before .before .if1 .left), le-leb _ 16 (c .before .before .if2 .left), le-leb 1 _ (c .before .if3 .left), lt-leb _ _ (c .if4 .taken))
+returns-4 c = rw (lt-leb _ _ (c .if4 .taken), and-false)
 
 returns-5 : tie.Need-returns-5
 unfolding wellFormed
-returns-5 c = rw (le-leb 1 _ (c .before .before .before .before .before .before .if1 .left), le-leb _ 16 (c .before .before .before .before .before .if2 .left), le-leb 1 _ (c .before .before .before .before .if3 .left), le-leb _ _ (c .before .before .before .if4 .left), sym (c .before .axes-formed .ensures) ∙ not-true _ (c .if5 .taken))
+returns-5 c = rw (sym (c .before .axes-formed .ensures) ∙ not-true _ (c .if5 .taken), and-false)
 
 returns-6 : tie.Need-returns-6
 unfolding wellFormed
-returns-6 c = rw (le-leb 1 _ (c .before .before .before .before .before .before .before .before .if1 .left), le-leb _ 16 (c .before .before .before .before .before .before .before .if2 .left), le-leb 1 _ (c .before .before .before .before .before .before .if3 .left), le-leb _ _ (c .before .before .before .before .before .if4 .left), sym (c .before .before .before .axes-formed .ensures) ∙ not-false _ (c .before .before .if5 .left), sym (c .before .set-formed .ensures) ∙ not-true _ (c .if6 .taken))
+returns-6 c = rw (sym (c .before .set-formed .ensures) ∙ not-true _ (c .if6 .taken), and-false)
 
 returns-7 : tie.Need-returns-7
 unfolding wellFormed
-returns-7 c = rw (le-leb 1 _ (c .before .before .before .before .before .before .before .before .before .before .if1 .left), le-leb _ 16 (c .before .before .before .before .before .before .before .before .before .if2 .left), le-leb 1 _ (c .before .before .before .before .before .before .before .before .if3 .left), le-leb _ _ (c .before .before .before .before .before .before .before .if4 .left), sym (c .before .before .before .before .before .axes-formed .ensures) ∙ not-false _ (c .before .before .before .before .if5 .left), sym (c .before .before .before .set-formed .ensures) ∙ not-false _ (c .before .before .if6 .left), sym (c .before .others-formed .ensures) ∙ not-true _ (c .if7 .taken))
+returns-7 c = rw (sym (c .before .others-formed .ensures) ∙ not-true _ (c .if7 .taken), and-false)
 
 returns-8 : tie.Need-returns-8
 unfolding wellFormed
-returns-8 c = rw (le-leb 1 _ (c .before .before .before .before .before .before .before .before .before .before .before .if1 .left), le-leb _ 16 (c .before .before .before .before .before .before .before .before .before .before .if2 .left), le-leb 1 _ (c .before .before .before .before .before .before .before .before .before .if3 .left), le-leb _ _ (c .before .before .before .before .before .before .before .before .if4 .left), sym (c .before .before .before .before .before .before .axes-formed .ensures) ∙ not-false _ (c .before .before .before .before .before .if5 .left), sym (c .before .before .before .before .set-formed .ensures) ∙ not-false _ (c .before .before .before .if6 .left), sym (c .before .before .others-formed .ensures) ∙ not-false _ (c .before .if7 .left)) (c .range-formed .ensures)
+returns-8 c = let others = c .before in
+    let set = others .before .before in
+    let axes = set .before .before in
+    let most = axes .before .before .before in
+    rw (
+      le-leb 1 _ (most .before .before .before .if1 .left),
+      le-leb _ 16 (most .before .before .if2 .left),
+      le-leb 1 _ (most .before .if3 .left),
+      le-leb _ _ (most .if4 .left),
+      sym (axes .before .axes-formed .ensures) ∙ not-false _ (axes .if5 .left),
+      sym (set .before .set-formed .ensures) ∙ not-false _ (set .if6 .left),
+      sym (others .before .others-formed .ensures) ∙ not-false _ (others .if7 .left),
+    ) (c .range-formed .ensures)
 
 pub well-formed-spec : {M : Type 1} → statement M
 well-formed-spec =

@@ -23,7 +23,8 @@ loop-holds c = (omega arith, refl)
 returns : tie.Need-returns Inv-loop μ-loop
 returns c = let b = c .before .before .before .before in
     let l = c .before .before .before .loop in
-    sym (first-found (λ j. eqb (getD (b .args .axes .now) j 0) (b .args .a)) (b .args .n) (l .i) (c .before .before .loop-test .taken) (l .inv .1) (eq-eqb _ _ (c .if1 .taken)))
+    sym (first-found (λ j. eqb (getD (b .args .axes .now) j 0) (b .args .a)) (b .args .n) (l .i) (c .before .before .loop-test .taken)
+    (l .inv .1) (eq-eqb _ _ (c .if1 .taken)))
 
 loop-again : tie.Need-loop-again Inv-loop μ-loop
 loop-again c = let b = c .before .before .before .before in

@@ -1,7 +1,7 @@
 -- `queries::pamitoye_evaluate` meets its contract.
 use mathlib.Core.Path.{ap, _∙_}
 use borrow.Author.Needs.{needs}
-use Rattle.curve.specs.Query.{Outcome}
+use Rattle.query.specs.Query.{Outcome}
 use Rattle.exports.proofs.queries.pamitoye_evaluate.Statement.{statement}
 use Rattle.exports.proofs.queries.pamitoye_evaluate.Tie as tie
 

@@ -1,0 +1,49 @@
+-- The row that the code writes is the column of the definition.
+use mathlib.Core.Path.{_≡_, _∙_}
+use mathlib.Core.List.{List, [], _∷_}
+use Prim.Native.Nat.{ℕ, _+_, _-_, _≤_, _<_}
+use native.Mathlib.Omega.{arith}
+use lib.ListN.{length, getD}
+use lib.Ieee.{Float, binary64, sub, div}
+use Rattle.bspline.proofs.Joined.{join-ap, list-length}
+use Rattle.curve.specs.declared.Curve.{Curve}
+use Rattle.curve.specs.Form.{Slices}
+use Rattle.curve.specs.Places.{placeOf}
+use Rattle.query.specs.declared.segment.Derivatives.{Derivatives}
+use Rattle.query.specs.declared.segment.Local.{Local}
+use Rattle.query.specs.Segment.{axisAt, located}
+use Rattle.query.specs.Row.{Outputs, rowOf, filled}
+use Rattle.query.specs.Query.{lengthOf, normalised, scaleOf, axisOf, columnOf}
+
+-- the axes at x, which stand at these places
+module _ (c : Curve) (s : Slices) (x : Float) (places : List ℕ) where
+  abbrev row : (Derivatives → Float) → List Float
+  row part =
+      rowOf part (s .coefficients) (s .otherCoefficients) (c .k) (c .d - c .k) places (located (s .breaks) (normalised c x))
+      (located (s .otherBreaks) (normalised c x)) (scaleOf c)
+
+  abbrev axis : ℕ → Derivatives
+  axis place =
+      axisAt (s .coefficients) (s .otherCoefficients) (c .k) (c .d - c .k) place (located (s .breaks) (normalised c x))
+      (located (s .otherBreaks) (normalised c x)) (scaleOf c)
+
+  module _ (h : c .k ≤ c .d) (g : (a : ℕ) → a < c .d → getD places a 0 ≡ placeOf (c .axes) (c .k) a) where
+    row-column : (part : Derivatives → Float) → row part ≡ columnOf part c s x
+    unfolding axisOf
+    row-column part =
+        let e : c .k + (c .d - c .k) ≡ c .d = omega arith in
+        rw e (join-ap (c .d) (λ a. part (axis (getD places a 0)) ∷ []) (λ a. part (axisOf c s x a) ∷ []) (λ a l. rw (g a l)))
+
+    -- the same of what the code has found and computed
+    pub rows-columns : (order a : ℕ) (o o′ : Outputs) (here there : Local) (answered whole scale : Float) → answered ≡ x
+        → whole ≡ lengthOf c
+        → scale ≡ scaleOf c → here ≡ located (s .breaks) (div binary64 (sub binary64 answered (c .start)) whole)
+        → there ≡ located (s .otherBreaks) (div binary64 (sub binary64 answered (c .start)) whole)
+        → o′ ≡ filled order a (λ part. rowOf part (s .coefficients) (s .otherCoefficients) (c .k) (c .d - c .k) places here there scale) o
+        → o′ ≡ filled order a (λ part. columnOf part c s x) o
+    rows-columns order a o o′ here there answered whole scale e w v hr tr p =
+        p ∙ rw (hr, tr, e, w, v) (λ i. filled order a (λ part. row-column part i) o)
+
+-- a column has d cells
+pub column-length : (part : Derivatives → Float) (c : Curve) (s : Slices) (x : Float) → length (columnOf part c s x) ≡ c .d
+column-length part c s x = list-length (c .d) (λ a. part (axisOf c s x a))

@@ -1,0 +1,18 @@
+-- Where a parameter lies among breaks that rise from 0.
+use mathlib.Core.Path.{_≡_}
+use mathlib.Core.Bool.{true, false}
+use mathlib.Core.List.{List}
+use Prim.Native.Nat.{ℕ, _+_, _<_}
+use lib.ListN.{length}
+use lib.Ieee.{Float, lt, le}
+use Rattle.window.specs.Cells.{+0, at}
+
+-- "breaks rise strictly from 0": the first is not below 0, and each is below the next
+abbrev pub Rising : List Float → Type 0
+Rising breaks = (0 < length breaks → le +0 (at breaks 0) ≡ true)
+    × ((i : ℕ) → i + 1 < length breaks → lt (at breaks i) (at breaks (i + 1)) ≡ true)
+
+-- segment r holds x: its left break is at or below x unless it is the first, and its right break is above unless it is the last
+abbrev pub Found : List Float → Float → ℕ → Type 0
+Found breaks x r =
+    (r + 1 < length breaks) × (0 < r → le (at breaks r) x ≡ true) × (r + 2 < length breaks → le (at breaks (r + 1)) x ≡ false)
