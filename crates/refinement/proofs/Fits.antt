@@ -18,7 +18,8 @@ use Rattle.fit.proofs.Bounds.{fit-length}
 use Rattle.fit.proofs.Bounds.{fit-reach}
 use Rattle.fit.proofs.RowCounts.{fit-rows}
 use Rattle.refinement.specs.declared.plan.Plan.{Plan}
-use Rattle.refinement.specs.Memory.{pointsPlace, knotsPlace, controlsPlace, systemPlace, breaksPlace, placeOf, Roomy, Memory, memoryAt, withControls, taskIn, splineIn}
+use Rattle.refinement.specs.Memory.{pointsPlace, knotsPlace, controlsPlace, systemPlace, breaksPlace, placeOf, Roomy, Memory}
+use Rattle.refinement.specs.Memory.{memoryAt, withControls, taskIn, splineIn}
 use Rattle.refinement.proofs.Memories.{products, lengths, controls-written}
 
 module _ (p : Plan) (w : List Float) (r : Roomy p (length w)) (a z : ℕ) (az : a ≤ z) (zm : z ≤ p .count) where
@@ -75,7 +76,8 @@ module _ (p : Plan) (w : List Float) (r : Roomy p (length w)) (a z : ℕ) (az : 
     unfolding fitIn
     fit-is = ap (λ (y : Arrays). fitOf y a z strength) arrays-are
 
-    pub fit-answer : (v : Answer) → v ≡ fitOf (arraysAt (placeOf p) (before (placeOf p) (window 0 end w))) a z strength .answered → v ≡ fitted .answered
+    pub fit-answer : (v : Answer) → v ≡ fitOf (arraysAt (placeOf p) (before (placeOf p) (window 0 end w))) a z strength .answered
+        → v ≡ fitted .answered
     fit-answer v e = e ∙ ap (λ (f : Fit). f .answered) fit-is
 
     pub fit-memory : (cells : List Float) → length cells ≡ end
@@ -94,11 +96,13 @@ module _ (p : Plan) (w : List Float) (r : Roomy p (length w)) (a z : ℕ) (az : 
         let g : cells ≡ front ++ y = e ∙ ap (λ (f : Fit). cellsAfter (placeOf p) f (window 0 end w)) fit-is in
         let lw = part-length in
         let lb : length (window 0 S (window 0 end w)) ≡ S = length-window 0 S (window 0 end w) (omega arith) (omega arith) ∙ omega arith in
-        let lf : length front ≡ S = length-splice c ce v (window 0 S (window 0 end w)) (omega arith) (omega arith) (lv ∙ omega arith) ∙ lb in
+        let lf : length front ≡ S = length-splice c ce v (window 0 S (window 0 end w)) (omega arith) (omega arith) (lv ∙ omega arith)
+        ∙ lb in
         let la = length-append front y in
         let lc = ap length g in
         ap (λ (l : List Float). memoryAt p (splice 0 end l w)) g
-        ∙ ap (λ (l : List Float). memoryAt p l) (front-written S end c ce v y w (omega arith) (omega arith) (omega arith) fit-fits (lv ∙ omega arith))
+        ∙ ap (λ (l : List Float). memoryAt p l)
+        (front-written S end c ce v y w (omega arith) (omega arith) (omega arith) fit-fits (lv ∙ omega arith))
         ∙ controls-written p w r v y end lv (omega arith) fit-ends (omega arith)
 
 -- how far a fit reaches, and how many rows it has

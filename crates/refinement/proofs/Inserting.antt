@@ -29,12 +29,15 @@ use Rattle.smoothing.specs.State.{Spline, spline, polynomialIn}
 use Rattle.smoothing.specs.Round.{spanIn, outside, insertOf, insertAll}
 use Rattle.smoothing.proofs.Sizes.{Formed, insert-formed}
 use Rattle.refinement.specs.declared.plan.Plan.{Plan}
-use Rattle.refinement.specs.Memory.{block, pointsPlace, knotsPlace, controlsPlace, boundsPlace, witnessPlace, locationsPlace, breaksPlace, coefficientsPlace, splineOf, Roomy, sized, Memory, memoryAt, splineIn, withPolynomial, Wide}
+use Rattle.refinement.specs.Memory.{block, pointsPlace, knotsPlace, controlsPlace, boundsPlace, witnessPlace, locationsPlace}
+use Rattle.refinement.specs.Memory.{breaksPlace, coefficientsPlace, splineOf, Roomy, sized, Memory, memoryAt, splineIn}
+use Rattle.refinement.specs.Memory.{withPolynomial, Wide}
 use Rattle.refinement.specs.Kept.{Beside}
 use Rattle.refinement.proofs.Memories.{products, lengths, knots-are, polynomial-written}
 
 -- ---- the span of x among the knots t of the plan
-module _ (p : Plan) (w : List Float) (r : Roomy p (length w)) (t : List Float) (e : t ≡ memoryAt p w .t) (x : Float) (span : ℕ) (h : span ≡ spanOf floats t (p .count) x) where
+module _ (p : Plan) (w : List Float) (r : Roomy p (length w)) (t : List Float) (e : t ≡ memoryAt p w .t) (x : Float) (span : ℕ)
+    (h : span ≡ spanOf floats t (p .count) x) where
   -- its two knots are there
   pub span-inside : span + 1 < length t
   span-inside =
@@ -58,7 +61,8 @@ module _ (p : Plan) (w : List Float) (r : Roomy p (length w)) (t : List Float) (
   outside-above b = sym (outside-is ∙ ap (λ (v : Bool). v || second) b)
 
 -- ---- one knot more
-module _ (p : Plan) (w : List Float) (r : Roomy p (length w)) (more : p .count + 8 ≤ p .room) (s : placed.Spline) (is : s ≡ splineOf p) where
+module _ (p : Plan) (w : List Float) (r : Roomy p (length w)) (more : p .count + 8 ≤ p .room) (s : placed.Spline)
+    (is : s ≡ splineOf p) where
   abbrev m : ℕ
   m = p .count
 
@@ -74,7 +78,8 @@ module _ (p : Plan) (w : List Float) (r : Roomy p (length w)) (more : p .count +
   pub insert-asks : (5 < s .count) × (s .knots + s .count + 7 ≤ s .controls) × (s .controls + (s .count + 1) * s .axes ≤ length w)
   insert-asks =
       let q = more-rows in
-      subst (λ (v : placed.Spline). (5 < v .count) × (v .knots + v .count + 7 ≤ v .controls) × (v .controls + (v .count + 1) * v .axes ≤ length w)) (sym is)
+      subst (λ (v : placed.Spline). (5 < v .count) × (v .knots + v .count + 7 ≤ v .controls)
+      × (v .controls + (v .count + 1) * v .axes ≤ length w)) (sym is)
       (omega (arith, r .six), omega (arith, r .knots-fit), omega (arith, r .cells-fit))
 
   module _ (v : Float) (w′ : List Float) (e : w′ ≡ insertedAt s v w) where
@@ -107,7 +112,14 @@ module _ (p : Plan) (w : List Float) (r : Roomy p (length w)) (more : p .count +
     apart : Apart (knotsPlace p) T-end (controlsPlace p) C-end T C w
     apart =
         let q = more-rows in
-        record { be = omega arith; ew = omega arith; wf = omega arith; fl = omega (arith, r .cells-fit); first-fits = T-long; second-fits = C-long }
+        record {
+          be = omega arith;
+          ew = omega arith;
+          wf = omega arith;
+          fl = omega (arith, r .cells-fit);
+          first-fits = T-long;
+          second-fits = C-long;
+        }
 
     after-is : w′ ≡ splice (controlsPlace p) C-end C (splice (knotsPlace p) T-end T w)
     after-is =
@@ -116,7 +128,8 @@ module _ (p : Plan) (w : List Float) (r : Roomy p (length w)) (more : p .count +
         ∙ ap (λ (z : placed.Spline). insertedAt z v w) is
         ∙ ap (λ (t : List Float). splice (knotsPlace p) T-end (knotsWith v (spanOf floats t m v) t)
         (splice (controlsPlace p) C-end (controlsWith floats t v d m (spanOf floats t m v) (x .c)) w)) (knots-are p w r)
-        ∙ splice-swap (knotsPlace p) T-end T (controlsPlace p) C-end C w (omega arith) (omega arith) (omega arith) (omega (arith, r .cells-fit)) T-long C-long
+        ∙ splice-swap (knotsPlace p) T-end T (controlsPlace p) C-end C w (omega arith) (omega arith) (omega arith)
+        (omega (arith, r .cells-fit)) T-long C-long
 
     abbrev p′ : Plan
     p′ = sized p (m + 1)
@@ -166,7 +179,8 @@ pub beside-self : (x : Memory) → Beside x x
 beside-self x = record { same-s = refl; same-y = refl; same-bounds = refl; same-witness = refl; same-locations = refl }
 
 -- x is location i of `count` in L; L′ are the locations as they are stored by then
-module _ (d count : ℕ) (L L′ : List Float) (i : ℕ) (x : Float) (b : Spline) (whole : Answer Spline) (long : count ≤ length L) (same : L′ ≡ L) (is : x ≡ at L′ i)
+module _ (d count : ℕ) (L L′ : List Float) (i : ℕ) (x : Float) (b : Spline) (whole : Answer Spline) (long : count ≤ length L)
+    (same : L′ ≡ L) (is : x ≡ at L′ i)
     (inv : insertAll d (drop i (take count L)) b ≡ whole) (h : i < count) where
   abbrev X : List Float
   X = take count L
@@ -190,7 +204,8 @@ module _ (d count : ℕ) (L L′ : List Float) (i : ℕ) (x : Float) (b : Spline
   unfolding insertAll unless
   insert-stopped b′ o = ap (λ (k : Bool). cond k (refused 16) (insertAll d (drop (i + 1) X) (insertOf d x b))) o ∙ opened
 
-pub inserts-done : (d count i : ℕ) (L : List Float) (b : Spline) (whole : Answer Spline) → count ≤ i → insertAll d (drop i (take count L)) b ≡ whole → unless 0 b ≡ whole
+pub inserts-done : (d count i : ℕ) (L : List Float) (b : Spline) (whole : Answer Spline) → count ≤ i
+    → insertAll d (drop i (take count L)) b ≡ whole → unless 0 b ≡ whole
 unfolding insertAll unless
 inserts-done d count i L b whole h inv =
     let n = length-take count L in
@@ -199,7 +214,8 @@ inserts-done d count i L b whole h inv =
     ap (λ (l : List Float). insertAll d l b) (sym e) ∙ inv
 
 -- ---- the polynomial of the whole spline
-module _ (p : Plan) (w : List Float) (r : Roomy p (length w)) (wide : Wide (memoryAt p w .t) (p .count)) (s : placed.Spline) (is : s ≡ splineOf p) where
+module _ (p : Plan) (w : List Float) (r : Roomy p (length w)) (wide : Wide (memoryAt p w .t) (p .count)) (s : placed.Spline)
+    (is : s ≡ splineOf p) where
   abbrev Asked : placed.Spline → Type 0
   Asked v =
       (5 < v .count) × (v .knots + v .count + 6 ≤ v .controls) × (v .controls + v .count * v .axes ≤ breaksPlace p)
@@ -208,7 +224,13 @@ module _ (p : Plan) (w : List Float) (r : Roomy p (length w)) (wide : Wide (memo
   pub polynomial-asks : Asked s
   polynomial-asks =
       let q = products p (length w) r in
-      subst Asked (sym is) (omega (arith, r .six), omega (arith, r .knots-fit), omega (arith, r .knots-fit), omega (arith, r .knots-fit), omega (arith, r .cells-fit))
+      subst Asked (sym is) (
+        omega (arith, r .six),
+        omega (arith, r .knots-fit),
+        omega (arith, r .knots-fit),
+        omega (arith, r .knots-fit),
+        omega (arith, r .cells-fit),
+      )
 
   abbrev y : Memory
   y = memoryAt p w
@@ -219,7 +241,8 @@ module _ (p : Plan) (w : List Float) (r : Roomy p (length w)) (wide : Wide (memo
   same-splice : (a e f : ℕ) (v l : List Float) → e ≡ f → splice a e v l ≡ splice a f v l
   same-splice a e f v l h = rw h
 
-  pub polynomial-memory : (w′ : List Float) → w′ ≡ polynomialAt s (breaksPlace p) (coefficientsPlace p) w → memoryAt p w′ ≡ withPolynomial P y
+  pub polynomial-memory : (w′ : List Float) → w′ ≡ polynomialAt s (breaksPlace p) (coefficientsPlace p) w
+      → memoryAt p w′ ≡ withPolynomial P y
   polynomial-memory w′ e =
       let q = products p (length w) r in
       let B = breaksPlace p in
@@ -231,8 +254,11 @@ module _ (p : Plan) (w : List Float) (r : Roomy p (length w)) (wide : Wide (memo
       let g : w′ ≡ splice C C-end (P .coefficients) (splice B B-end (P .breaks) w) =
       e
       ∙ ap (λ (z : placed.Spline). polynomialAt z B C w) is
-      ∙ ap (λ (t : List Float). let z = polynomialOf floats t (y .c) (p .axes) (p .count) in written B (z .breaks) (written C (z .coefficients) w)) (knots-are p w r)
+      ∙ ap (λ (t : List Float). let z = polynomialOf floats t (y .c) (p .axes) (p .count) in written B (z .breaks)
+      (written C (z .coefficients) w)) (knots-are p w r)
       ∙ same-splice B (B + length (P .breaks)) B-end (P .breaks) (written C (P .coefficients) w) (omega (arith, lb))
-      ∙ ap (λ (l : List Float). splice B B-end (P .breaks) l) (same-splice C (C + length (P .coefficients)) C-end (P .coefficients) w (omega (arith, lc)))
-      ∙ splice-swap B B-end (P .breaks) C C-end (P .coefficients) w (omega arith) (omega (arith, r .knots-fit)) (omega arith) (omega (arith, r .cells-fit)) (lb ∙ omega arith) (lc ∙ omega arith) in
+      ∙ ap (λ (l : List Float). splice B B-end (P .breaks) l)
+      (same-splice C (C + length (P .coefficients)) C-end (P .coefficients) w (omega (arith, lc)))
+      ∙ splice-swap B B-end (P .breaks) C C-end (P .coefficients) w (omega arith) (omega (arith, r .knots-fit)) (omega arith)
+      (omega (arith, r .cells-fit)) (lb ∙ omega arith) (lc ∙ omega arith) in
       ap (memoryAt p) g ∙ polynomial-written p w r P lb lc

@@ -24,7 +24,8 @@ use Rattle.sorting.proofs.Kept.{thinned-count}
 use Rattle.smoothing.specs.State.{counts}
 use Rattle.smoothing.specs.Round.{selected, middleOf, rawLocations, locationsOf}
 use Rattle.refinement.specs.declared.plan.Plan.{Plan}
-use Rattle.refinement.specs.Memory.{witnessPlace, locationsPlace, Roomy, Memory, memoryAt, withLocations, taskIn, stateIn, splineIn, taskAt, stateAt, locationsAt}
+use Rattle.refinement.specs.Memory.{witnessPlace, locationsPlace, Roomy, Memory, memoryAt, withLocations, taskIn, stateIn, splineIn}
+use Rattle.refinement.specs.Memory.{taskAt, stateAt, locationsAt}
 use Rattle.refinement.specs.Kept.{Relocated}
 use Rattle.refinement.specs.Round.{locationOf, Located}
 use Rattle.refinement.proofs.Memories.{lengths, locations-read, locations-count, locations-written}
@@ -35,7 +36,8 @@ abbrev pub test : List Float → ℕ → ℕ → ℕ → Bool
 test bounds i d a = lt (floats .literal 9 10) (at bounds (i * d + a))
 
 -- the bounds of interval i are there
-pub bounds-row : (p : Plan) (w : List Float) (r : Roomy p (length w)) (bounds : List Float) (i : ℕ) → bounds ≡ memoryAt p w .bounds → i + 1 < p .samples
+pub bounds-row : (p : Plan) (w : List Float) (r : Roomy p (length w)) (bounds : List Float) (i : ℕ) → bounds ≡ memoryAt p w .bounds
+    → i + 1 < p .samples
     → i * p .axes + p .axes ≤ length bounds
 bounds-row p w r bounds i e h =
     let n : length bounds ≡ (p .samples - 1) * p .axes = ap length e ∙ lengths p w r .bounds in
@@ -44,7 +46,8 @@ bounds-row p w r bounds i e h =
 -- the middle of the span of interval i's witness
 pub middle-is : (p : Plan) (w t : List Float) (i span : ℕ) → t ≡ memoryAt p w .t → i + 1 < p .samples
     → span ≡ spanOf floats t (p .count) (getD w (witnessPlace p + i) nan)
-    → div binary64 (add binary64 (at t span) (at t (span + 1))) (floats .literal 2 1) ≡ middleOf (splineIn p (memoryAt p w)) (at (memoryAt p w .witness) i)
+    → div binary64 (add binary64 (at t span) (at t (span + 1))) (floats .literal 2 1)
+    ≡ middleOf (splineIn p (memoryAt p w)) (at (memoryAt p w .witness) i)
 unfolding middleOf
 middle-is p w t i span e h g =
     ap (λ (k : ℕ). middle t k) g
@@ -64,9 +67,11 @@ module _ (p : Plan) (w : List Float) (r : Roomy p (length w)) where
   set-memory count v h =
       let e = set-written w (locationsPlace p + count) v (omega (arith, r .cells-fit)) in
       subst (λ (l : List Float). Relocated x (memoryAt p l)) (sym e)
-      (locations-written p w r (locationsPlace p + count) (locationsPlace p + count + 1) (v ∷ []) (omega arith) (omega arith) (omega arith) (omega arith))
+      (locations-written p w r (locationsPlace p + count) (locationsPlace p + count + 1) (v ∷ []) (omega arith) (omega arith) (omega arith)
+      (omega arith))
 
-  set-list : (count : ℕ) (v : Float) → count < p .room → locationsAt p (count + 1) (set w (locationsPlace p + count) v) ≡ locationsAt p count w ++ (v ∷ [])
+  set-list : (count : ℕ) (v : Float) → count < p .room
+      → locationsAt p (count + 1) (set w (locationsPlace p + count) v) ≡ locationsAt p count w ++ (v ∷ [])
   set-list count v h =
       let L = locationsPlace p in
       let n = lengths p w r .locations in
@@ -108,7 +113,8 @@ module _ (p : Plan) (w : List Float) (r : Roomy p (length w)) where
     kept-few = omega (arith, thinned-count distinct none S, sorted-long)
 
     -- the cells v that `sort_once` leaves, k of them kept
-    module _ (v : List Float) (k : ℕ) (e : k ≡ length (dedupOf (sortOf (window L (L + count) w)))) (f : v ≡ dedupOf (sortOf (window L (L + count) w)) ++ drop k (sortOf (window L (L + count) w))) where
+    module _ (v : List Float) (k : ℕ) (e : k ≡ length (dedupOf (sortOf (window L (L + count) w))))
+        (f : v ≡ dedupOf (sortOf (window L (L + count) w)) ++ drop k (sortOf (window L (L + count) w))) where
       read : sortOf (window L (L + count) w) ≡ S
       read = ap sortOf (locations-read p w count (omega arith))
 
@@ -129,7 +135,8 @@ module _ (p : Plan) (w : List Float) (r : Roomy p (length w)) where
           let n = kept-few in
           let m = kept in
           sym (take-take k count (memoryAt p after .locations) (omega arith))
-          ∙ ap (take k) (sym (locations-read p after count (omega arith)) ∙ window-same L (L + count) v w (omega (arith, r .cells-fit)) long ∙ cells)
+          ∙ ap (take k) (sym (locations-read p after count (omega arith)) ∙ window-same L (L + count) v w (omega (arith, r .cells-fit)) long
+          ∙ cells)
           ∙ take-at (dedupOf S) (drop k S) k (sym kept)
 
       pub settled-all : Relocated x (memoryAt p after) × ((locationsAt p k after ≡ dedupOf S) × (k ≡ length (dedupOf S)))
@@ -155,7 +162,8 @@ collected p n i l x e f h = h ∙ ap (λ (k : ℕ). join k (locationOf p x)) (e 
 -- then settled: the cells were w, are w₁ with the raw locations and w₂ with those kept
 pub located : (p : Plan) (count k : ℕ) (w w₁ w₂ : List Float) → Relocated (memoryAt p w) (memoryAt p w₁)
     → locationsAt p count w₁ ≡ rawLocations (taskAt p w) (stateAt p (counts 0 0 0) w) → Relocated (memoryAt p w₁) (memoryAt p w₂)
-    → locationsAt p k w₂ ≡ dedupOf (sortOf (locationsAt p count w₁)) → k ≡ length (dedupOf (sortOf (locationsAt p count w₁))) → Located p k w w₂
+    → locationsAt p k w₂ ≡ dedupOf (sortOf (locationsAt p count w₁)) → k ≡ length (dedupOf (sortOf (locationsAt p count w₁)))
+    → Located p k w w₂
 unfolding locationsOf
 located p count k w w₁ w₂ e h f g n =
     record {

@@ -15,8 +15,15 @@ use Rattle.bspline.specs.Placed.{knotsAt}
 use Rattle.polynomial.specs.Placed as audits
 use Rattle.polynomial.proofs.Parts.{Apart, both-before, both-between, both-after, both-first, both-second}
 use Rattle.refinement.specs.declared.plan.Plan.{Plan}
-use Rattle.refinement.specs.Memory.{block, pointsPlace, knotsPlace, controlsPlace, boundsPlace, witnessPlace, locationsPlace, systemPlace, breaksPlace, coefficientsPlace, splineOf, partsOf, Roomy, sized, Memory, memoryAt, withControls, withPolynomial, withCoefficients, withBounds, locationsAt}
+use Rattle.refinement.specs.Memory.{block, pointsPlace, knotsPlace, controlsPlace, boundsPlace, witnessPlace, locationsPlace}
+use Rattle.refinement.specs.Memory.{systemPlace, breaksPlace, coefficientsPlace, splineOf, partsOf, Roomy, sized, Memory, memory}
+use Rattle.refinement.specs.Memory.{memoryAt, withControls, withPolynomial, withCoefficients, withBounds, locationsAt}
 use Rattle.refinement.specs.Kept.{Relocated}
+
+-- memories are equal where each of their arrays is
+memory-is : {x x′ : Memory} → x .s ≡ x′ .s → x .y ≡ x′ .y → x .t ≡ x′ .t → x .c ≡ x′ .c → x .bounds ≡ x′ .bounds → x .witness ≡ x′ .witness
+    → x .locations ≡ x′ .locations → x .breaks ≡ x′ .breaks → x .coefficients ≡ x′ .coefficients → x ≡ x′
+memory-is s y t c b w l k f = λ i. memory (s i) (y i) (t i) (c i) (b i) (w i) (l i) (k i) (f i)
 
 -- ---- numbers
 -- products that bound the arrays
@@ -52,7 +59,8 @@ bounds-numbers p w r b e =
     (omega (arith, q .bounds), omega (arith, q .bounds, r .cells-fit))
 
 -- a plan with other controls
-pub roomy-few : (p : Plan) (cells m segments : ℕ) → Roomy p cells → 6 ≤ m → m ≤ segments + 5 → segments + 16 ≤ p .room → Roomy (sized p m) cells
+pub roomy-few : (p : Plan) (cells m segments : ℕ) → Roomy p cells → 6 ≤ m → m ≤ segments + 5 → segments + 16 ≤ p .room
+    → Roomy (sized p m) cells
 roomy-few p cells m segments r six h g =
     record {
       few = r .few;
@@ -65,7 +73,8 @@ roomy-few p cells m segments r six h g =
     }
 
 -- with i of `count` knots more
-pub roomy-more : (p : Plan) (cells cells′ count m i : ℕ) → Roomy p cells → cells′ ≡ cells → p .count + count + 7 ≤ p .room → m ≡ p .count + i → i ≤ count
+pub roomy-more : (p : Plan) (cells cells′ count m i : ℕ) → Roomy p cells → cells′ ≡ cells → p .count + count + 7 ≤ p .room
+    → m ≡ p .count + i → i ≤ count
     → Roomy (sized p m) cells′
 roomy-more p cells cells′ count m i r e h g l =
     rw e
@@ -116,8 +125,10 @@ module _ (p : Plan) (w : List Float) (r : Roomy p (length w)) where
   knots-are = same-window (knotsPlace p) (knotsPlace p) (knotsPlace p + p .count + 6) (knotsPlace p + (p .count + 6)) w refl (omega arith)
 
   -- ---- a fit writes the controls and its system
-  pub controls-written : (v y : List Float) (end : ℕ) → length v ≡ p .count * p .axes → systemPlace p ≤ end → end ≤ breaksPlace p → length y ≡ end - systemPlace p
-      → memoryAt p (splice (systemPlace p) end y (splice (controlsPlace p) (controlsPlace p + p .count * p .axes) v w)) ≡ withControls v (memoryAt p w)
+  pub controls-written : (v y : List Float) (end : ℕ) → length v ≡ p .count * p .axes → systemPlace p ≤ end → end ≤ breaksPlace p
+      → length y ≡ end - systemPlace p
+      → memoryAt p (splice (systemPlace p) end y (splice (controlsPlace p) (controlsPlace p + p .count * p .axes) v w))
+      ≡ withControls v (memoryAt p w)
   controls-written v y end lv lo hi ly =
       let q = products p (length w) r in
       let a : Apart (controlsPlace p) (controlsPlace p + p .count * p .axes) (systemPlace p) end v y w =
@@ -131,15 +142,23 @@ module _ (p : Plan) (w : List Float) (r : Roomy p (length w)) where
       let l-is = both-between a (locationsPlace p) (locationsPlace p + 3 * p .room) (omega arith) (omega arith) (omega arith) in
       let k-is = both-after a (breaksPlace p) (breaksPlace p + (p .count - 5) + 1) (omega arith) in
       let f-is = both-after a (coefficientsPlace p) (coefficientsPlace p + (p .count - 5) * (6 * p .axes)) (omega arith) in
-      λ i. record { s = s-is i; y = y-is i; t = t-is i; c = c-is i; bounds = b-is i; witness = w-is i; locations = l-is i; breaks = k-is i; coefficients = f-is i }
+      memory-is s-is y-is t-is c-is b-is w-is l-is k-is f-is
 
   -- ---- an audit writes the bounds and the witnesses
   pub bounds-written : (x z : List Float) → length x ≡ (p .samples - 1) * p .axes → length z ≡ p .samples - 1
       → memoryAt p (audits.withBounds (partsOf p) x z w) ≡ withBounds x z (memoryAt p w)
   bounds-written x z lx lz =
       let q = products p (length w) r in
-      let a : Apart (boundsPlace p) (boundsPlace p + (p .samples - 1) * p .axes) (witnessPlace p) (witnessPlace p + (p .samples - 1)) x z w =
-      record { be = omega arith; ew = omega arith; wf = omega arith; fl = omega arith; first-fits = lx ∙ omega arith; second-fits = lz ∙ omega arith } in
+      let a : Apart (boundsPlace p) (boundsPlace p + (p .samples - 1) * p .axes) (witnessPlace p)
+      (witnessPlace p + (p .samples - 1)) x z w =
+      record {
+        be = omega arith;
+        ew = omega arith;
+        wf = omega arith;
+        fl = omega arith;
+        first-fits = lx ∙ omega arith;
+        second-fits = lz ∙ omega arith;
+      } in
       let s-is = both-before a 0 (0 + p .samples) (omega arith) (omega arith) in
       let y-is = both-before a (pointsPlace p) (pointsPlace p + p .samples * p .axes) (omega arith) (omega arith) in
       let t-is = both-before a (knotsPlace p) (knotsPlace p + (p .count + 6)) (omega arith) (omega arith) in
@@ -149,18 +168,27 @@ module _ (p : Plan) (w : List Float) (r : Roomy p (length w)) where
       let l-is = both-after a (locationsPlace p) (locationsPlace p + 3 * p .room) (omega arith) in
       let k-is = both-after a (breaksPlace p) (breaksPlace p + (p .count - 5) + 1) (omega arith) in
       let f-is = both-after a (coefficientsPlace p) (coefficientsPlace p + (p .count - 5) * (6 * p .axes)) (omega arith) in
-      λ i. record { s = s-is i; y = y-is i; t = t-is i; c = c-is i; bounds = b-is i; witness = w-is i; locations = l-is i; breaks = k-is i; coefficients = f-is i }
+      memory-is s-is y-is t-is c-is b-is w-is l-is k-is f-is
 
   -- ---- a polynomial is written, with a segment for each span
-  pub polynomial-written : (q : Polynomial Float) → length (q .breaks) ≡ p .count - 5 + 1 → length (q .coefficients) ≡ (p .count - 5) * (6 * p .axes)
+  pub polynomial-written : (q : Polynomial Float) → length (q .breaks) ≡ p .count - 5 + 1
+      → length (q .coefficients) ≡ (p .count - 5) * (6 * p .axes)
       → memoryAt p
       (splice (coefficientsPlace p) (coefficientsPlace p + (p .count - 5) * (6 * p .axes)) (q .coefficients)
       (splice (breaksPlace p) (breaksPlace p + (p .count - 5) + 1) (q .breaks) w))
       ≡ withPolynomial q (memoryAt p w)
   polynomial-written q lb lc =
       let n = products p (length w) r in
-      let a : Apart (breaksPlace p) (breaksPlace p + (p .count - 5) + 1) (coefficientsPlace p) (coefficientsPlace p + (p .count - 5) * (6 * p .axes)) (q .breaks) (q .coefficients) w =
-      record { be = omega arith; ew = omega arith; wf = omega arith; fl = omega arith; first-fits = lb ∙ omega arith; second-fits = lc ∙ omega arith } in
+      let a : Apart (breaksPlace p) (breaksPlace p + (p .count - 5) + 1) (coefficientsPlace p)
+      (coefficientsPlace p + (p .count - 5) * (6 * p .axes)) (q .breaks) (q .coefficients) w =
+      record {
+        be = omega arith;
+        ew = omega arith;
+        wf = omega arith;
+        fl = omega arith;
+        first-fits = lb ∙ omega arith;
+        second-fits = lc ∙ omega arith;
+      } in
       let s-is = both-before a 0 (0 + p .samples) (omega arith) (omega arith) in
       let y-is = both-before a (pointsPlace p) (pointsPlace p + p .samples * p .axes) (omega arith) (omega arith) in
       let t-is = both-before a (knotsPlace p) (knotsPlace p + (p .count + 6)) (omega arith) (omega arith) in
@@ -170,7 +198,7 @@ module _ (p : Plan) (w : List Float) (r : Roomy p (length w)) where
       let l-is = both-before a (locationsPlace p) (locationsPlace p + 3 * p .room) (omega arith) (omega arith) in
       let k-is = both-first a in
       let f-is = both-second a in
-      λ i. record { s = s-is i; y = y-is i; t = t-is i; c = c-is i; bounds = b-is i; witness = w-is i; locations = l-is i; breaks = k-is i; coefficients = f-is i }
+      memory-is s-is y-is t-is c-is b-is w-is l-is k-is f-is
 
   -- ---- what is written from the coefficients on
   pub coefficients-written : (v : List Float) → ((b g : ℕ) → b ≤ g → g ≤ coefficientsPlace p → window b g v ≡ window b g w)
@@ -185,7 +213,7 @@ module _ (p : Plan) (w : List Float) (r : Roomy p (length w)) where
       let w-is = below (witnessPlace p) (witnessPlace p + (p .samples - 1)) (omega arith) (omega arith) in
       let l-is = below (locationsPlace p) (locationsPlace p + 3 * p .room) (omega arith) (omega arith) in
       let k-is = below (breaksPlace p) (breaksPlace p + (p .count - 5) + 1) (omega arith) (omega arith) in
-      λ i. record { s = s-is i; y = y-is i; t = t-is i; c = c-is i; bounds = b-is i; witness = w-is i; locations = l-is i; breaks = k-is i; coefficients = memoryAt p v .coefficients }
+      memory-is s-is y-is t-is c-is b-is w-is l-is k-is refl
 
   -- ---- a part of the locations is written
   pub locations-written : (a e : ℕ) (v : List Float) → locationsPlace p ≤ a → a ≤ e → e ≤ locationsPlace p + 3 * p .room → length v ≡ e - a
@@ -205,4 +233,4 @@ module _ (p : Plan) (w : List Float) (r : Roomy p (length w)) where
       let w-is = before (witnessPlace p) (witnessPlace p + (p .samples - 1)) (omega arith) (omega arith) in
       let k-is = after (breaksPlace p) (breaksPlace p + (p .count - 5) + 1) (omega arith) in
       let f-is = after (coefficientsPlace p) (coefficientsPlace p + (p .count - 5) * (6 * p .axes)) (omega arith) in
-      λ i. record { s = s-is i; y = y-is i; t = t-is i; c = c-is i; bounds = b-is i; witness = w-is i; locations = memoryAt p (splice a e v w) .locations; breaks = k-is i; coefficients = f-is i }
+      memory-is s-is y-is t-is c-is b-is w-is refl k-is f-is

@@ -72,7 +72,8 @@ module _ (segments : ℕ) (q : Task) (st : State) where
   unfolding refineOf
   refine-settled zero s = sym (ap (λ (b : Bool). cond b (done st) (exhausted (worstOf (st .bounds)))) s)
   refine-settled (suc left) s =
-      sym (ap (λ (b : Bool). cond b (done st) (cond (ltb segments (spansAfter q st)) (refused 15) (andThen (roundOf q st) (λ after. refineOf segments left q after)))) s)
+      sym (ap (λ (b : Bool). cond b (done st)
+      (cond (ltb segments (spansAfter q st)) (refused 15) (andThen (roundOf q st) (λ after. refineOf segments left q after)))) s)
 
   refine-exhausted : (left : ℕ) → left ≡ 0 → settled st ≡ false → exhausted (worstOf (st .bounds)) ≡ refineOf segments left q st
   unfolding refineOf
@@ -87,7 +88,8 @@ module _ (segments : ℕ) (q : Task) (st : State) where
   opened : (left : ℕ) → settled st ≡ false → refineOf segments (suc left) q st ≡ andThen (tried segments q st) (refineOf segments left q)
   unfolding refineOf
   opened left s =
-      ap (λ (b : Bool). cond b (done st) (cond (ltb segments (spansAfter q st)) (refused 15) (andThen (roundOf q st) (λ after. refineOf segments left q after)))) s
+      ap (λ (b : Bool). cond b (done st)
+      (cond (ltb segments (spansAfter q st)) (refused 15) (andThen (roundOf q st) (λ after. refineOf segments left q after)))) s
       ∙ pushed (ltb segments (spansAfter q st)) (roundOf q st) (refineOf segments left q)
 
   -- the test: w is the worst bound

@@ -26,7 +26,8 @@ use Rattle.refinement.proofs.Refreshed.{fit-stale}
 -- ---- segments made anew, then the audit: the arrays were x, are x₁ with the segments and x₂ after the audit
 -- the audit against the stored polynomial is that of the state
 pub audit-is : (p : Plan) (x x₁ x₂ : Memory) (v : List Float) (left right number checked : ℕ) (o : Outcome) (report : Counts)
-    → x₁ ≡ withCoefficients v x → Stored p x₁ → number ≡ audits.numberOf o → o ≡ auditOver p left right x₁ .outcome → checked ≡ auditOver p left right x₁ .checked
+    → x₁ ≡ withCoefficients v x → Stored p x₁ → number ≡ audits.numberOf o → o ≡ auditOver p left right x₁ .outcome
+    → checked ≡ auditOver p left right x₁ .checked
     → x₂ ≡ withBounds (auditOver p left right x₁ .bounds) (auditOver p left right x₁ .witness) x₁
     → unless number (stateIn p (addIntervals checked report) x₂) ≡ auditIn (taskIn p x) left right (stateIn p report x)
 unfolding auditIn audited
@@ -35,7 +36,8 @@ audit-is p x x₁ x₂ v left right number checked o report e s n q k e₂ =
     let P = polynomialIn (p .axes) (splineIn p x₁) in
     let same : A ≡ auditOf (P .breaks) (P .coefficients) (x₁ .s) (x₁ .y) (p .axes) left right (x₁ .bounds) (x₁ .witness) =
     ap (λ (l : List Float). auditOf l (x₁ .coefficients) (x₁ .s) (x₁ .y) (p .axes) left right (x₁ .bounds) (x₁ .witness)) (s .breaks-are)
-    ∙ ap (λ (l : List Float). auditOf (P .breaks) l (x₁ .s) (x₁ .y) (p .axes) left right (x₁ .bounds) (x₁ .witness)) (s .coefficients-are) in
+    ∙ ap (λ (l : List Float). auditOf (P .breaks) l (x₁ .s) (x₁ .y) (p .axes) left right (x₁ .bounds) (x₁ .witness))
+    (s .coefficients-are) in
     ap (λ (i : ℕ). unless i (stateIn p (addIntervals checked report) x₂)) (n ∙ ap audits.numberOf q)
     ∙ ap (λ (i : ℕ). unless (audits.numberOf (A .outcome)) (stateIn p (addIntervals i report) x₂)) k
     ∙ ap (λ (y : Memory). unless (audits.numberOf (A .outcome)) (stateIn p (addIntervals (A .checked) report) y)) e₂
@@ -43,11 +45,13 @@ audit-is p x x₁ x₂ v left right number checked o report e s n q k e₂ =
     ∙ ap (λ (y : Memory). auditIn (taskIn p y) left right (stateIn p report y)) e
 
 -- what the audit leaves
-pub after-audit : (p : Plan) (x x₁ x₂ : Memory) (v bounds witness : List Float) → x₁ ≡ withCoefficients v x → Stored p x₁ → x₂ ≡ withBounds bounds witness x₁
+pub after-audit : (p : Plan) (x x₁ x₂ : Memory) (v bounds witness : List Float) → x₁ ≡ withCoefficients v x → Stored p x₁
+    → x₂ ≡ withBounds bounds witness x₁
     → Stored p x₂ × Same x x₂
 after-audit p x x₁ x₂ v bounds witness e s e₂ = (
   subst (Stored p) (sym e₂) (record { breaks-are = s .breaks-are; coefficients-are = s .coefficients-are }),
-  subst (Same x) (sym (e₂ ∙ ap (withBounds bounds witness) e)) (record { same-s = refl; same-y = refl; same-t = refl; same-locations = refl }),
+  subst (Same x) (sym (e₂ ∙ ap (withBounds bounds witness) e))
+      (record { same-s = refl; same-y = refl; same-t = refl; same-locations = refl }),
 )
 
 -- ---- a refit, as its fit ends
@@ -67,7 +71,8 @@ module _ (q : Task) (a z : ℕ) (st : State) where
       → refitOf q (range a z) st ≡ auditIn q (first - 1) (min last (q .n - 1)) (fittedState rows)
   unfolding refitOf fitted unless andThen
   refit-done first last rows e =
-      ap (λ (r : Answer). andThen (unless (r .number) (fittedState (r .rows))) (auditIn q (r .first - 1) (min (r .last) (q .n - 1)))) (sym e)
+      ap (λ (r : Answer). andThen (unless (r .number) (fittedState (r .rows))) (auditIn q (r .first - 1) (min (r .last) (q .n - 1))))
+      (sym e)
 
 not-done : (s : State) (number : ℕ) → eqb number 0 ≡ false → unless number s ≡ refused number
 unfolding unless
@@ -85,12 +90,14 @@ module _ (p : Plan) (x : Memory) (a z : ℕ) (strength : Float) (report : Counts
 
   module _ (x₁ : Memory) (e₁ : x₁ ≡ withControls (g strength .controls) x) where
     pub refit-follows : (x₂ : Memory) (first last rows number : ℕ) (report′ : Counts) → answer 0 first last rows ≡ g strength .answered
-        → unless number (stateIn p report′ x₂) ≡ auditIn (taskIn p x₁) (first - 1) (min last (p .samples - 1)) (stateIn p (addRows rows report) x₁)
+        → unless number (stateIn p report′ x₂)
+        ≡ auditIn (taskIn p x₁) (first - 1) (min last (p .samples - 1)) (stateIn p (addRows rows report) x₁)
         → unless number (stateIn p report′ x₂) ≡ refitOf (taskIn p x) (range a z) (stateIn p report x)
     refit-follows x₂ first last rows number report′ e h =
         h
         ∙ ap (λ (y : Memory). auditIn (taskIn p y) (first - 1) (min last (p .samples - 1)) (stateIn p (addRows rows report) y)) e₁
-        ∙ ap (λ (v : Float). auditIn (taskIn p x) (first - 1) (min last (p .samples - 1)) (stateIn p (addRows rows report) (withControls (g v .controls) x))) es
+        ∙ ap (λ (v : Float). auditIn (taskIn p x) (first - 1) (min last (p .samples - 1))
+        (stateIn p (addRows rows report) (withControls (g v .controls) x))) es
         ∙ sym (refit-done (taskIn p x) a z (stateIn p report x) first last rows (e ∙ ap (λ (v : Float). g v .answered) es))
 
     pub refit-same : (x₂ : Memory) → Same x₁ x₂ → Same x x₂

@@ -22,12 +22,14 @@ use Rattle.fitting_rows.specs.Arrays.{arrays}
 use Rattle.fit.proofs.Bounds.{fit-outside}
 use Rattle.smoothing.specs.State.{polynomialIn, fitIn}
 use Rattle.refinement.specs.declared.plan.Plan.{Plan}
-use Rattle.refinement.specs.Memory.{breaksPlace, coefficientsPlace, splineOf, Roomy, Memory, memoryAt, withControls, withCoefficients, taskIn, splineIn, Wide, Stored}
+use Rattle.refinement.specs.Memory.{breaksPlace, coefficientsPlace, splineOf, Roomy, Memory, memoryAt, withControls, withCoefficients}
+use Rattle.refinement.specs.Memory.{taskIn, splineIn, Wide, Stored}
 use Rattle.refinement.specs.Kept.{Stale}
 use Rattle.refinement.proofs.Memories.{products, knots-are, coefficients-written}
 
 -- ---- a fit leaves the controls outside its window: the polynomial that was stored before it is stale in the window alone
-pub fit-stale : (p : Plan) (a z : ℕ) (strength : Float) (x : Memory) → a ≤ z → Stored p x → Stale p a z (withControls (fitIn (taskIn p x) a z strength (splineIn p x) .controls) x)
+pub fit-stale : (p : Plan) (a z : ℕ) (strength : Float) (x : Memory) → a ≤ z → Stored p x
+    → Stale p a z (withControls (fitIn (taskIn p x) a z strength (splineIn p x) .controls) x)
 unfolding fitIn
 fit-stale p a z strength x az s =
     let d = p .axes in
@@ -92,7 +94,8 @@ module _ (p : Plan) (a z : ℕ) (w : List Float) (r : Roomy p (length w)) (az : 
   -- a segment as it was stored
   stored-row : (j : ℕ) → 5 + j < m → segmentRow (splineOf p) C w j ≡ spanSegments floats (x .t) (st .old) d (5 + j)
   stored-row j h =
-      row-of C (6 * d) (m - 5) (λ (i : ℕ). spanSegments floats (x .t) (st .old) d (5 + i)) w (λ i l. segments-length floats (x .t) (st .old) d (5 + i))
+      row-of C (6 * d) (m - 5) (λ (i : ℕ). spanSegments floats (x .t) (st .old) d (5 + i)) w
+      (λ i l. segments-length floats (x .t) (st .old) d (5 + i))
       (st .coefficients-were ∙ wide-coefficients (x .t) (st .old) d m wide (r .six)) j (omega arith)
 
   -- a span that the window does not reach
@@ -114,7 +117,8 @@ module _ (p : Plan) (a z : ℕ) (w : List Float) (r : Roomy p (length w)) (az : 
   each-row j h = elim (decLt (5 + j) (max a 5)) [
     | yes g ↦ put .early j g ∙ stored-row j (omega arith) ∙ unreached j (early-same j (first-from a j g))
     | no g ↦ elim (decLt (5 + j) (min (z + 5) m)) [
-      | yes k ↦ put .fresh j (not-below (5 + j) (max a 5) g) k ∙ ap (λ (t : List Float). spanSegments floats t (x .c) d (5 + j)) (knots-are p w r)
+      | yes k ↦ put .fresh j (not-below (5 + j) (max a 5) g) k
+          ∙ ap (λ (t : List Float). spanSegments floats t (x .c) d (5 + j)) (knots-are p w r)
       | no k ↦
           let l = not-below (5 + j) (min (z + 5) m) k in
           put .late j l (omega arith) ∙ stored-row j (omega arith) ∙ unreached j (late-same j (last-to z m j l (omega arith)))
@@ -150,8 +154,14 @@ module _ (p : Plan) (s : Spline) (is : s ≡ splineOf p) (a z from to : ℕ) (ef
   refresh-asks cells r az zm =
       let q = products p cells r in
       let o = ordered a z (p .count) az zm (r .six) in
-      subst (λ (v : Spline). Asked v cells) (sym is)
-      (rw ef (o .0), rw et (o .2), omega (arith, r .knots-fit), omega (arith, r .knots-fit), omega (arith, r .knots-fit), omega (arith, r .cells-fit))
+      subst (λ (v : Spline). Asked v cells) (sym is) (
+        rw ef (o .0),
+        rw et (o .2),
+        omega (arith, r .knots-fit),
+        omega (arith, r .knots-fit),
+        omega (arith, r .knots-fit),
+        omega (arith, r .cells-fit),
+      )
 
   module _ (w w′ : List Float) (r : Roomy p (length w)) (az : a ≤ z) (zm : z ≤ p .count) (wide : Wide (memoryAt p w .t) (p .count))
       (st : Stale p a z (memoryAt p w)) (e : w′ ≡ spansPut s (breaksPlace p) (coefficientsPlace p) from to w) where

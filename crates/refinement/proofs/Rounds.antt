@@ -21,7 +21,8 @@ use Rattle.refinement.specs.Refit.{Same}
 use Rattle.refinement.specs.Round.{roundWith, Standing}
 
 -- ---- 16
-pub round-refused : {A B : Type 0} (number : ℕ) (a : A) (b : B) (x : Answer A) (f : A → Answer B) → 0 < number → unless number a ≡ x → unless number b ≡ andThen x f
+pub round-refused : {A B : Type 0} (number : ℕ) (a : A) (b : B) (x : Answer A) (f : A → Answer B) → 0 < number → unless number a ≡ x
+    → unless number b ≡ andThen x f
 unfolding unless andThen
 round-refused number a b x f l e =
     let n = ne-eqb number 0 (λ e. omega arith) in
@@ -63,7 +64,8 @@ module _ (p : Plan) (m count number : ℕ) (x x₁ : Memory) (zero-is : number �
       unfolding andThen refitted
       round-is report answer e =
           e
-          ∙ ap (λ (y : Memory). refitAll (taskIn p′ y) (regionsOf (y .t) m (take count (y .locations))) (stateIn p′ (addRefinement report) y)) rebuilt
+          ∙ ap (λ (y : Memory). refitAll (taskIn p′ y) (regionsOf (y .t) m (take count (y .locations)))
+          (stateIn p′ (addRefinement report) y)) rebuilt
           ∙ ap (λ (l : List Float). G l (x₁ .y) (x₁ .locations) (x₁ .bounds) (x₁ .witness)) (beside .same-s)
           ∙ ap (λ (l : List Float). G (x .s) l (x₁ .locations) (x₁ .bounds) (x₁ .witness)) (beside .same-y)
           ∙ ap (λ (l : List Float). G (x .s) (x .y) l (x₁ .bounds) (x₁ .witness)) (beside .same-locations)
@@ -88,12 +90,15 @@ module _ (p : Plan) (m count number : ℕ) (x x₁ : Memory) (zero-is : number �
           subst (λ (t : List Float). Rising t m) (sym (h .same-t ∙ ap (λ (y : Memory). y .t) rebuilt)) (knots-rise r a)
 
 -- the same of the cells, w before the round and w₁, w₂, w₃ after the insertions, the polynomial and the regions
-pub round-stands : (p : Plan) (m count number : ℕ) (w w₁ w₂ w₃ : List Float) → let x = memoryAt p w in let x₁ = memoryAt (sized p m) w₁ in let x₂ = memoryAt (sized p m) w₂ in
+pub round-stands : (p : Plan) (m count number : ℕ) (w w₁ w₂ w₃ : List Float)
+    → let x = memoryAt p w in let x₁ = memoryAt (sized p m) w₁ in let x₂ = memoryAt (sized p m) w₂ in
     number ≡ 0 → unless number (splineIn (sized p m) x₁) ≡ insertAll (p .axes) (take count (x .locations)) (splineIn p x)
     → x₂ ≡ withPolynomial (polynomialIn (p .axes) (splineIn (sized p m) x₁)) x₁ → Beside x x₁ → Same x₂ (memoryAt (sized p m) w₃)
     → Rising (x .t) (p .count) → All Number (take count (x .locations)) → Standing p m w w₃
 round-stands p m count number w w₁ w₂ w₃ z i e b s r a =
     record {
-      same-task = kept-task p m count number (memoryAt p w) (memoryAt (sized p m) w₁) z i (memoryAt (sized p m) w₂) e b (memoryAt (sized p m) w₃) s;
-      rising = kept-rising p m count number (memoryAt p w) (memoryAt (sized p m) w₁) z i (memoryAt (sized p m) w₂) e b (memoryAt (sized p m) w₃) s r a;
+      same-task = kept-task p m count number (memoryAt p w) (memoryAt (sized p m) w₁) z i (memoryAt (sized p m) w₂) e b
+          (memoryAt (sized p m) w₃) s;
+      rising = kept-rising p m count number (memoryAt p w) (memoryAt (sized p m) w₁) z i (memoryAt (sized p m) w₂) e b
+          (memoryAt (sized p m) w₃) s r a;
     }

@@ -38,19 +38,23 @@ module _ (p : Plan) (w : List Float) (r : Roomy p (length w)) (count from a z ne
   pub region-is : (t X : List Float) → t ≡ memoryAt p w .t → X ≡ locationsAt p count w → After t X → (from < next) × (next ≤ length X)
       → After (memoryAt p w .t) (locationsAt p count w) × ((a ≤ z) × (z ≤ p .count) × (from < next) × (next ≤ count))
   region-is t X et eX e n =
-      let f : After (memoryAt p w .t) (locationsAt p count w) = subst (λ (u : List Float). After (memoryAt p w .t) u) eX (subst (λ (u : List Float). After u X) et e) in
+      let f : After (memoryAt p w .t) (locationsAt p count w) = subst (λ (u : List Float). After (memoryAt p w .t) u) eX
+      (subst (λ (u : List Float). After u X) et e) in
       (f, within f (subst (λ (u : List Float). (from < next) × (next ≤ length u)) eX n))
 
 -- ---- one turn
-pub turn-is : (p : Plan) (count from next a z number : ℕ) (x : Memory) (st st′ : State) → unless number st′ ≡ refitOf (taskIn p x) (range a z) st
-    → regionsOf (x .t) (p .count) (drop from (take count (x .locations))) ≡ range a z ∷ regionsOf (x .t) (p .count) (drop next (take count (x .locations)))
+pub turn-is : (p : Plan) (count from next a z number : ℕ) (x : Memory) (st st′ : State)
+    → unless number st′ ≡ refitOf (taskIn p x) (range a z) st
+    → regionsOf (x .t) (p .count) (drop from (take count (x .locations)))
+    ≡ range a z ∷ regionsOf (x .t) (p .count) (drop next (take count (x .locations)))
     → refitsFrom p count from x st ≡ andThen (unless number st′) (refitsFrom p count next x)
 unfolding refitAll
 turn-is p count from next a z number x st st′ e s =
     ap (λ (l : List Range). refitAll (taskIn p x) l st) s ∙ ap (λ (v : Answer State). andThen v (refitsFrom p count next x)) (sym e)
 
 -- the same arrays, the same turns
-same-turns : (p : Plan) (count from : ℕ) (x₀ x : Memory) (st : State) → Same x₀ x → refitsFrom p count from x st ≡ refitsFrom p count from x₀ st
+same-turns : (p : Plan) (count from : ℕ) (x₀ x : Memory) (st : State) → Same x₀ x
+    → refitsFrom p count from x st ≡ refitsFrom p count from x₀ st
 same-turns p count from x₀ x st h =
     ap (λ (s : List Float). G s (x .y) (x .t) (x .locations)) (h .same-s)
     ∙ ap (λ (y : List Float). G (x₀ .s) y (x .t) (x .locations)) (h .same-y)
@@ -73,8 +77,10 @@ pub same-self : (x : Memory) → Same x x
 same-self x = record { same-s = refl; same-y = refl; same-t = refl; same-locations = refl }
 
 -- ---- the turns left, from the arrays x, which were x₀ before the first
-module _ (p : Plan) (count from : ℕ) (x₀ x : Memory) (st : State) (whole : Answer State) (h : Same x₀ x) (inv : refitsFrom p count from x₀ st ≡ whole) where
-  pub turn-next : (next number : ℕ) (st′ : State) → number ≡ 0 → refitsFrom p count from x st ≡ andThen (unless number st′) (refitsFrom p count next x)
+module _ (p : Plan) (count from : ℕ) (x₀ x : Memory) (st : State) (whole : Answer State) (h : Same x₀ x)
+    (inv : refitsFrom p count from x₀ st ≡ whole) where
+  pub turn-next : (next number : ℕ) (st′ : State) → number ≡ 0
+      → refitsFrom p count from x st ≡ andThen (unless number st′) (refitsFrom p count next x)
       → refitsFrom p count next x₀ st′ ≡ whole
   unfolding unless andThen
   turn-next next number st′ e t =
@@ -83,7 +89,8 @@ module _ (p : Plan) (count from : ℕ) (x₀ x : Memory) (st : State) (whole : A
       ∙ same-turns p count from x₀ x st h
       ∙ inv
 
-  pub turn-refused : (next number : ℕ) (st′ : State) → 0 < number → refitsFrom p count from x st ≡ andThen (unless number st′) (refitsFrom p count next x)
+  pub turn-refused : (next number : ℕ) (st′ : State) → 0 < number
+      → refitsFrom p count from x st ≡ andThen (unless number st′) (refitsFrom p count next x)
       → unless number st′ ≡ whole
   unfolding unless andThen
   turn-refused next number st′ l t =

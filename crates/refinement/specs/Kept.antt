@@ -20,7 +20,8 @@ pub record Beside (x y : Memory) : Type 0 where
   pub same-witness : y .witness ≡ x .witness
   pub same-locations : y .locations ≡ x .locations
 
--- A fit of the window [a, z): the stored polynomial is that of the stored knots and of controls that differ from the stored ones in [a, z) alone.
+-- A fit of the window [a, z): the stored polynomial is that of the stored knots and of controls that differ from the stored ones in [a, z)
+-- alone.
 pub record Stale (p : Plan) (a z : ℕ) (x : Memory) : Type 0 where
   pub old : List Float
   pub breaks-were : x .breaks ≡ polynomialIn (p .axes) (spline (x .t) old (p .count)) .breaks

@@ -32,6 +32,7 @@ outcomeOf p (Exhausted x) w = exhausted x
 -- what stands where it settled: the task, and knots that rise
 abbrev pub Stands : Plan → Refined → List Float → List Float → Type 0
 Stands p (Done k) w w′ =
-    (taskAt (sized p (k .count)) w′ ≡ taskAt p w) × Rising (memoryAt (sized p (k .count)) w′ .t) (k .count) × Roomy (sized p (k .count)) (length w′)
+    (taskAt (sized p (k .count)) w′ ≡ taskAt p w) × Rising (memoryAt (sized p (k .count)) w′ .t) (k .count)
+    × Roomy (sized p (k .count)) (length w′)
 Stands p (Refused n) w w′ = Unit {0}
 Stands p (Exhausted x) w w′ = Unit {0}

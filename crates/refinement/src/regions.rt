@@ -25,7 +25,8 @@ struct Turn {
 fn region_at(work: &[f64], p: Plan, count: usize, from: usize) -> Region
     requires { ⌜ Roomy p (length (now work)) × (from < count) × (count ≤ 3 * p .room) ⌝ }
     ensures { λ r. ⌜ regionsOf (memoryAt p (now (work .entry)) .t) (p .count) (drop from (locationsAt p count (now (work .entry))))
-        ≡ range (r .a) (r .z) ∷ regionsOf (memoryAt p (now (work .entry)) .t) (p .count) (drop (r .next) (locationsAt p count (now (work .entry)))) ⌝ }
+        ≡ range (r .a) (r .z) ∷ regionsOf (memoryAt p (now (work .entry)) .t) (p .count)
+        (drop (r .next) (locationsAt p count (now (work .entry)))) ⌝ }
     ensures { λ r. ⌜ (r .a ≤ r .z) × (r .z ≤ p .count) × (from < r .next) × (r .next ≤ count) ⌝ }
 {
     let t = crate::plan::knots(work, p);

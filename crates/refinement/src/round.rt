@@ -34,7 +34,8 @@ pub fn round_from(work: &mut [f64], p: Plan, count: usize, report: Report) -> Ro
         × Rising (memoryAt p (now work) .t) (p .count) × All Number (locationsAt p count (now work)) ⌝ }
     requires { ⌜ (report .refinements ≤ 1000000) × Spare count report ⌝ }
     ensures { λ r. ⌜ unless (r .number) (stateAt (sized p (r .count)) (countsOf (r .report)) (now (work .exit)))
-        ≡ roundWith (taskAt p (now (work .entry))) (locationsAt p count (now (work .entry))) (stateAt p (countsOf report) (now (work .entry))) ⌝ }
+        ≡ roundWith (taskAt p (now (work .entry))) (locationsAt p count (now (work .entry)))
+        (stateAt p (countsOf report) (now (work .entry))) ⌝ }
     ensures { λ r. ⌜ (r .number ≡ 0 → Standing p (r .count) (now (work .entry)) (now (work .exit)) × (r .count ≡ p .count + count)) ⌝ }
     ensures { λ r. ⌜ (r .report .refinements ≤ report .refinements + 1) × More count report (r .report) ⌝ }
 {

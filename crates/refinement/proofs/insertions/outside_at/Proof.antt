@@ -19,14 +19,16 @@ returns c =
     let s = c .before .before .before .before .before in
     let k = c .before .before .before .knots in
     let v = c .before .before .span in
-    outside-below (s .args .p) (s .args .work .now) (s .pre) (k .result .now) (k .ensures) (s .args .x) (v .result) (v .ensures) (c .if1 .taken)
+    outside-below (s .args .p) (s .args .work .now) (s .pre) (k .result .now) (k .ensures) (s .args .x) (v .result) (v .ensures)
+    (c .if1 .taken)
 
 returns-2 : tie.Need-returns-2
 returns-2 c =
     let s = c .before .before .before .before .before .before in
     let k = c .before .before .before .before .knots in
     let v = c .before .before .before .span in
-    outside-above (s .args .p) (s .args .work .now) (s .pre) (k .result .now) (k .ensures) (s .args .x) (v .result) (v .ensures) (c .before .if1 .left)
+    outside-above (s .args .p) (s .args .work .now) (s .pre) (k .result .now) (k .ensures) (s .args .x) (v .result) (v .ensures)
+    (c .before .if1 .left)
 
 pub outside-at-spec : {M : Type 1} → statement M
 outside-at-spec =

@@ -17,7 +17,8 @@ returns-2 : tie.Need-returns-2
 returns-2 c =
     let s = c .before .before .before .before in
     let a = s .args in
-    location-none (a .p) (a .work .now) (s .pre .0) (a .i) (a .count) (s .pre .1) (s .pre .2) (sym (c .if1 .left) ∙ c .before .is-selected .ensures)
+    location-none (a .p) (a .work .now) (s .pre .0) (a .i) (a .count) (s .pre .1) (s .pre .2)
+    (sym (c .if1 .left) ∙ c .before .is-selected .ensures)
 
 pub add-location-spec : {M : Type 1} → statement M
 add-location-spec =

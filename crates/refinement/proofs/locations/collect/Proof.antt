@@ -38,7 +38,8 @@ loop-again c =
     let a = c .before .before .before .before .before .before .before .before .args in
     let l = c .before .before .before .before .before .loop in
     let v = c .before .before .add-location in
-    let k = collect-next (a .p) (l .i) (l .count) (v .result) (memoryAt (a .p) (a .work .now)) (memoryAt (a .p) (l .work)) (memoryAt (a .p) (v .last .0)) (l .inv .4) (l .inv .5) (v .ensures .0) (v .ensures .1 .0) in
+    let k = collect-next (a .p) (l .i) (l .count) (v .result) (memoryAt (a .p) (a .work .now)) (memoryAt (a .p) (l .work))
+    (memoryAt (a .p) (v .last .0)) (l .inv .4) (l .inv .5) (v .ensures .0) (v .ensures .1 .0) in
     (omega arith, l .inv .1, omega (arith, v .ensures .1 .1), omega arith, k .0, k .1)
 
 same-length : tie.Need-same-length Inv-loop μ-loop
@@ -47,8 +48,14 @@ same-length c = c .before .loop .inv .3
 returns : tie.Need-returns Inv-loop μ-loop
 returns c =
     let a = c .before .before .before .before .args in
-    let l = c .before .loop in
-    (l .inv .4, (collected (a .p) (a .p .samples - 1) (l .i) (locationsAt (a .p) (l .count) (l .work)) (memoryAt (a .p) (a .work .now)) (omega arith) (l .inv .1) (l .inv .5), omega arith))
+    let l = c .before .loop in (
+      l .inv .4,
+      (
+        collected (a .p) (a .p .samples - 1) (l .i) (locationsAt (a .p) (l .count) (l .work)) (memoryAt (a .p) (a .work .now))
+            (omega arith) (l .inv .1) (l .inv .5),
+        omega arith,
+      ),
+    )
 
 pub collect-spec : {M : Type 1} → statement M
 collect-spec =

@@ -20,7 +20,8 @@ abbrev μ-loop : tie.MeasureT-loop
 μ-loop work i d bounds a₀ a = d - a
 
 -- the interval's bounds are there
-row : (c : tie.After-bounds Inv-loop μ-loop) → let s = c .before .before .args in s .i * s .p .axes + s .p .axes ≤ length (c .bounds .result .now)
+row : (c : tie.After-bounds Inv-loop μ-loop)
+    → let s = c .before .before .args in s .i * s .p .axes + s .p .axes ≤ length (c .bounds .result .now)
 row c =
     let s = c .before .before in
     bounds-row (s .args .p) (s .args .work .now) (s .pre .0) (c .bounds .result .now) (s .args .i) (c .bounds .ensures) (s .pre .1)

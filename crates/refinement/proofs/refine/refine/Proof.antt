@@ -1,4 +1,5 @@
--- `refine::refine` meets its contract. The invariant: the rounds left, from the state as it is, give what all give; the task is as at entry, and the knots
+-- `refine::refine` meets its contract. The invariant: the rounds left, from the state as it is, give what all give; the task is as at
+-- entry, and the knots
 -- rise.
 use mathlib.Core.Path.{_≡_, refl, ap, _∙_}
 use Prim.Native.Nat.{_+_, _*_, _≤_, _<_}
@@ -22,7 +23,8 @@ Inv-loop work₀ p segments left m₀ so-far₀ rest₀ work m so-far rest =
     × Roomy (sized p m) (length work)
     × Rising (memoryAt (sized p m) work .t) m
     × (taskAt (sized p m) work ≡ taskAt p work₀)
-    × (refineOf segments rest (taskAt p work₀) (stateAt (sized p m) (countsOf so-far) work) ≡ refineOf segments left (taskAt p work₀) (stateAt p (countsOf so-far₀) work₀))
+    × (refineOf segments rest (taskAt p work₀) (stateAt (sized p m) (countsOf so-far) work)
+    ≡ refineOf segments left (taskAt p work₀) (stateAt p (countsOf so-far₀) work₀))
     × (so-far .refinements + rest ≤ 1000000)
     × (so-far .rows + 85968065396736 * rest ≤ 4611686018427387904)
     × (so-far .intervals + 400640256 * rest ≤ 4611686018427387904)
@@ -46,7 +48,8 @@ returns c =
     let a = c .before .before .before .before .before .args in
     let l = c .before .before .before .loop in
     let w = c .before .worst in (
-      refine-done (a .segments) (taskAt (a .p) (a .work .now)) (stateAt (sized (a .p) (l .m)) (countsOf (l .so-far)) (l .work)) (w .result) (w .ensures) (l .rest) _ (l .inv .4) (c .if1 .taken),
+      refine-done (a .segments) (taskAt (a .p) (a .work .now)) (stateAt (sized (a .p) (l .m)) (countsOf (l .so-far)) (l .work)) (w .result)
+          (w .ensures) (l .rest) _ (l .inv .4) (c .if1 .taken),
       (l .inv .3, l .inv .2, l .inv .1),
     )
 
@@ -60,7 +63,8 @@ returns-2 c =
     let l = c .before .before .before .before .loop in
     let w = c .before .before .worst in
     let z : l .rest ≡ 0 = omega arith in (
-      refine-used-up (a .segments) (taskAt (a .p) (a .work .now)) (stateAt (sized (a .p) (l .m)) (countsOf (l .so-far)) (l .work)) (w .result) (w .ensures) (l .rest) _ (l .inv .4)
+      refine-used-up (a .segments) (taskAt (a .p) (a .work .now)) (stateAt (sized (a .p) (l .m)) (countsOf (l .so-far)) (l .work))
+          (w .result) (w .ensures) (l .rest) _ (l .inv .4)
           (c .before .if1 .left) z,
       tt,
     )
@@ -84,7 +88,8 @@ returns-3 c =
     let v = c .before .before .before .before .try-round in
     let st = stateAt (sized (a .p) (l .m)) (countsOf (l .so-far)) (l .work) in
     let some : 0 < l .rest = omega (arith, c .before .before .before .before .before .before .if2 .left) in (
-      refine-refused (a .segments) (taskAt (a .p) (a .work .now)) st (w .result) (w .ensures) (l .rest) _ (l .inv .4) (c .before .before .before .before .before .before .before .if1 .left)
+      refine-refused (a .segments) (taskAt (a .p) (a .work .now)) st (w .result) (w .ensures) (l .rest) _ (l .inv .4)
+          (c .before .before .before .before .before .before .before .if1 .left)
           (v .result .number) (stateAt (sized (a .p) (v .result .count)) (countsOf (v .result .report)) (v .last .0)) some
           (v .ensures .0 ∙ ap (λ (t : Task). tried (a .segments) t st) (l .inv .3)) (c .if3 .taken),
       tt,
@@ -105,10 +110,12 @@ loop-again c =
     let f = v .ensures .1 .1 in
     let same : length (v .last .0) ≡ length (a .work .now) = omega arith in (
       same,
-      rw same (roomy-few (a .p) (length (a .work .now)) (v .result .count) (a .segments) (s .pre .0 .0) (k .0 .rising .six) (k .1) (s .pre .0 .1)),
+      rw same (roomy-few (a .p) (length (a .work .now)) (v .result .count) (a .segments) (s .pre .0 .0) (k .0 .rising .six) (k .1)
+          (s .pre .0 .1)),
       k .0 .rising,
       k .0 .same-task ∙ l .inv .3,
-      refine-next (a .segments) (taskAt (a .p) (a .work .now)) st (w .result) (w .ensures) (l .rest) _ (l .inv .4) (c .before .before .before .before .before .before .before .if1 .left)
+      refine-next (a .segments) (taskAt (a .p) (a .work .now)) st (w .result) (w .ensures) (l .rest) _ (l .inv .4)
+          (c .before .before .before .before .before .before .before .if1 .left)
           (v .result .number) (stateAt (sized (a .p) (v .result .count)) (countsOf (v .result .report)) (v .last .0)) some
           (v .ensures .0 ∙ ap (λ (t : Task). tried (a .segments) t st) (l .inv .3)) z,
       omega (arith, f .0, l .inv .5, some),

@@ -24,7 +24,8 @@ returns c =
     let a = c .before .before .before .before .before .before .args in
     let k = c .before .before .before .locate in
     let r = countsOf (a .report) in (
-      try-refused (a .p) (a .work .now) (k .last .0) (k .result) (k .ensures) r (a .segments) (stateAt (a .p) r (k .last .0)) (c .if1 .taken),
+      try-refused (a .p) (a .work .now) (k .last .0) (k .result) (k .ensures) r (a .segments) (stateAt (a .p) r (k .last .0))
+          (c .if1 .taken),
       (λ h. absurd (omega (arith, h)), (omega arith, more-none 20016 (a .report))),
     )
 
@@ -55,8 +56,10 @@ returns-2 c =
     let more = v .ensures .1 .1 .1 in (
       try-goes (a .p) (a .work .now) (k .last .0) (k .result) (k .ensures) (countsOf (a .report)) (a .segments) _ l (v .ensures .0),
       (
-        λ h. let g = v .ensures .1 .0 h in
-            (try-stands (a .p) (a .work .now) (k .last .0) (k .result) (k .ensures) (v .result .count) (v .last .0) (g .0), omega (arith, g .1, l, s .pre .0 .0 .six)),
+        λ h. let g = v .ensures .1 .0 h in (
+          try-stands (a .p) (a .work .now) (k .last .0) (k .result) (k .ensures) (v .result .count) (v .last .0) (g .0),
+          omega (arith, g .1, l, s .pre .0 .0 .six),
+        ),
         (v .ensures .1 .1 .0, record { rows = omega (arith, more .rows, n); intervals = omega (arith, more .intervals, n) }),
       ),
     )
@@ -69,4 +72,5 @@ add-if1 c =
 pub try-round-spec : {M : Type 1} → statement M
 try-round-spec =
     tie.close
-    (tie.spec (λ c κs. search needs) (λ c. search needs) add-if1 (λ c. search needs) returns round-from-requires (λ c. search needs) returns-2)
+    (tie.spec (λ c κs. search needs) (λ c. search needs) add-if1 (λ c. search needs) returns round-from-requires (λ c. search needs)
+    returns-2)

@@ -26,7 +26,8 @@ returns c =
     let a = b .args in
     let f = c .before .before .fit in (
       fit-answer (a .p) (a .work .now) (b .pre .0) (a .a) (a .z) (b .pre .1) (b .pre .2) (a .strength) _ (f .ensures .0),
-      fit-memory (a .p) (a .work .now) (b .pre .0) (a .a) (a .z) (b .pre .1) (b .pre .2) (a .strength) (f .last .0) (omega (arith, fits b)) (f .ensures .1 .0),
+      fit-memory (a .p) (a .work .now) (b .pre .0) (a .a) (a .z) (b .pre .1) (b .pre .2) (a .strength) (f .last .0) (omega (arith, fits b))
+          (f .ensures .1 .0),
     )
 
 pub fit-in-spec : {M : Type 1} → statement M

@@ -11,17 +11,25 @@ use Rattle.refinement.proofs.refit.follow.Tie as tie
 
 add-intervals : tie.Need-add-t19
 add-intervals c =
-    let b = c .before .before .before .before .before .before .before .before .before .before .before .before .before .before .before .before .before in
-    omega (arith, c .before .before .before .before .before .before .before .audit-in .ensures .1 .1, b .pre .0 .0 .waypoints-fit, b .pre .0 .0 .small, b .pre .1 .2 .1)
+    let audited = c .before .before .before .before .before .before .before in
+    let b = audited .before .before .before .before .before .before .before .before .before .before in
+    omega (
+      arith,
+      audited .audit-in .ensures .1 .1,
+      b .pre .0 .0 .waypoints-fit,
+      b .pre .0 .0 .small,
+      b .pre .1 .2 .1,
+    )
 
 returns : tie.Need-returns
 returns c =
     let n = c .before .before .before .before .number-of in
-    let v = c .before .before .before .before .before .before .before .audit-in in
-    let s = c .before .before .before .before .before .before .before .before .before .smaller in
-    let d = c .before .before .before .before .before .before .before .before .before .before .before .down in
-    let f = c .before .before .before .before .before .before .before .before .before .before .before .before .before .before .refresh in
-    let b = c .before .before .before .before .before .before .before .before .before .before .before .before .before .before .before .before .before in
+    let audited = c .before .before .before .before .before .before .before in
+    let v = audited .audit-in in
+    let s = audited .before .before .smaller in
+    let d = audited .before .before .before .before .down in
+    let f = audited .before .before .before .before .before .before .before .refresh in
+    let b = audited .before .before .before .before .before .before .before .before .before .before in
     let a = b .args in
     let x = memoryAt (a .p) (a .work .now) in
     let x₁ = memoryAt (a .p) (f .last .0) in
@@ -29,12 +37,19 @@ returns c =
     let P = polynomialIn (a .p .axes) (splineAt (a .p) (a .work .now)) .coefficients in
     let A = auditOver (a .p) (d .result) (s .result) x₁ in
     let e =
-    audit-is (a .p) x x₁ x₂ P (d .result) (s .result) (n .result) (v .result .checked) (v .result .outcome) (addRows (a .fitted .rows) (countsOf (a .report)))
+    audit-is (a .p) x x₁ x₂ P (d .result) (s .result) (n .result) (v .result .checked) (v .result .outcome)
+    (addRows (a .fitted .rows) (countsOf (a .report)))
     (f .ensures .0) (f .ensures .1) (n .ensures) (v .ensures .0 .0) (v .ensures .0 .1) (v .ensures .1 .0) in (
       rw (d .ensures, s .ensures) at e,
       (
         after-audit (a .p) x x₁ x₂ P (A .bounds) (A .witness) (f .ensures .0) (f .ensures .1) (v .ensures .1 .0),
-        (refl, record { rows = omega arith; intervals = omega (arith, v .ensures .1 .1, b .pre .0 .0 .waypoints-fit, b .pre .0 .0 .small) }),
+        (
+          refl,
+          record {
+            rows = omega arith;
+            intervals = omega (arith, v .ensures .1 .1, b .pre .0 .0 .waypoints-fit, b .pre .0 .0 .small);
+          },
+        ),
       ),
     )
 

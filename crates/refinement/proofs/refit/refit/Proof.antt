@@ -33,7 +33,8 @@ follow-requires c κs =
         b .pre .0 .1,
         b .pre .0 .2,
         fitted-wide (a .p) x (a .a) (a .z) (a .strength) (countsOf (a .report)) (b .pre .1 .0) x₁ (f .ensures .1) (b .pre .0 .3),
-        fitted-stale (a .p) x (a .a) (a .z) (a .strength) (countsOf (a .report)) (b .pre .1 .0) x₁ (f .ensures .1) (b .pre .0 .1) (b .pre .0 .4),
+        fitted-stale (a .p) x (a .a) (a .z) (a .strength) (countsOf (a .report)) (b .pre .1 .0) x₁ (f .ensures .1) (b .pre .0 .1)
+            (b .pre .0 .4),
       ),
       (subst (λ (v : Answer). v .first ≤ a .p .samples) e (n .0), subst (λ (v : Answer). v .rows ≤ 4294967296) e (n .1), b .pre .1 .1),
     )
@@ -48,22 +49,30 @@ returns c =
     let x = memoryAt (a .p) (a .work .now) in
     let x₁ = memoryAt (a .p) (f .last .0) in
     let x₂ = memoryAt (a .p) (v .last .0) in (
-      refit-follows (a .p) x (a .a) (a .z) (a .strength) (countsOf (a .report)) (b .pre .1 .0) x₁ (f .ensures .1) x₂ (k .0 .0 .first) (k .0 .0 .last) (k .0 .0 .rows) (v .result .number)
+      refit-follows (a .p) x (a .a) (a .z) (a .strength) (countsOf (a .report)) (b .pre .1 .0) x₁ (f .ensures .1) x₂ (k .0 .0 .first)
+          (k .0 .0 .last) (k .0 .0 .rows) (v .result .number)
           (countsOf (v .result .report)) (sym (ap answerOf (k .1)) ∙ f .ensures .0) (v .ensures .0),
       (
-        λ _. (v .ensures .1 .0 .0, refit-same (a .p) x (a .a) (a .z) (a .strength) (countsOf (a .report)) (b .pre .1 .0) x₁ (f .ensures .1) x₂ (v .ensures .1 .0 .1)),
+        λ _. (
+          v .ensures .1 .0 .0,
+          refit-same (a .p) x (a .a) (a .z) (a .strength) (countsOf (a .report)) (b .pre .1 .0) x₁ (f .ensures .1)
+              x₂ (v .ensures .1 .0 .1),
+        ),
         v .ensures .1 .1,
       ),
     )
 
 -- a fit that was refused with a number
-refuses : (c : tie.After-fit-in) (number : ℕ) → eqb number 0 ≡ false → answer number 0 0 0 ≡ answerOf (c .fit-in .result) → let a = c .before .before .before .args in
-    unless number (stateAt (a .p) (countsOf (a .report)) (c .fit-in .last .0)) ≡ refitOf (taskAt (a .p) (a .work .now)) (range (a .a) (a .z)) (stateAt (a .p) (countsOf (a .report)) (a .work .now))
+refuses : (c : tie.After-fit-in) (number : ℕ) → eqb number 0 ≡ false → answer number 0 0 0 ≡ answerOf (c .fit-in .result)
+    → let a = c .before .before .before .args in
+    unless number (stateAt (a .p) (countsOf (a .report)) (c .fit-in .last .0))
+    ≡ refitOf (taskAt (a .p) (a .work .now)) (range (a .a) (a .z)) (stateAt (a .p) (countsOf (a .report)) (a .work .now))
 refuses c number b e =
     let s = c .before .before .before in
     let a = s .args in
     let r = countsOf (a .report) in
-    refit-refuses (a .p) (memoryAt (a .p) (a .work .now)) (a .a) (a .z) (a .strength) r (s .pre .1 .0) (stateAt (a .p) r (c .fit-in .last .0)) number b (e ∙ c .fit-in .ensures .0)
+    refit-refuses (a .p) (memoryAt (a .p) (a .work .now)) (a .a) (a .z) (a .strength) r (s .pre .1 .0)
+    (stateAt (a .p) r (c .fit-in .last .0)) number b (e ∙ c .fit-in .ensures .0)
 
 returns-2 : tie.Need-returns-2
 returns-2 c = (

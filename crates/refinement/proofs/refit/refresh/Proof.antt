@@ -12,7 +12,8 @@ put-spans-requires c κs =
     let s = c .before .before .before .before .before .before .spline-of in
     let f = c .before .before .before .before .larger in
     let t = c .before .before .before .smaller in
-    refresh-asks (a .p) (s .result) (s .ensures) (a .a) (a .z) (f .result) (t .result) (f .ensures) (t .ensures) (length (a .work .now)) (b .pre .0) (b .pre .1) (b .pre .2)
+    refresh-asks (a .p) (s .result) (s .ensures) (a .a) (a .z) (f .result) (t .result) (f .ensures) (t .ensures) (length (a .work .now))
+    (b .pre .0) (b .pre .1) (b .pre .2)
 
 returns : tie.Need-returns
 returns c =

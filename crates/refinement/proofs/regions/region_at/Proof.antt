@@ -19,7 +19,8 @@ returns c =
     let s = c .before .before .before .before in
     let a = s .args in
     let v = c .next-region in
-    region-is (a .p) (a .work .now) (s .pre .0) (a .count) (a .from) (v .result .a) (v .result .z) (v .result .next) (s .pre .2) _ _ (c .before .before .knots .ensures) (c .before .locations .ensures) (v .ensures .0) (v .ensures .1)
+    region-is (a .p) (a .work .now) (s .pre .0) (a .count) (a .from) (v .result .a) (v .result .z) (v .result .next) (s .pre .2) _ _
+    (c .before .before .knots .ensures) (c .before .locations .ensures) (v .ensures .0) (v .ensures .1)
 
 pub region-at-spec : {M : Type 1} → statement M
 region-at-spec = tie.close (tie.spec (λ c κs. search needs) (λ c κs. search needs) next-region-requires returns)
