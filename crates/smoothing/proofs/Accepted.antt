@@ -79,7 +79,14 @@ checked-accepted l m x h =
     let a = not-refused′ (eqb (refusalOf l) 0) (refusalOf l) _ x h in
     let c = then-done (selectedOf m (laneTask l) (laneUnits l)) rest x (a .1) in
     let o = then-done (otherOf l) (λ p. done (resultOf l (c .0) p)) x (c .2) in
-    record { passed = eqb-true (refusalOf l) 0 (a .0); chosen = c .0; others = o .0; chosen-is = c .1; others-is = o .1; result-is = done-same (o .2) }
+    record {
+      passed = eqb-true (refusalOf l) 0 (a .0);
+      chosen = c .0;
+      others = o .0;
+      chosen-is = c .1;
+      others-is = o .1;
+      result-is = done-same (o .2);
+    }
 
 -- 18 and 20 apart
 pub build-checked : (l : Lane) (m : Limits) (x : Result) → buildOf (record { lane = l; limits = m }) ≡ done x → checkedOf l m ≡ done x

@@ -40,7 +40,8 @@ rounds-give g q I fourteen fifteen round zero st h =
 rounds-give g q I fourteen fifteen round (suc left) st h =
     gives-cond (settled st) (done st) _ (λ e. gives (suc left, h))
     (λ e. gives-cond (ltb g (spansAfter q st)) (refused 15) _ (λ t. refuses fifteen)
-    (λ t. gives-then (roundOf q st) (refineOf g left q) (round left st t h) (λ after k. rounds-give g q I fourteen fifteen round left after k)))
+    (λ t. gives-then (roundOf q st) (refineOf g left q) (round left st t h)
+    (λ after k. rounds-give g q I fourteen fifteen round left after k)))
 
 -- What every step keeps, under max_segments g, with `left` rounds left. A fit is of a window without the first and the last control; an
 -- audit's intervals are intervals of waypoints; knots are inserted once 15 let them through.
@@ -67,7 +68,17 @@ pub record Refuses (q : Task) (I : ℕ → State → Type 0) (P : ℕ → Type 0
 -- where nothing is asked of a refusal
 any-refusal : (q : Task) (I : ℕ → State → Type 0) → Refuses q I (λ n. Unit {0}) Unit
 any-refusal q I =
-    record { eight = tt; nine = tt; ten = tt; eleven = tt; twelve = λ left from to st h e. tt; thirteen = tt; fourteen = tt; fifteen = tt; sixteen = tt }
+    record {
+      eight = tt;
+      nine = tt;
+      ten = tt;
+      eleven = tt;
+      twelve = λ left from to st h e. tt;
+      thirteen = tt;
+      fourteen = tt;
+      fifteen = tt;
+      sixteen = tt;
+    }
 
 module _ {P : ℕ → Type 0} {E : Type 0} (g : ℕ) (q : Task) (I : ℕ → State → Type 0) (keeps : Keeps g q I) (rest : Refuses q I P E) where
   -- what is kept, and the controls are m
@@ -80,9 +91,13 @@ module _ {P : ℕ → Type 0} {E : Type 0} (g : ℕ) (q : Task) (I : ℕ → Sta
   fit-gives left m a z strength st l r h =
       let f = fitIn q a z strength (st .b) in
       gives-more (fitted f st)
-      (λ st′ e k. (keeps .fit left a z strength st st′ l (omega (arith, h .1)) (h .0) e, ap (λ (s : State). s .b .m) (sym (unless-done (f .answered .number) _ st′ e .1)) ∙ h .1))
+      (λ st′ e k. (
+        keeps .fit left a z strength st st′ l (omega (arith, h .1)) (h .0) e,
+        ap (λ (s : State). s .b .m) (sym (unless-done (f .answered .number) _ st′ e .1)) ∙ h .1,
+      ))
       (gives-unless {I = λ s. Unit {0}} (f .answered .number) _ (λ e. tt)
-      (fit-number (arrays (st .b .t) (st .b .c) (st .b .m) (q .k) (q .s) (q .y) (q .n)) a z strength (λ n. eqb n 0 ≡ false → P n) (λ e. absurd (true≢false e))
+      (fit-number (arrays (st .b .t) (st .b .c) (st .b .m) (q .k) (q .s) (q .y) (q .n)) a z strength (λ n. eqb n 0 ≡ false → P n)
+      (λ e. absurd (true≢false e))
       (λ e. rest .nine) (λ e. rest .ten) (λ e. rest .eleven)))
 
   audit-gives : (left m from to : ℕ) (st : State) → to ≤ q .n - 1 → Same left m st → Gives (Same left m) P E (auditIn q from to st)
@@ -90,8 +105,12 @@ module _ {P : ℕ → Type 0} {E : Type 0} (g : ℕ) (q : Task) (I : ℕ → Sta
   audit-gives left m from to st l h =
       let a = auditAt q from to st in
       gives-more (auditIn q from to st)
-      (λ st′ e k. (keeps .audit left from to st st′ l (h .0) e, ap (λ (s : State). s .b .m) (sym (unless-done (audits.numberOf (a .outcome)) _ st′ e .1)) ∙ h .1))
-      (gives-unless {I = λ s. Unit {0}} (audits.numberOf (a .outcome)) _ (λ e. tt) (number (a .outcome) (rest .twelve left from to st (h .0))))
+      (λ st′ e k. (
+        keeps .audit left from to st st′ l (h .0) e,
+        ap (λ (s : State). s .b .m) (sym (unless-done (audits.numberOf (a .outcome)) _ st′ e .1)) ∙ h .1,
+      ))
+      (gives-unless {I = λ s. Unit {0}} (audits.numberOf (a .outcome)) _ (λ e. tt)
+      (number (a .outcome) (rest .twelve left from to st (h .0))))
     where
       number : (o : Outcome) → (audits.numberOf o ≡ 12 → P 12) → eqb (audits.numberOf o) 0 ≡ false → P (audits.numberOf o)
       number Done t e = absurd (true≢false e)
@@ -125,7 +144,8 @@ module _ {P : ℕ → Type 0} {E : Type 0} (g : ℕ) (q : Task) (I : ℕ → Sta
       let x = locationsOf q st in
       gives-then (insertAll (q .k) x (st .b)) (refitted q x st)
       (gives-more (insertAll (q .k) x (st .b)) (λ b e k. keeps .insert left st b t h e) (insert-gives x (st .b)))
-      (λ b k. gives-more (refitted q x st b) (λ st′ e s. s .0) (refit-all-gives left (b .m) (regionsOf (b .t) (b .m) x) _ (regions-inner (b .t) (b .m) x) (k, refl)))
+      (λ b k. gives-more (refitted q x st b) (λ st′ e s. s .0)
+      (refit-all-gives left (b .m) (regionsOf (b .t) (b .m) x) _ (regions-inner (b .t) (b .m) x) (k, refl)))
 
   -- the rounds
   pub refine-gives : (left : ℕ) (st : State) → I left st → Gives (λ st. (left : ℕ) × I left st) P E (refineOf g left q st)
@@ -140,7 +160,8 @@ module _ {P : ℕ → Type 0} {E : Type 0} (g : ℕ) (q : Task) (I : ℕ → Sta
       gives-cond (manyKnots g q) (refused 8) _ (λ e. refuses (rest .eight))
       (λ e. gives-more (firstState q) (λ st′ d k. k .0)
       (gives-then (firstFit q st) (auditIn q 0 (q .n - 1))
-      (gives-cond (curved q) _ (done st) (λ c. fit-gives left m 1 (m - 1) firstStrength st (omega arith) (omega arith) (h e, refl)) (λ c. gives (h e, refl)))
+      (gives-cond (curved q) _ (done st) (λ c. fit-gives left m 1 (m - 1) firstStrength st (omega arith) (omega arith) (h e, refl))
+      (λ c. gives (h e, refl)))
       (λ after k. audit-gives left m 0 (q .n - 1) after (omega arith) k)))
 
   -- both

@@ -93,7 +93,8 @@ middle-number b w r =
     let s = span-within (b .t) (b .m) w (r .six) in (
       div-fits binary64 _ _,
       quotient-number binary64 _
-          (rounded-not-nan binary64 _ _ (add-rounded binary64 (at (b .t) (spanIn b w)) (at (b .t) (spanIn b w + 1)) (r .number (spanIn b w) (s .0) (omega arith)) (r .number (spanIn b w + 1) (omega arith) (omega arith))))
+          (rounded-not-nan binary64 _ _ (add-rounded binary64 (at (b .t) (spanIn b w)) (at (b .t) (spanIn b w + 1))
+          (r .number (spanIn b w) (s .0) (omega arith)) (r .number (spanIn b w + 1) (omega arith) (omega arith))))
           (floats .literal 2 1) two-above,
     )
 
@@ -101,7 +102,8 @@ pub locations-numbers : (q : Task) (st : State) → Rising (st .b .t) (st .b .m)
 unfolding locationsOf rawLocations dedupOf
 locations-numbers q st r =
     thinned-all Number _ _ _
-    (sort-all Number _ (join-all Number (q .n - 1) _ (λ i. one (selected (q .k) (st .bounds) i) (middleOf (st .b) (at (st .witness) i)) (middle-number (st .b) (at (st .witness) i) r))))
+    (sort-all Number _ (join-all Number (q .n - 1) _
+    (λ i. one (selected (q .k) (st .bounds) i) (middleOf (st .b) (at (st .witness) i)) (middle-number (st .b) (at (st .witness) i) r))))
   where
     one : (b : Bool) (x : Float) → Number x → All Number (cond b (x ∷ []) [])
     one true x n = (n, tt)

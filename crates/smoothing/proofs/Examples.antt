@@ -64,7 +64,31 @@ floatsOf l = map (ofBits binary64) l
 
 -- the definitions that are computed
 unfoldable steps : Unit {0}
-unfolding isNan ofBits toBits add sub mul div le lt eq ne round ofInt neg turns each whilst backs back tries till nextUp chosen negative totalLe powerIn powerOf sqrtOf floatLines factorials chooseOf newControl previousOf expansionTurn expand putTurn putRow rowTurn degreeTurn powersOf join table pickOf halve partitionPoint addTurn addRow scaleTurn segmentOf spanTurn polynomialOf innerTurn innerLoop outerTurn valuesOf termOf valueOf differenceOf rowOf active productOf productsOf addBandOf shareOf sharesOf addRightOf addOf unfitOf anyUnfitOf rootOf rootsOf scaleCellOf scaleRowOf divideOf divideRowOf scaleBothOf scaleOf reduceOf reducedOf eliminateOf eliminatedOf pivotOf factorOf forwardTermOf forwardValueOf forwardCellOf forwardRowOf forwardOf backTermOf backValueOf backCellOf backRowOf backwardOf unscaleOf finishOf solveScaledOf solveOf thirdOf penaltyRowOf leftOut intervalOf lineTurn lineOf rowAt nodeRowOf passedOver meshSpan pieceStart pieceEnd denseOf weightOf pointOf sampleRowOf counted sampleTurn samplesOf pieceOf meshTurn meshOf sparseTurn sparseOf nodesOf penaltyTurn penaltiesOf assembledOf addTurn₂ addedTo solvedOf fitOf boundsWith auditTurn auditOf placeOf errorForm allFinite largestTurn axisTurn axesOf endedBy walkTurn intervalOf₂ addTerm piecePower errorOf addShare bernsteinOf bernsteinForm advanced placed sortOf thinned distinct gap inside apart testOf dedupOf keptOf fits scanTurn anchorsOf axisTurn₂ narrowed jumpTurn jumpOf widthOf around knotsAt rawKnots seedOf rangeOf joined regionsOf any parameterOf miscounted lengthOf normalisedOf misplaced unreliable unfit firstOf axesFormed andThen unless numberOf selectedOf otherOf resultOf smoothedOf checkedOf answerOf buildOf wideLane wideLimits miscountedPoints noAxes badAxes badTolerance overflows refusalOf physicalOf finalPolynomial errorOf₂ errorsOf excessive judged finishOf₂ equation waypointTurn derivativeOf endTurns interpolationSystem interpolateOf fieldsOf numbersOf laneLines upTo axesOf₂ tolerancesOf worstOf settled selected middleOf rawLocations locationsOf spansAfter outside insertOf insertAll strengthOf refitOf refitAll refitted roundOf refineOf gathered centred parametersOf taskOf smoothedRows laneUnits laneTask leftOver otherRows chordError curved firstKnots manyKnots openKnots grevilleOf chordControls chordOf chordState firstFit firstState startOf fitIn fitted audited auditIn
+unfolding isNan ofBits toBits add sub mul div le lt eq ne round ofInt neg turns each whilst backs back tries till nextUp
+    chosen negative totalLe powerIn powerOf sqrtOf floatLines
+    factorials chooseOf newControl previousOf expansionTurn expand putTurn putRow rowTurn degreeTurn powersOf join table pickOf halve
+    partitionPoint addTurn addRow scaleTurn segmentOf spanTurn polynomialOf innerTurn innerLoop outerTurn valuesOf
+    termOf valueOf differenceOf rowOf active productOf productsOf addBandOf shareOf sharesOf addRightOf addOf unfitOf anyUnfitOf rootOf
+    rootsOf scaleCellOf scaleRowOf divideOf divideRowOf scaleBothOf scaleOf reduceOf reducedOf eliminateOf eliminatedOf pivotOf factorOf
+    forwardTermOf forwardValueOf forwardCellOf forwardRowOf forwardOf backTermOf backValueOf backCellOf backRowOf backwardOf unscaleOf
+    finishOf solveScaledOf solveOf
+    thirdOf penaltyRowOf leftOut intervalOf lineTurn lineOf rowAt nodeRowOf passedOver meshSpan pieceStart pieceEnd denseOf weightOf
+    pointOf sampleRowOf
+    counted sampleTurn samplesOf pieceOf meshTurn meshOf sparseTurn sparseOf nodesOf penaltyTurn penaltiesOf assembledOf addTurn₂ addedTo
+    solvedOf fitOf
+    boundsWith auditTurn auditOf placeOf errorForm allFinite largestTurn axisTurn axesOf endedBy walkTurn intervalOf₂ addTerm piecePower
+    errorOf addShare bernsteinOf bernsteinForm advanced placed sortOf thinned distinct gap inside apart testOf dedupOf keptOf
+    fits scanTurn anchorsOf axisTurn₂ narrowed jumpTurn jumpOf widthOf around knotsAt rawKnots seedOf rangeOf joined regionsOf
+    any parameterOf miscounted lengthOf normalisedOf misplaced unreliable unfit firstOf axesFormed andThen unless numberOf
+    selectedOf otherOf resultOf smoothedOf checkedOf answerOf buildOf
+    wideLane wideLimits miscountedPoints noAxes badAxes badTolerance overflows refusalOf
+    physicalOf finalPolynomial errorOf₂ errorsOf excessive judged finishOf₂
+    equation waypointTurn derivativeOf endTurns interpolationSystem interpolateOf fieldsOf numbersOf laneLines
+    upTo axesOf₂ tolerancesOf
+    worstOf settled selected middleOf rawLocations locationsOf spansAfter outside insertOf insertAll strengthOf refitOf refitAll refitted
+    roundOf refineOf gathered centred parametersOf taskOf smoothedRows laneUnits laneTask leftOver otherRows
+    chordError curved firstKnots manyKnots openKnots grevilleOf chordControls chordOf chordState firstFit firstState startOf
+    fitIn fitted audited auditIn
 steps = tt
 
 pub lines-hold : map (λ (l : Line). l .given) lines ≡ map (λ (l : Line). l .told) lines

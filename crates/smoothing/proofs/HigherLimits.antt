@@ -1,5 +1,5 @@
--- Request 11, "When a higher limit helps": for one lane, the answers under two pairs of limits, the second nowhere lower. And of request 10:
--- all accepted answers agree.
+-- Request 11, "When a higher limit helps": for one lane, the answers under two pairs of limits, the second nowhere lower. And of
+-- request 10: all accepted answers agree.
 use mathlib.Core.Path.{_≡_, refl, sym, _∙_, ap}
 use mathlib.Core.Logic.{_⊎_, inl, inr}
 use mathlib.Core.Bool.{Bool, true, false, cond, true≢false, _||_}
@@ -105,7 +105,8 @@ module _ (g g′ : ℕ) (G : g ≤ g′) (q : Task) where
       let next = roundOf q st in
       raised-cond (settled st) (done st) (done st) _ _ (same refl)
       (raised-test 15 (inr refl) (ltb g x) (ltb g′ x) _ _ (test-falls g g′ x G) (test-grew g g′ x)
-      (raised-then next next (λ after. refineOf g r q after) (λ after. refineOf g′ r′ q after) (same refl) (λ after. grown (refine-raised r r′ (omega arith) after))))
+      (raised-then next next (λ after. refineOf g r q after) (λ after. refineOf g′ r′ q after) (same refl)
+      (λ after. grown (refine-raised r r′ (omega arith) after))))
     where
       grown : {A : Type 0} {x y : Answer A} → Raised (g < g′) (r < r′) x y → Raised (g < g′) (suc r < suc r′) x y
       grown (same e) = same e
@@ -120,7 +121,8 @@ module _ (m m′ : Limits) (S : m .segments ≤ m′ .segments) (R : m .refineme
   unfolding selectedOf
   selected-raised q u =
       raised-then _ _ (finishOf q u) (finishOf q u)
-      (raised-then (startOf (m .segments) q) (startOf (m′ .segments) q) (refineOf (m .segments) (m .refinements) q) (refineOf (m′ .segments) (m′ .refinements) q)
+      (raised-then (startOf (m .segments) q) (startOf (m′ .segments) q) (refineOf (m .segments) (m .refinements) q)
+      (refineOf (m′ .segments) (m′ .refinements) q)
       (start-raised (m .segments) (m′ .segments) S q (m .refinements < m′ .refinements))
       (refine-raised (m .segments) (m′ .segments) S q (m .refinements) (m′ .refinements) R))
       (λ a. same refl)
@@ -131,7 +133,8 @@ module _ (m m′ : Limits) (S : m .segments ≤ m′ .segments) (R : m .refineme
       let q = laneTask l in
       let u = laneUnits l in
       raised-cond (eqb (refusalOf l) 0) _ _ (refused (refusalOf l)) (refused (refusalOf l))
-      (raised-then (selectedOf m q u) (selectedOf m′ q u) (λ x. andThen (otherOf l) (λ p. done (resultOf l x p))) (λ x. andThen (otherOf l) (λ p. done (resultOf l x p))) (selected-raised q u) (λ a. same refl))
+      (raised-then (selectedOf m q u) (selectedOf m′ q u) (λ x. andThen (otherOf l) (λ p. done (resultOf l x p)))
+      (λ x. andThen (otherOf l) (λ p. done (resultOf l x p))) (selected-raised q u) (λ a. same refl))
       (same refl)
 
 -- ---- whole requests
@@ -148,7 +151,8 @@ lower-fit m m′ S R h =
 -- The second answer is the first, with the ratio of a 14; or max_segments grew and the first number is 8 or 15; or max_refinements grew and
 -- it is 14.
 pub higher-limits : (l : Lane) (m m′ : Limits) → m .segments ≤ m′ .segments → m .refinements ≤ m′ .refinements → wideLimits m′ ≡ false
-    → Raised (m .segments < m′ .segments) (m .refinements < m′ .refinements) (buildOf (record { lane = l; limits = m })) (buildOf (record { lane = l; limits = m′ }))
+    → Raised (m .segments < m′ .segments) (m .refinements < m′ .refinements) (buildOf (record { lane = l; limits = m }))
+    (buildOf (record { lane = l; limits = m′ }))
 unfolding buildOf answerOf
 higher-limits l m m′ S R h =
     let e = lower-fit m m′ S R h in

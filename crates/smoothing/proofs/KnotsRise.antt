@@ -116,7 +116,8 @@ insert-all-rising k (x ∷ l) b b′ a r h =
     let L = finite-le (at (b .t) (spanIn b x)) (r .number (spanIn b x) (s .0) (omega arith)) in
     let U = finite-le (at (b .t) (spanIn b x + 1)) (r .number (spanIn b x + 1) (omega arith) (omega arith)) in
     insert-all-rising k l (insertOf k x b) b′ (a .1)
-    (insert-rising (b .t) (b .m) (spanIn b x) x r (s .0) (s .1) (a .0 .0) (lt-of-not-le x (at (b .t) (spanIn b x)) X L (o .0)) (lt-of-not-le (at (b .t) (spanIn b x + 1)) x U X (o .1)))
+    (insert-rising (b .t) (b .m) (spanIn b x) x r (s .0) (s .1) (a .0 .0) (lt-of-not-le x (at (b .t) (spanIn b x)) X L (o .0))
+    (lt-of-not-le (at (b .t) (spanIn b x + 1)) x U X (o .1)))
     (n .1)
 
 -- ---- the first knots
@@ -246,7 +247,8 @@ module _ (spacing : Spacing) (list : List Float) (n : ℕ) (two : 2 ≤ n) (doub
       λ i h. window-cell 1 (n - 1) l i nan (omega arith) ∙ cells (1 + i) (omega arith) in
       let m : length (window 1 (n - 1) l) + 6 ≡ n + 4 = omega arith in
       subst (λ (k : ℕ). Rising (openKnots (window 1 (n - 1) l)) k) m
-      (open-rising (window 1 (n - 1) l) (λ i h. subst (λ (x : Float). T (fits binary64 x)) (sym (cell i h)) (normalised-fits spacing list n two doubles placed reliable (1 + i)))
+      (open-rising (window 1 (n - 1) l) (λ i h. subst (λ (x : Float). T (fits binary64 x)) (sym (cell i h))
+      (normalised-fits spacing list n two doubles placed reliable (1 + i)))
       (λ i h. subst Between (sym (cell i h)) (inner-between (1 + i) (omega arith) (omega arith)))
       (λ i h. let q : 1 + i + 1 ≡ 1 + (i + 1) = omega arith in
       rw (cell i (omega arith), cell (i + 1) h, ← q)

@@ -7,7 +7,7 @@ use native.Mathlib.Omega.{arith}
 use native.Mathlib.Decide.{decLt}
 use borrow.Author.Tests.{not-false}
 use lib.Dec.{T, ltb}
-use lib.ListN.{length, length-append, List·getD-eq-default}
+use lib.ListN.{length, getD, length-append, List·getD-eq-default}
 use lib.Ieee.{Float, nan, binary64, fits, lt, ofBits}
 use lib.Ieee.Fits.{div-fits}
 use lib.Ieee.Scale.{finite}
@@ -30,7 +30,7 @@ use Rattle.smoothing.specs.Checks.{overflows, noAxes, badAxes, badTolera
 use Rattle.smoothing.specs.Rows.{taskOf, laneTask, laneUnits, parametersOf, centred, leftOver, otherAxes}
 
 -- a chain of tests that comes to 0 has none that holds
-passed : (b : Bool) (k m : ℕ) → 0 < k → cond b k m ≡ 0 → (b ≡ false) × (m ≡ 0)
+pub passed : (b : Bool) (k m : ℕ) → 0 < k → cond b k m ≡ 0 → (b ≡ false) × (m ≡ 0)
 passed true k m h e = absurd (omega arith)
 passed false k m h e = (refl, e)
 
@@ -72,12 +72,18 @@ left-over-count axes (suc a) =
     go true e = omega arith
     go false e = omega arith
 
-pub axes-count : (l : Lane) → refusalOf l ≡ 0 → length (otherAxes l) + axisCount l ≡ l .d
+-- where 3 does not hold, each axis is below d and is listed once
+pub good-axes : (l : Lane) → badAxes l ≡ false → (i : ℕ) → i < axisCount l
+    → (getD (smoothedAxes l) i 0 < l .d) × (positionOf (smoothedAxes l) i (getD (smoothedAxes l) i 0) ≡ i)
 unfolding badAxes
-axes-count l h =
-    let good = axes-good (smoothedAxes l) (axisCount l) (l .d)
-    (not-false (axesFormed (smoothedAxes l) (axisCount l) (l .d)) (lane-passed l h .axes)) in
-    omega (arith, left-over-count (smoothedAxes l) (l .d), others-count (smoothedAxes l) (axisCount l) (l .d) good)
+good-axes l h = axes-good (smoothedAxes l) (axisCount l) (l .d) (not-false (axesFormed (smoothedAxes l) (axisCount l) (l .d)) h)
+
+pub all-axes : (l : Lane) → badAxes l ≡ false → length (otherAxes l) + axisCount l ≡ l .d
+all-axes l h =
+    omega (arith, left-over-count (smoothedAxes l) (l .d), others-count (smoothedAxes l) (axisCount l) (l .d) (good-axes l h))
+
+pub axes-count : (l : Lane) → refusalOf l ≡ 0 → length (otherAxes l) + axisCount l ≡ l .d
+axes-count l h = all-axes l (lane-passed l h .axes)
 
 -- ---- the parameters of the task
 pub parameters-length : (l : Lane) → length (laneTask l .s) ≡ l .n

@@ -172,7 +172,8 @@ answer-among short r =
     let l = r .lane in
     answer-gives (λ n. T (among 1 20 n)) Unit tt tt tt tt tt tt short l (r .limits)
     (λ e. selected-gives (λ n. T (among 1 20 n)) tt tt tt tt tt tt tt tt tt (r .limits) (laneTask l) (laneUnits l))
-    (λ e. let a = refusal-most l in let b = eqb-false (refusalOf l) 0 e in means-among 1 20 (refusalOf l) (omega (arith, b)) (omega arith) (λ e. omega arith))
+    (λ e. let a = refusal-most l in let b = eqb-false (refusalOf l) 0 e in means-among 1 20 (refusalOf l) (omega (arith, b)) (omega arith)
+    (λ e. omega arith))
 
 pub build-refused : (r : Request) (n : ℕ) → buildOf r ≡ refused n → (1 ≤ n) × (n ≤ 20) × (n ≡ 14 → ⊥)
 unfolding buildOf
@@ -202,7 +203,9 @@ module _ (q : Task) (below : (i : ℕ) → lt (floats .one) (at (q .s) i) ≡ fa
   selected-not-12 m u D =
       gives-then (andThen (startOf (m .segments) q) (refineOf (m .segments) (m .refinements) q)) (finishOf q u)
       (course-gives (m .segments) q (λ left st. Rises st) (keeps-rising (m .segments) q) rests (m .refinements) (λ t. chord-rising q D))
-      (λ st h. finish-gives (λ n. n ≡ 12 → ⊥) Unit q u st (λ e. absurd (spline-not-12 (st .b) (physicalOf u (q .k) (st .b)) (u .rows) 0 (q .n - 1) (st .bounds) (st .witness) (h .1) e)) (λ e. omega arith) (λ e. omega arith))
+      (λ st h. finish-gives (λ n. n ≡ 12 → ⊥) Unit q u st
+      (λ e. absurd (spline-not-12 (st .b) (physicalOf u (q .k) (st .b)) (u .rows) 0 (q .n - 1) (st .bounds) (st .witness) (h .1) e))
+      (λ e. omega arith) (λ e. omega arith))
     where
       rests : Refuses q (λ left st. Rises st) (λ n. n ≡ 12 → ⊥) Unit
       rests =

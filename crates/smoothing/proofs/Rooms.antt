@@ -103,7 +103,8 @@ others-fit l p two h = go (eqb (length (otherAxes l)) 0) h
         → (length (p .breaks) ≤ l .n) × (length (p .coefficients) ≡ (length (p .breaks) - 1) * (6 * length (otherAxes l)))
     go true e =
         let r : (0 ≤ l .n) × (0 ≡ (0 - 1) * (6 * length (otherAxes l))) = (omega arith, omega arith) in
-        subst (λ (z : Polynomial Float). (length (z .breaks) ≤ l .n) × (length (z .coefficients) ≡ (length (z .breaks) - 1) * (6 * length (otherAxes l)))) (done-same e) r
+        subst (λ (z : Polynomial Float). (length (z .breaks) ≤ l .n)
+        × (length (z .coefficients) ≡ (length (z .breaks) - 1) * (6 * length (otherAxes l)))) (done-same e) r
     go false e = other-room (l .n) (length (otherAxes l)) (parametersOf l) (otherRows l) p two e
 
 pub accepted-fits : (l : Lane) (m : Limits) (x : Result) → buildOf (record { lane = l; limits = m }) ≡ done x → Fits l m x

@@ -38,7 +38,8 @@ pub lane-anchors : (l : Lane) → Doubles (l .parameters) → refusalOf l ≡ 0
 lane-anchors l F h =
     let n = parameters-length l in
     let two = two-waypoints l h in
-    let first : (a : ℕ) → a + 1 < length (laneTask l .s) → narrowed (laneTask l .s) (laneTask l .y) (axisCount l) a (a + 1) (lowest (axisCount l)) (highest (axisCount l)) .ok ≡ true =
+    let first : (a : ℕ) → a + 1 < length (laneTask l .s) → narrowed (laneTask l .s) (laneTask l .y) (axisCount l) a (a + 1)
+    (lowest (axisCount l)) (highest (axisCount l)) .ok ≡ true =
     λ a b. seed-ends l a F h (omega arith) in (
       source-anchors (laneTask l .s) (laneTask l .y) (axisCount l) first,
       scan-ends (laneTask l .s) (laneTask l .y) (axisCount l) first (2 * length (laneTask l .s)) _

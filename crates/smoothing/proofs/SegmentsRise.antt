@@ -35,7 +35,8 @@ module _ (t : List Float) (m : ℕ) (r : Rising t m) where
   pub wide : (i : ℕ) → 5 ≤ i → i < m → le (spanWidth floats t i) +0 ≡ false
   wide i a b =
       above-not-le binary64 (sub binary64 (at t (i + 1)) (at t i))
-      (difference-above binary64 (at t i) (at t (i + 1)) (r .held i a (omega arith)) (r .held (i + 1) (omega arith) (omega arith)) (r .number i a (omega arith)) (r .number (i + 1) (omega arith) (omega arith))
+      (difference-above binary64 (at t i) (at t (i + 1)) (r .held i a (omega arith)) (r .held (i + 1) (omega arith) (omega arith))
+      (r .number i a (omega arith)) (r .number (i + 1) (omega arith) (omega arith))
       (subst T (sym (r .rise i a b)) tt))
 
   kept : each (breakTurn floats t) 5 m [] ≡ listOf (m - 5) knotAt

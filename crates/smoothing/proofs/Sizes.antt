@@ -132,15 +132,20 @@ keeps-within g most q =
           let s = h .0 .size in
           let f = insert-all-formed (q .k) (locationsOf q st) (st .b) b (s .formed) e in
           let n = ltb-false g (spansAfter q st) t in
-          let six = s .formed .six in
-          (record { size = record { formed = f .0; bounds = s .bounds; witness = s .witness }; few = omega (arith, f .1) }, omega (arith, h .1));
+          let six = s .formed .six in (
+            record { size = record { formed = f .0; bounds = s .bounds; witness = s .witness }; few = omega (arith, f .1) },
+            omega (arith, h .1),
+          );
     }
 
 pub start-within : (g : ℕ) (q : Task) (st : State) → startOf g q ≡ done st → Within g q st × (st .report .refinements ≡ 0)
 unfolding manyKnots chordState chordOf
 start-within g q st e =
     let r = start-keeps g q (Bounded g 0 q) (keeps-within g 0 q) 0 st
-    (λ t. let l = ltb-false g (length (firstKnots q) + 1) t in (record { size = chord-sized q (firstKnots q); few = omega arith }, omega arith)) e in
+    (λ t. let l = ltb-false g (length (firstKnots q) + 1) t in (
+      record { size = chord-sized q (firstKnots q); few = omega arith },
+      omega arith,
+    )) e in
     (r .0, omega (arith, r .1))
 
 -- a round that 15 lets through

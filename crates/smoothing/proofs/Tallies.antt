@@ -87,13 +87,19 @@ module _ (q : Task) (c : ℕ) (samples : length (q .s) ≡ q .n) where
       let r : Adds 0 (q .n - 1) st after = record { rows = omega arith; intervals = omega arith; same-count = refl } in
       subst (λ (s : State). Adds 0 (q .n - 1) st s) (u .1) r
 
+  fit-then-audit : {st after st′ : State} → Adds R 0 st after → Adds 0 (q .n - 1) after st′ → Adds R (q .n - 1) st st′
+  fit-then-audit f g =
+      record {
+        rows = omega (arith, f .rows, g .rows);
+        intervals = omega (arith, f .intervals, g .intervals);
+        same-count = g .same-count ∙ f .same-count;
+      }
+
   refit-adds : (r : Range) (st st′ : State) → st .b .m ≤ c → refitOf q r st ≡ done st′ → Adds R (q .n - 1) st st′
   unfolding refitOf
   refit-adds r st st′ few h =
       let p = then-done _ _ st′ h in
-      let f = fitted-adds (r .a) (r .z) _ st (p .0) few (p .1) in
-      let g = audit-adds _ _ (p .0) st′ (omega arith) (p .2) in
-      record { rows = omega (arith, f .rows, g .rows); intervals = omega (arith, f .intervals, g .intervals); same-count = g .same-count ∙ f .same-count }
+      fit-then-audit (fitted-adds (r .a) (r .z) _ st (p .0) few (p .1)) (audit-adds _ _ (p .0) st′ (omega arith) (p .2))
 
   refit-all-adds : (l : List Range) (st st′ : State) → st .b .m ≤ c → refitAll q l st ≡ done st′
       → Adds (length l * R) (length l * (q .n - 1)) st st′
@@ -113,9 +119,7 @@ module _ (q : Task) (c : ℕ) (samples : length (q .s) ≡ q .n) where
   unfolding firstFit
   first-adds st st′ few h =
       let p = then-done _ (auditIn q 0 (q .n - 1)) st′ h in
-      let f = go (p .0) (curved q) (p .1) in
-      let g = audit-adds 0 (q .n - 1) (p .0) st′ (omega arith) (p .2) in
-      record { rows = omega (arith, f .rows, g .rows); intervals = omega (arith, f .intervals, g .intervals); same-count = g .same-count ∙ f .same-count }
+      fit-then-audit (go (p .0) (curved q) (p .1)) (audit-adds 0 (q .n - 1) (p .0) st′ (omega arith) (p .2))
     where
       go : (after : State) (b : Bool) → cond b (fitted (fitIn q 1 (st .b .m - 1) firstStrength (st .b)) st) (done st) ≡ done after
           → Adds R 0 st after
@@ -231,7 +235,8 @@ accepted-counts l m x h =
     (small (l .n) (m .segments) (m .refinements) (a .chosen .report) few-n few-g few-r c)
   where
     small : (n g r : ℕ) (k : Counts) → n ≤ 20000 → g ≤ 20000 → r ≤ 200
-        → (k .refinements ≤ r) × (k .rows ≤ rowsMost n (g + 5) + r * ((n - 1) * rowsMost n (g + 5))) × (k .intervals ≤ (n - 1) + r * ((n - 1) * (n - 1)) + (n - 1)) → SmallCounts k
+        → (k .refinements ≤ r) × (k .rows ≤ rowsMost n (g + 5) + r * ((n - 1) * rowsMost n (g + 5)))
+        × (k .intervals ≤ (n - 1) + r * ((n - 1) * (n - 1)) + (n - 1)) → SmallCounts k
     small n g r k few-n few-g few-r c =
         let controls : g + 5 ≤ 20005 = omega arith in
         let pieces : (n + 1) * 6 ≤ 120006 = omega arith in

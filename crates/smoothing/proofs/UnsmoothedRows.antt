@@ -1,4 +1,5 @@
--- Request 10, "Rows that are left unsmoothed must not matter": accepted requests with equal smoothed rows have equal smoothed curves and reports.
+-- Request 10, "Rows that are left unsmoothed must not matter": accepted requests with equal smoothed rows have equal smoothed curves
+-- and reports.
 use mathlib.Core.Path.{_≡_, sym, ap, _∙_}
 use mathlib.Core.Bool.{Bool, true, false, cond}
 use mathlib.Core.List.{List, []}
@@ -22,7 +23,15 @@ use Rattle.smoothing.proofs.Accepted.{done-same, unless-done, build-acc
 -- the lane with other points
 abbrev pub withPoints : Lane → List Float → Lane
 withPoints l points =
-    record { d = l .d; n = l .n; axes = l .axes; tolerance = l .tolerance; spacing = l .spacing; parameters = l .parameters; points = points }
+    record {
+      d = l .d;
+      n = l .n;
+      axes = l .axes;
+      tolerance = l .tolerance;
+      spacing = l .spacing;
+      parameters = l .parameters;
+      points = points;
+    }
 
 -- the task depends on the points only through the smoothed rows, and so do its units
 units-same : (l : Lane) (points : List Float) → smoothedRows l ≡ smoothedRows (withPoints l points)
@@ -79,6 +88,11 @@ unsmoothed-rows l points m x x′ e h h′ =
       ap (λ (r : Result). r .selected) (sym (a .result-is)) ∙ ap (λ (c : Selected). c .curve) same-choice
           ∙ ap (λ (r : Result). r .selected) (b .result-is),
       ap (λ (r : Result). r .report) (sym (a .result-is))
-          ∙ (λ i. record { segments = segmentsOf (same-choice i .curve); interpolated = same-others i; work = same-choice i .report; errors = same-choice i .errors })
+          ∙ (λ i. record {
+            segments = segmentsOf (same-choice i .curve);
+            interpolated = same-others i;
+            work = same-choice i .report;
+            errors = same-choice i .errors;
+          })
           ∙ ap (λ (r : Result). r .report) (b .result-is),
     )

@@ -141,4 +141,13 @@ accepted-well-formed l m x mode F h =
     rw rest at (others-formed l (a .others) F (a .passed) few-n (a .others-is)) in
     let range = range-formed l F (a .passed) in
     subst (λ (z : Result). wellFormed (curveOf mode (l .d) z) (slicesOf z) ≡ true) (a .result-is)
-    (rw (le-leb 1 (l .d) (omega arith), le-leb (l .d) 16 few-d, le-leb 1 k some, le-leb k (l .d) (omega arith), axes, selected, other, range))
+    (rw (
+      le-leb 1 (l .d) (omega arith),
+      le-leb (l .d) 16 few-d,
+      le-leb 1 k some,
+      le-leb k (l .d) (omega arith),
+      axes,
+      selected,
+      other,
+      range,
+    ))
