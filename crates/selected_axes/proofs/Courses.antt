@@ -43,14 +43,16 @@ module _ (m : Limits) (q : Task) (u : Units) where
   pub start-refuses : (number : ℕ) (s : State) → 0 < number → unless number s ≡ startOf (m .segments) q → refused number ≡ selectedOf m q u
   unfolding selectedOf andThen
   start-refuses number s l e =
-      ap (λ (a : Answer State). andThen (andThen a (refineOf (m .segments) (m .refinements) q)) (finishOf q u)) (unless-refused number s _ l e)
+      ap (λ (a : Answer State). andThen (andThen a (refineOf (m .segments) (m .refinements) q)) (finishOf q u))
+      (unless-refused number s _ l e)
 
   module _ (s : State) (started : done s ≡ startOf (m .segments) q) where
     -- as the rounds end
     rounds-end : (a : Answer State) → a ≡ refineOf (m .segments) (m .refinements) q s → andThen a (finishOf q u) ≡ selectedOf m q u
     unfolding selectedOf andThen
     rounds-end a h =
-        ap (λ (a : Answer State). andThen a (finishOf q u)) h ∙ ap (λ (b : Answer State). andThen (andThen b (refineOf (m .segments) (m .refinements) q)) (finishOf q u)) started
+        ap (λ (a : Answer State). andThen a (finishOf q u)) h
+        ∙ ap (λ (b : Answer State). andThen (andThen b (refineOf (m .segments) (m .refinements) q)) (finishOf q u)) started
 
     -- 9 to 13, 15, 16; and 14
     pub rounds-refuse : (n : ℕ) → refused n ≡ refineOf (m .segments) (m .refinements) q s → refused n ≡ selectedOf m q u
@@ -96,7 +98,11 @@ pub exhausted-done : (e : Ending) (x : Float) → e ≡ Exhausted x → e ≡ Do
 exhausted-done e x h g = let z : _≡_ {A = ℕ} 2 0 = ap told (sym h ∙ g) in omega arith
 
 pub answer-refused : (p : Plan) (r : Smoothed) (w : List Float) (n : ℕ) → r .ending ≡ Refused n → answerIn p r w ≡ refused n
-answer-refused p r w n e = ap (λ (v : Ending). endingOf v (selectedIn (sized p (r .count)) (take (p .axes) (r .errors)) (countsOf (r .report)) (memoryAt (sized p (r .count)) w))) e
+answer-refused p r w n e =
+    ap (λ (v : Ending). endingOf v (selectedIn (sized p (r .count)) (take (p .axes) (r .errors)) (countsOf (r .report))
+    (memoryAt (sized p (r .count)) w))) e
 
 pub answer-exhausted : (p : Plan) (r : Smoothed) (w : List Float) (x : Float) → r .ending ≡ Exhausted x → answerIn p r w ≡ exhausted x
-answer-exhausted p r w x e = ap (λ (v : Ending). endingOf v (selectedIn (sized p (r .count)) (take (p .axes) (r .errors)) (countsOf (r .report)) (memoryAt (sized p (r .count)) w))) e
+answer-exhausted p r w x e =
+    ap (λ (v : Ending). endingOf v (selectedIn (sized p (r .count)) (take (p .axes) (r .errors)) (countsOf (r .report))
+    (memoryAt (sized p (r .count)) w))) e

@@ -37,10 +37,13 @@ module _ (p : Plan) (rows eps : List Float) (x x₁ x₂ : Memory) where
   abbrev P : List Float
   P = physicalOf u k (splineIn p x)
 
-  module _ (e₁ : x₁ ≡ withPoints rows x) (e₂ : x₂ ≡ withControls (table (p .count) k (λ i a. scaled (at (x₁ .c) (i * k + a)) (at eps a) (at (x₁ .y) a))) x₁) where
+  module _ (e₁ : x₁ ≡ withPoints rows x) (e₂ : x₂ ≡ withControls
+      (table (p .count) k (λ i a. scaled (at (x₁ .c) (i * k + a)) (at eps a) (at (x₁ .y) a))) x₁) where
     controls-are : table (p .count) k (λ i a. scaled (at (x .c) (i * k + a)) (at eps a) (at rows a)) ≡ P
     unfolding physicalOf
-    controls-are = table-ap (p .count) k _ _ (λ i a h l. ap (λ (v : Float). scaled (at (x .c) (i * k + a)) v (at rows a)) (sym (getD-take k eps a nan l)))
+    controls-are =
+        table-ap (p .count) k _ _ (λ i a h l. ap (λ (v : Float). scaled (at (x .c) (i * k + a)) v (at rows a))
+        (sym (getD-take k eps a nan l)))
 
     scaled-is : x₂ ≡ withControls P (withPoints rows x)
     scaled-is =
@@ -56,12 +59,14 @@ module _ (p : Plan) (rows eps : List Float) (x x₁ x₂ : Memory) where
 
 -- ---- the errors
 pub errors-are : (p : Plan) (w errors : List Float) (b : ℕ) → Roomy p (length w) → b ≡ p .room * p .axes
-    → take (p .axes) errors ≡ listOf (p .axes) (errorOf (p .samples - 1 + 1) (p .axes) (window (2 * p .room + 2 * b) (2 * p .room + 2 * b + (p .samples - 1) * p .axes) w))
+    → take (p .axes) errors ≡ listOf (p .axes) (errorOf (p .samples - 1 + 1) (p .axes)
+    (window (2 * p .room + 2 * b) (2 * p .room + 2 * b + (p .samples - 1) * p .axes) w))
     → take (p .axes) errors ≡ errorsOf (taskIn p (memoryAt p w)) (memoryAt p w .bounds)
 unfolding errorsOf
 errors-are p w errors b r e h =
     let n : p .samples - 1 + 1 ≡ p .samples = omega (arith, r .two) in
-    h ∙ ap (λ (i : ℕ). listOf (p .axes) (errorOf (p .samples - 1 + 1) (p .axes) (window (2 * p .room + 2 * i) (2 * p .room + 2 * i + (p .samples - 1) * p .axes) w))) e
+    h ∙ ap (λ (i : ℕ). listOf (p .axes) (errorOf (p .samples - 1 + 1) (p .axes)
+    (window (2 * p .room + 2 * i) (2 * p .room + 2 * i + (p .samples - 1) * p .axes) w))) e
     ∙ ap (λ (i : ℕ). listOf (p .axes) (errorOf i (p .axes) (memoryAt p w .bounds))) n
 
 -- ---- the answer
@@ -74,7 +79,8 @@ pub record Audited (p : Plan) (u : Units) (x x₁ x₂ : Memory) (errors : List 
   pub after : x₂ ≡ withBounds (auditOver p 0 (p .samples - 1) x₁ .bounds) (auditOver p 0 (p .samples - 1) x₁ .witness) x₁
   pub errors-is : take (p .axes) errors ≡ errorsOf (taskIn p x₂) (x₂ .bounds)
 
-module _ {p : Plan} {u : Units} {x x₁ x₂ : Memory} {errors : List Float} {number checked : ℕ} {o : Outcome} (h : Audited p u x x₁ x₂ errors number checked o) (report : Counts) where
+module _ {p : Plan} {u : Units} {x x₁ x₂ : Memory} {errors : List Float} {number checked : ℕ} {o : Outcome}
+    (h : Audited p u x x₁ x₂ errors number checked o) (report : Counts) where
   abbrev A : Audit
   A = auditOver p 0 (p .samples - 1) (physicalIn p u x)
 
@@ -91,7 +97,9 @@ module _ {p : Plan} {u : Units} {x x₁ x₂ : Memory} {errors : List Float} {nu
   number-is = h .number-of ∙ ap audits.numberOf (h .outcome ∙ ap (λ (y : Memory). auditOver p 0 (p .samples - 1) y .outcome) (h .physical))
 
   audited-is : x₂ ≡ withBounds (A .bounds) (A .witness) (physicalIn p u x)
-  audited-is = h .after ∙ ap (λ (y : Memory). withBounds (auditOver p 0 (p .samples - 1) y .bounds) (auditOver p 0 (p .samples - 1) y .witness) y) (h .physical)
+  audited-is =
+      h .after ∙ ap (λ (y : Memory). withBounds (auditOver p 0 (p .samples - 1) y .bounds) (auditOver p 0 (p .samples - 1) y .witness) y)
+      (h .physical)
 
   found-errors : take (p .axes) errors ≡ E
   unfolding errorsOf
@@ -110,22 +118,27 @@ module _ {p : Plan} {u : Units} {x x₁ x₂ : Memory} {errors : List Float} {nu
       let b = ne-eqb number 0 (λ e. omega arith) in
       let v : unless number s ≡ refused number = rw b in
       let a : unless number A ≡ refused number = rw b in
-      v ∙ sym (judged-is ∙ ap (λ (z : Answer Audit). andThen z (λ _. cond (excessive (u .eps) (p .axes) (take (p .axes) errors)) (refused 17) fine)) a)
+      v ∙ sym (judged-is ∙ ap (λ (z : Answer Audit). andThen z
+      (λ _. cond (excessive (u .eps) (p .axes) (take (p .axes) errors)) (refused 17) fine)) a)
 
   passed : (b : Bool) → number ≡ 0 → b ≡ excessive (u .eps) (p .axes) (take (p .axes) errors) → whole ≡ cond b (refused 17) fine
   unfolding unless andThen
   passed b z e =
-      judged-is ∙ ap (λ (i : ℕ). andThen (unless i A) (λ _. cond (excessive (u .eps) (p .axes) (take (p .axes) errors)) (refused 17) fine)) z ∙ ap (λ (b : Bool). cond b (refused 17) fine) (sym e)
+      judged-is ∙ ap (λ (i : ℕ). andThen (unless i A)
+      (λ _. cond (excessive (u .eps) (p .axes) (take (p .axes) errors)) (refused 17) fine)) z
+      ∙ ap (λ (b : Bool). cond b (refused 17) fine) (sym e)
 
   -- 17
   pub finish-excessive : (s : Selected) → number ≡ 0 → true ≡ excessive (u .eps) (p .axes) (take (p .axes) errors) → unless 17 s ≡ whole
   unfolding unless
   finish-excessive s z e = sym (passed true z e)
 
-  pub finish-done : number ≡ 0 → false ≡ excessive (u .eps) (p .axes) (take (p .axes) errors) → unless 0 (selectedIn p (take (p .axes) errors) (addIntervals checked report) x₂) ≡ whole
+  pub finish-done : number ≡ 0 → false ≡ excessive (u .eps) (p .axes) (take (p .axes) errors)
+      → unless 0 (selectedIn p (take (p .axes) errors) (addIntervals checked report) x₂) ≡ whole
   unfolding unless
   finish-done z e =
       ap (λ (y : Memory). done (selectedIn p (take (p .axes) errors) (addIntervals checked report) y)) audited-is
       ∙ ap (λ (l : List Float). done (selectedIn p l (addIntervals checked report) (physicalIn p u x))) found-errors
-      ∙ ap (λ (i : ℕ). done (selectedIn p E (addIntervals i report) (physicalIn p u x))) (h .counted ∙ ap (λ (y : Memory). auditOver p 0 (p .samples - 1) y .checked) (h .physical))
+      ∙ ap (λ (i : ℕ). done (selectedIn p E (addIntervals i report) (physicalIn p u x)))
+      (h .counted ∙ ap (λ (y : Memory). auditOver p 0 (p .samples - 1) y .checked) (h .physical))
       ∙ sym (passed false z e)

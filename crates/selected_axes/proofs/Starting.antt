@@ -44,12 +44,14 @@ take-doubles (suc n) (x ∷ l) h zero = h zero
 take-doubles (suc n) (x ∷ l) h (suc i) = take-doubles n l (λ j. h (suc j)) i
 
 pub window-doubles : (a e : ℕ) (l : List Float) → Doubles l → Doubles (window a e l)
-window-doubles a e l h = take-doubles (e - a) (drop a l) (λ i. subst (λ (x : Float). T (fits binary64 x)) (sym (getD-drop a l i nan)) (h (a + i)))
+window-doubles a e l h =
+    take-doubles (e - a) (drop a l) (λ i. subst (λ (x : Float). T (fits binary64 x)) (sym (getD-drop a l i nan)) (h (a + i)))
 
 -- ---- the first knots
 front-read : (a : ℕ) (u v l : List Float) → a ≤ length l → window a (a + length u) (written a (u ++ v) l) ≡ u
 front-read a u v l h =
-    ap (λ (z : List Float). window a (a + length u) z) (written-plain a (u ++ v) l ∙ ap (λ (z : List Float). take a l ++ z) (append-assoc u v (drop (a + length (u ++ v)) l)))
+    ap (λ (z : List Float). window a (a + length u) z)
+    (written-plain a (u ++ v) l ∙ ap (λ (z : List Float). take a l ++ z) (append-assoc u v (drop (a + length (u ++ v)) l)))
     ∙ read-seam (take a l) u (v ++ drop (a + length (u ++ v)) l) a (a + length u) (length-take-le a l h) (omega arith)
 
 module _ (p : Plan) (w : List Float) (r : Roomy p (length w)) where
@@ -82,8 +84,11 @@ module _ (p : Plan) (w : List Float) (r : Roomy p (length w)) where
       let f : firstKnots q ≡ S = ap (λ (b : Bool). cond b S []) c in
       let o = products p (length w) r in
       let here : K ≤ length w = omega (arith, r .knots-fit, r .cells-fit) in
-      let s-is = ap (λ (l : List Float). memoryAt p l .s) g ∙ window-before K (K + length (S ++ more)) (S ++ more) w 0 (0 + p .samples) (omega arith) (omega (arith, r .waypoints-fit)) here in
-      let y-is = ap (λ (l : List Float). memoryAt p l .y) g ∙ window-before K (K + length (S ++ more)) (S ++ more) w (p .room) (p .room + p .samples * p .axes) (omega arith) (omega (arith, o .points)) here in (
+      let s-is = ap (λ (l : List Float). memoryAt p l .s) g
+      ∙ window-before K (K + length (S ++ more)) (S ++ more) w 0 (0 + p .samples) (omega arith) (omega (arith, r .waypoints-fit)) here in
+      let y-is = ap (λ (l : List Float). memoryAt p l .y) g
+      ∙ window-before K (K + length (S ++ more)) (S ++ more) w (p .room) (p .room + p .samples * p .axes) (omega arith)
+      (omega (arith, o .points)) here in (
         ap (λ (i : ℕ). window K (K + i) w′) n ∙ ap (λ (l : List Float). window K (K + length S) l) g ∙ front-read K S more w here ∙ sym f,
         (n ∙ sym (ap length f), λ i. record { n = p .samples; k = p .axes; s = s-is i; y = y-is i }),
       )
@@ -91,7 +96,8 @@ module _ (p : Plan) (w : List Float) (r : Roomy p (length w)) where
   -- ---- the chord
   inner-count : p .count ≡ length (innerKnots p (p .count - 6) w) + 6
   inner-count =
-      let n = length-window (knotsPlace p + 6) (knotsPlace p + 6 + (p .count - 6)) w (omega arith) (omega (arith, r .knots-fit, r .cells-fit)) in
+      let n = length-window (knotsPlace p + 6) (knotsPlace p + 6 + (p .count - 6)) w (omega arith)
+      (omega (arith, r .knots-fit, r .cells-fit)) in
       omega (arith, r .six)
 
   pub begun : (x₁ x₂ x₃ : Memory) → (x₁ .t ≡ openKnots (innerKnots p (p .count - 6) w)) × (taskIn p x₁ ≡ q)
@@ -102,10 +108,13 @@ module _ (p : Plan) (w : List Float) (r : Roomy p (length w)) where
   begun x₁ x₂ x₃ e₁ e₂ e₃ =
       let n = p .samples - 1 in
       let T = openKnots (innerKnots p (p .count - 6) w) in
-      let e : x₃ ≡ withBounds (zeros (n * p .axes)) (zeros n) (withControls (chordControls (taskIn p x₁) (x₁ .t) (p .count)) x₁) = e₃ ∙ ap (withBounds (zeros (n * p .axes)) (zeros n)) e₂ in (
+      let e : x₃ ≡ withBounds (zeros (n * p .axes)) (zeros n) (withControls (chordControls (taskIn p x₁) (x₁ .t) (p .count)) x₁) = e₃
+      ∙ ap (withBounds (zeros (n * p .axes)) (zeros n)) e₂ in (
         ap (stateIn p (counts 0 0 0)) e
-            ∙ ap (λ (z : Task). state (spline (x₁ .t) (chordControls z (x₁ .t) (p .count)) (p .count)) (zeros (n * p .axes)) (zeros n) (counts 0 0 0)) (e₁ .1)
-            ∙ ap (λ (t : List Float). state (spline t (chordControls q t (p .count)) (p .count)) (zeros (n * p .axes)) (zeros n) (counts 0 0 0)) (e₁ .0)
+            ∙ ap (λ (z : Task). state (spline (x₁ .t) (chordControls z (x₁ .t) (p .count)) (p .count)) (zeros (n * p .axes)) (zeros n)
+            (counts 0 0 0)) (e₁ .1)
+            ∙ ap (λ (t : List Float). state (spline t (chordControls q t (p .count)) (p .count)) (zeros (n * p .axes)) (zeros n)
+            (counts 0 0 0)) (e₁ .0)
             ∙ ap (λ (k : ℕ). state (spline T (chordControls q T k) k) (zeros (n * p .axes)) (zeros n) (counts 0 0 0)) inner-count,
         ap (taskIn p) e ∙ e₁ .1,
       )
@@ -119,7 +128,8 @@ module _ (p : Plan) (x : Memory) where
   unfolding firstFit unless
   fit-none c = sym (ap (λ (b : Bool). cond b (fitted first (stateIn p (counts 0 0 0) x)) (done (stateIn p (counts 0 0 0) x))) c)
 
-  pub fit-made : (x₁ : Memory) (v : Answer) (number refinements rows intervals : ℕ) → curved (taskIn p x) ≡ true → v ≡ first .answered → x₁ ≡ withControls (first .controls) x
+  pub fit-made : (x₁ : Memory) (v : Answer) (number refinements rows intervals : ℕ) → curved (taskIn p x) ≡ true → v ≡ first .answered
+      → x₁ ≡ withControls (first .controls) x
       → (number ≡ v .number) × (refinements ≡ 0) × (rows ≡ v .rows) × (intervals ≡ 0)
       → unless number (stateIn p (counts refinements rows intervals) x₁) ≡ firstFit (taskIn p x) (stateIn p (counts 0 0 0) x)
   unfolding firstFit fitted
@@ -137,10 +147,12 @@ module _ (p : Plan) (x : Memory) where
   controls-changed x₁ c e = e ∙ ap (λ (l : List Float). withControls l x) (sym (ap (λ (y : Memory). y .c) e))
 
   -- ---- the first audit
-  pub audit-made : (x₁ x₂ : Memory) (number checked : ℕ) (o : Outcome) (report : Counts) → x₁ ≡ withPolynomial (polynomialIn (p .axes) (splineIn p x)) x → number ≡ audits.numberOf o
+  pub audit-made : (x₁ x₂ : Memory) (number checked : ℕ) (o : Outcome) (report : Counts)
+      → x₁ ≡ withPolynomial (polynomialIn (p .axes) (splineIn p x)) x → number ≡ audits.numberOf o
       → (o ≡ auditOver p 0 (p .samples - 1) x₁ .outcome) × (checked ≡ auditOver p 0 (p .samples - 1) x₁ .checked)
       → x₂ ≡ withBounds (auditOver p 0 (p .samples - 1) x₁ .bounds) (auditOver p 0 (p .samples - 1) x₁ .witness) x₁
-      → (unless number (stateIn p (addIntervals checked report) x₂) ≡ auditIn (taskIn p x) 0 (p .samples - 1) (stateIn p report x)) × (Stored p x₂ × Same x x₂)
+      → (unless number (stateIn p (addIntervals checked report) x₂) ≡ auditIn (taskIn p x) 0 (p .samples - 1) (stateIn p report x))
+      × (Stored p x₂ × Same x x₂)
   audit-made x₁ x₂ number checked o report rebuilt n found after =
       let stored = subst (Stored p) (sym rebuilt) (record { breaks-are = refl; coefficients-are = refl }) in
       let k = after-audit p x₁ x₁ x₂ (x₁ .coefficients) _ _ refl stored after in
@@ -154,12 +166,14 @@ module _ (p : Plan) (x : Memory) where
   pub first-made : (x₁ x₂ : Memory) (number number′ : ℕ) (report report′ : Counts) → number ≡ 0
       → unless number (stateIn p report x₁) ≡ firstFit (taskIn p x) (stateIn p (counts 0 0 0) x) → x₁ ≡ withControls (x₁ .c) x
       → unless number′ (stateIn p report′ x₂) ≡ auditIn (taskIn p x₁) 0 (p .samples - 1) (stateIn p report x₁) → Stored p x₂ × Same x₁ x₂
-      → (unless number′ (stateIn p report′ x₂) ≡ andThen (firstFit (taskIn p x) (stateIn p (counts 0 0 0) x)) (auditIn (taskIn p x) 0 (p .samples - 1))) × (Stored p x₂ × Same x x₂)
+      → (unless number′ (stateIn p report′ x₂) ≡ andThen (firstFit (taskIn p x) (stateIn p (counts 0 0 0) x))
+      (auditIn (taskIn p x) 0 (p .samples - 1))) × (Stored p x₂ × Same x x₂)
   unfolding unless andThen
   first-made x₁ x₂ number number′ report report′ z f changed e k =
       let s = subst (λ (y : Memory). Same y x₂) changed (k .1) in (
         e ∙ ap (λ (t : Task). auditIn t 0 (p .samples - 1) (stateIn p report x₁)) (ap (taskIn p) changed)
-            ∙ ap (λ (a : answers.Answer State). andThen a (auditIn (taskIn p x) 0 (p .samples - 1))) (sym (ap (λ (i : ℕ). unless i (stateIn p report x₁)) z) ∙ f),
+            ∙ ap (λ (a : answers.Answer State). andThen a (auditIn (taskIn p x) 0 (p .samples - 1)))
+            (sym (ap (λ (i : ℕ). unless i (stateIn p report x₁)) z) ∙ f),
         (k .0, record { same-s = s .same-s; same-y = s .same-y; same-t = s .same-t; same-locations = s .same-locations }),
       )
 
@@ -195,7 +209,8 @@ module _ {p : Plan} {k : ℕ} {w w₁ : List Float} {x₂ : Memory} (c : Chord p
   chord-is : stateIn p′ (counts 0 0 0) x₂ ≡ chordState q₀ (firstKnots q₀)
   chord-is =
       let n : k + 6 - 6 ≡ k = omega arith in
-      c .chord ∙ ap (λ (t : Task). chordState t (innerKnots p (k + 6 - 6) w₁)) (c .task) ∙ ap (λ (i : ℕ). chordState q₀ (innerKnots p i w₁)) n ∙ ap (chordState q₀) (c .inner)
+      c .chord ∙ ap (λ (t : Task). chordState t (innerKnots p (k + 6 - 6) w₁)) (c .task)
+      ∙ ap (λ (i : ℕ). chordState q₀ (innerKnots p i w₁)) n ∙ ap (chordState q₀) (c .inner)
 
   pub bent-is : (b : Bool) → b ≡ curved q₀ → b ≡ curved (taskIn p′ x₂)
   bent-is b e = e ∙ ap curved (sym same-task)
@@ -206,7 +221,8 @@ module _ {p : Plan} {k : ℕ} {w w₁ : List Float} {x₂ : Memory} (c : Chord p
       subst (λ (st : State). Rising (st .b .t) (st .b .m)) (sym chord-is) (chord-rising q₀ (window-doubles 0 (0 + p .samples) w D))
 
   pub start-made : (segments : ℕ) (answer : answers.Answer State) → k + 1 ≤ segments
-      → answer ≡ andThen (firstFit (taskIn p′ x₂) (stateIn p′ (counts 0 0 0) x₂)) (auditIn (taskIn p′ x₂) 0 (p .samples - 1)) → answer ≡ startOf segments q₀
+      → answer ≡ andThen (firstFit (taskIn p′ x₂) (stateIn p′ (counts 0 0 0) x₂)) (auditIn (taskIn p′ x₂) 0 (p .samples - 1))
+      → answer ≡ startOf segments q₀
   unfolding firstState
   start-made segments answer l e =
       e ∙ ap (λ (t : Task). andThen (firstFit t (stateIn p′ (counts 0 0 0) x₂)) (auditIn t 0 (p .samples - 1))) same-task

@@ -41,11 +41,13 @@ module _ {A : Type 0} where
   list-more n f = rw add-one refl
 
   -- one cell more of a row
-  pub cell-next : (to j : ℕ) (f : ℕ → A) (w w₀ : List A) (x : A) → to + j < length w₀ → w ≡ written to (listOf j f) w₀ → x ≡ f j → set w (to + j) x ≡ written to (listOf (j + 1) f) w₀
+  pub cell-next : (to j : ℕ) (f : ℕ → A) (w w₀ : List A) (x : A) → to + j < length w₀ → w ≡ written to (listOf j f) w₀ → x ≡ f j
+      → set w (to + j) x ≡ written to (listOf (j + 1) f) w₀
   cell-next to j f w w₀ x h e g = ap (λ (l : List A). set l (to + j) x) e ∙ fill-next to f j w₀ x h g
 
   -- one row more of a table
-  pub row-next : (to d i : ℕ) (F : ℕ → ℕ → A) (g : ℕ → A) (w w′ w₀ : List A) → to + i * d ≤ length w₀ → w ≡ written to (table i d F) w₀ → w′ ≡ written (to + i * d) (listOf d g) w
+  pub row-next : (to d i : ℕ) (F : ℕ → ℕ → A) (g : ℕ → A) (w w′ w₀ : List A) → to + i * d ≤ length w₀ → w ≡ written to (table i d F) w₀
+      → w′ ≡ written (to + i * d) (listOf d g) w
       → ((a : ℕ) → a < d → g a ≡ F i a) → w′ ≡ written to (table (i + 1) d F) w₀
   unfolding table join
   row-next to d i F g w w′ w₀ h e e′ q =

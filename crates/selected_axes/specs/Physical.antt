@@ -13,7 +13,17 @@ scaled c eps first = add binary64 (mul binary64 c eps) first
 -- other points
 abbrev pub withPoints : List Float → Memory → Memory
 withPoints y x =
-    record { s = x .s; y = y; t = x .t; c = x .c; bounds = x .bounds; witness = x .witness; locations = x .locations; breaks = x .breaks; coefficients = x .coefficients }
+    record {
+      s = x .s;
+      y = y;
+      t = x .t;
+      c = x .c;
+      bounds = x .bounds;
+      witness = x .witness;
+      locations = x .locations;
+      breaks = x .breaks;
+      coefficients = x .coefficients;
+    }
 
 -- the arrays before the final audit: the waypoints as handed in, and the spline and its polynomial in their units
 abbrev pub physicalIn : Plan → Units → Memory → Memory

@@ -21,7 +21,8 @@ unitsOf points d n axes eps = record { rows = gathered points d n axes; eps = ep
 
 -- the stored polynomial, with these errors and counts
 abbrev pub selectedIn : Plan → List Float → Counts → Memory → Selected
-selectedIn p errors counts x = record { curve = record { breaks = x .breaks; coefficients = x .coefficients }; errors = errors; report = counts }
+selectedIn p errors counts x =
+    record { curve = record { breaks = x .breaks; coefficients = x .coefficients }; errors = errors; report = counts }
 
 -- document 01's answer of an ending
 abbrev pub endingOf : Ending → Selected → Answer Selected
@@ -31,4 +32,6 @@ endingOf (Exhausted v) x = exhausted v
 
 -- the definition's answer, from what the cells then hold
 abbrev pub answerIn : Plan → Smoothed → List Float → Answer Selected
-answerIn p r w = endingOf (r .ending) (selectedIn (sized p (r .count)) (take (p .axes) (r .errors)) (countsOf (r .report)) (memoryAt (sized p (r .count)) w))
+answerIn p r w =
+    endingOf (r .ending) (selectedIn (sized p (r .count)) (take (p .axes) (r .errors)) (countsOf (r .report))
+    (memoryAt (sized p (r .count)) w))

@@ -31,7 +31,8 @@ loop-again c = (omega arith, sym (each-turn _ _ _ _ (c .before .loop-test .taken
 
 returns : tie.Need-returns Inv-loop μ-loop
 unfolding grevilleOf ofBits round
-returns c = ap (λ (v : Float). div binary64 v (floats .literal 5 1)) (sym (each-done _ _ _ _ (c .loop-test .left)) ∙ c .before .loop .inv .1)
+returns c =
+    ap (λ (v : Float). div binary64 v (floats .literal 5 1)) (sym (each-done _ _ _ _ (c .loop-test .left)) ∙ c .before .loop .inv .1)
 
 pub greville-spec : {M : Type 1} → statement M
 greville-spec =

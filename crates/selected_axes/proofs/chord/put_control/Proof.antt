@@ -23,8 +23,12 @@ abbrev μ-loop : tie.MeasureT-loop
 
 loop-holds : tie.Need-loop-holds Inv-loop μ-loop
 loop-holds c =
-    let a = c .args in
-    (omega arith, sym (written-none (a .to) (a .work .now)) ∙ ap (λ (l : List Float). written (a .to) l (a .work .now)) (sym (list-none (cell (a .work .now) (a .last) (a .u)))), refl)
+    let a = c .args in (
+      omega arith,
+      sym (written-none (a .to) (a .work .now))
+          ∙ ap (λ (l : List Float). written (a .to) l (a .work .now)) (sym (list-none (cell (a .work .now) (a .last) (a .u)))),
+      refl,
+    )
 
 loop-again : tie.Need-loop-again Inv-loop μ-loop
 loop-again c =
@@ -34,8 +38,13 @@ loop-again c =
     let w = a .work .now in
     let f = cell w (a .last) (a .u) in
     let read : at (l .work) (a .last + l .a) ≡ at w (a .last + l .a) =
-    ap (λ (k : List Float). at k (a .last + l .a)) (l .inv .1) ∙ before-written (a .to) (listOf (l .a) f) w nan (a .last + l .a) (omega arith) (omega arith) in
-    (omega arith, cell-next (a .to) (l .a) f (l .work) w (mul binary64 (a .u) (at (l .work) (a .last + l .a))) (omega arith) (l .inv .1) (ap (mul binary64 (a .u)) read), simp length-set (omega arith))
+    ap (λ (k : List Float). at k (a .last + l .a)) (l .inv .1)
+    ∙ before-written (a .to) (listOf (l .a) f) w nan (a .last + l .a) (omega arith) (omega arith) in (
+      omega arith,
+      cell-next (a .to) (l .a) f (l .work) w (mul binary64 (a .u) (at (l .work) (a .last + l .a))) (omega arith) (l .inv .1)
+          (ap (mul binary64 (a .u)) read),
+      simp length-set (omega arith),
+    )
 
 returns : tie.Need-returns Inv-loop μ-loop
 returns c =

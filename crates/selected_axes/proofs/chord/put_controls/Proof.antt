@@ -20,7 +20,8 @@ abbrev cell : List Float → ℕ → ℕ → ℕ → ℕ → ℕ → Float
 cell w t m last i a = mul binary64 (grevilleOf (window t (t + (m + 6)) w) i) (at w (last + a))
 
 abbrev Inv-loop : tie.InvT-loop
-Inv-loop work₀ t m last d to t-end i₀ work i = (i ≤ m) × (work ≡ written to (table i d (cell work₀ t m last)) work₀) × (length work ≡ length work₀)
+Inv-loop work₀ t m last d to t-end i₀ work i =
+    (i ≤ m) × (work ≡ written to (table i d (cell work₀ t m last)) work₀) × (length work ≡ length work₀)
 
 abbrev μ-loop : tie.MeasureT-loop
 μ-loop work₀ t m last d to t-end i₀ work i = m - i
@@ -28,8 +29,12 @@ abbrev μ-loop : tie.MeasureT-loop
 loop-holds : tie.Need-loop-holds Inv-loop μ-loop
 loop-holds c =
     let a = c .before .args in
-    let w = a .work .now in
-    (omega arith, sym (written-none (a .to) w) ∙ ap (λ (l : List Float). written (a .to) l w) (sym (table-none (a .d) (cell w (a .t) (a .m) (a .last)))), refl)
+    let w = a .work .now in (
+      omega arith,
+      sym (written-none (a .to) w) ∙ ap (λ (l : List Float). written (a .to) l w)
+          (sym (table-none (a .d) (cell w (a .t) (a .m) (a .last)))),
+      refl,
+    )
 
 greville-requires : tie.Need-greville-requires Inv-loop μ-loop
 greville-requires c κs =
@@ -38,11 +43,14 @@ greville-requires c κs =
     let n = length-window (a .t) (a .t + (a .m + 6)) (l .work) (omega arith) (omega arith) in
     omega arith
 
-within : (c : tie.After-put-control-arg Inv-loop μ-loop) → let a = c .before .before .before .before .before .before .before .args in a .to + c .before .before .before .before .before .loop .i * a .d + a .d ≤ length (a .work .now)
+within : (c : tie.After-put-control-arg Inv-loop μ-loop)
+    → let l = c .before .before .before .before .before in let a = l .before .before .args in
+    a .to + l .loop .i * a .d + a .d ≤ length (a .work .now)
 within c =
     let s = c .before .before .before .before .before .before .before in
     let a = s .args in
-    row-within (c .before .before .before .before .before .loop .i) (a .m) (a .d) (a .to) (length (a .work .now)) (c .before .before .before .before .loop-test .taken) (s .pre .2)
+    row-within (c .before .before .before .before .before .loop .i) (a .m) (a .d) (a .to) (length (a .work .now))
+    (c .before .before .before .before .loop-test .taken) (s .pre .2)
 
 put-control-requires : tie.Need-put-control-requires Inv-loop μ-loop
 put-control-requires c κs =
@@ -60,13 +68,18 @@ loop-again c =
     let k = within (c .before .before .before) in
     let u = c .before .before .before .before .greville in
     let knots : window (a .t) (a .t + (a .m + 6)) (l .work) ≡ window (a .t) (a .t + (a .m + 6)) w =
-    ap (λ (z : List Float). window (a .t) (a .t + (a .m + 6)) z) (l .inv .1) ∙ window-before (a .to) (a .to + length v) v w (a .t) (a .t + (a .m + 6)) (omega arith) (omega arith) (omega arith) in
-    let value : u .result ≡ grevilleOf (window (a .t) (a .t + (a .m + 6)) w) (l .i) = u .ensures ∙ ap (λ (z : List Float). grevilleOf z (l .i)) knots in
+    ap (λ (z : List Float). window (a .t) (a .t + (a .m + 6)) z) (l .inv .1)
+    ∙ window-before (a .to) (a .to + length v) v w (a .t) (a .t + (a .m + 6)) (omega arith) (omega arith) (omega arith) in
+    let value : u .result ≡ grevilleOf (window (a .t) (a .t + (a .m + 6)) w) (l .i) = u .ensures
+    ∙ ap (λ (z : List Float). grevilleOf z (l .i)) knots in
     let read : (j : ℕ) → j < a .d → at (l .work) (a .last + j) ≡ at w (a .last + j) =
-    λ j h. ap (λ (z : List Float). at z (a .last + j)) (l .inv .1) ∙ before-written (a .to) v w nan (a .last + j) (omega arith) (omega arith) in (
+    λ j h. ap (λ (z : List Float). at z (a .last + j)) (l .inv .1)
+    ∙ before-written (a .to) v w nan (a .last + j) (omega arith) (omega arith) in (
       omega arith,
-      row-next (a .to) (a .d) (l .i) F (λ j. mul binary64 (u .result) (at (l .work) (a .last + j))) (l .work) (c .before .before .put-control .last .0) w (omega arith) (l .inv .1) (c .before .before .put-control .ensures)
-          (λ j h. ap (λ (z : Float). mul binary64 z (at (l .work) (a .last + j))) value ∙ ap (mul binary64 (grevilleOf (window (a .t) (a .t + (a .m + 6)) w) (l .i))) (read j h)),
+      row-next (a .to) (a .d) (l .i) F (λ j. mul binary64 (u .result) (at (l .work) (a .last + j))) (l .work)
+          (c .before .before .put-control .last .0) w (omega arith) (l .inv .1) (c .before .before .put-control .ensures)
+          (λ j h. ap (λ (z : Float). mul binary64 z (at (l .work) (a .last + j))) value
+          ∙ ap (mul binary64 (grevilleOf (window (a .t) (a .t + (a .m + 6)) w) (l .i))) (read j h)),
       omega arith,
     )
 

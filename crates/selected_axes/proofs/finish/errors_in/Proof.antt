@@ -9,7 +9,8 @@ use Rattle.selected_axes.proofs.finish.errors_in.Statement.{statement}
 use Rattle.selected_axes.proofs.finish.errors_in.Tie as tie
 
 numbers : (c : tie.After-block-of) → let a = c .before .before .args in
-    ((a .p .samples - 1) * a .p .axes ≤ 320256) × (2 * a .p .room + 2 * c .block-of .result + (a .p .samples - 1) * a .p .axes ≤ length (a .work .now))
+    ((a .p .samples - 1) * a .p .axes ≤ 320256) × (2 * a .p .room + 2 * c .block-of .result + (a .p .samples - 1) * a .p .axes ≤ length
+    (a .work .now))
 numbers c =
     let s = c .before .before in
     bounds-numbers (s .args .p) (s .args .work .now) (s .pre) (c .block-of .result) (c .block-of .ensures .0)

@@ -22,7 +22,8 @@ rebuild-requires c κs =
     let same : length (f .last .0) ≡ length (a .work .now) = omega arith in (
       rw same (s .pre .0),
       subst (λ (t : List Float). Wide t (p .count))
-          (sym (scaled-knots p rows (a .eps .now) (memoryAt p (a .work .now)) (memoryAt p (e .last .0)) (memoryAt p (f .last .0)) (e .ensures) (f .ensures)))
+          (sym (scaled-knots p rows (a .eps .now) (memoryAt p (a .work .now)) (memoryAt p (e .last .0)) (memoryAt p (f .last .0))
+          (e .ensures) (f .ensures)))
           (s .pre .5),
     )
 
@@ -34,7 +35,8 @@ returns c =
     let f = c .before .before .before .before .before .before .scale-all in
     let g = c .before .before .rebuild in
     let rows = gathered (a .points .now) (a .d) (p .samples) (take (p .axes) (a .axes .now)) in
-    physical-is p rows (a .eps .now) (memoryAt p (a .work .now)) (memoryAt p (e .last .0)) (memoryAt p (f .last .0)) (e .ensures) (f .ensures) (memoryAt p (g .last .0)) (g .ensures)
+    physical-is p rows (a .eps .now) (memoryAt p (a .work .now)) (memoryAt p (e .last .0)) (memoryAt p (f .last .0)) (e .ensures)
+    (f .ensures) (memoryAt p (g .last .0)) (g .ensures)
 
 pub put-physical-spec : {M : Type 1} → statement M
 put-physical-spec = tie.close (tie.spec (λ c κs. search needs) (λ c κs. search needs) rebuild-requires (λ c. search needs) returns)

@@ -13,7 +13,8 @@ use Rattle.selected_axes.proofs.Placed.{points-numbers, points-written}
 use Rattle.selected_axes.proofs.finish.put_points.Statement.{statement}
 use Rattle.selected_axes.proofs.finish.put_points.Tie as tie
 
-numbers : (c : tie.After-slice-known) → let a = c .before .args in (a .p .samples * a .p .axes ≤ 320256) × (a .p .room + a .p .samples * a .p .axes ≤ length (a .work .now))
+numbers : (c : tie.After-slice-known) → let a = c .before .args in (a .p .samples * a .p .axes ≤ 320256)
+    × (a .p .room + a .p .samples * a .p .axes ≤ length (a .work .now))
 numbers c =
     let s = c .before in points-numbers (s .args .p) (s .args .work .now) (s .pre .0)
 
@@ -30,7 +31,8 @@ returns c =
     let p = s .args .p in
     let w = s .args .work .now in
     let v = c .before .before .put-rows in
-    let n = length-window (p .room) (p .room + p .samples * p .axes) w (omega arith) (numbers (c .before .before .before .before .before) .1) in
+    let n = length-window (p .room) (p .room + p .samples * p .axes) w (omega arith)
+    (numbers (c .before .before .before .before .before) .1) in
     points-written p w (s .pre .0) (v .last .0) (omega (arith, n)) ∙ ap (λ (l : List Float). withPoints l (memoryAt p w)) (v .ensures)
 
 pub put-points-spec : {M : Type 1} → statement M

@@ -25,13 +25,17 @@ unfolding curved
 returns c =
     let a = c .before .before .before .before .before .before .args in
     let l = c .before .before .before .loop in
-    sym (any-found (strayed (taskOver (a .n) (a .d) (a .s .now) (a .y .now))) (a .n) (l .i) (omega arith) (sym (c .before .strays .ensures) ∙ c .if1 .taken))
+    sym (any-found (strayed (taskOver (a .n) (a .d) (a .s .now) (a .y .now))) (a .n) (l .i) (omega arith)
+    (sym (c .before .strays .ensures) ∙ c .if1 .taken))
 
 loop-again : tie.Need-loop-again Inv-loop μ-loop
 loop-again c =
     let a = c .before .before .before .before .before .before .args in
-    let l = c .before .before .before .loop in
-    (omega arith, any-next (strayed (taskOver (a .n) (a .d) (a .s .now) (a .y .now))) (l .i) (l .inv .1) (sym (c .before .strays .ensures) ∙ c .if1 .left))
+    let l = c .before .before .before .loop in (
+      omega arith,
+      any-next (strayed (taskOver (a .n) (a .d) (a .s .now) (a .y .now))) (l .i) (l .inv .1)
+          (sym (c .before .strays .ensures) ∙ c .if1 .left),
+    )
 
 returns-2 : tie.Need-returns-2 Inv-loop μ-loop
 unfolding curved

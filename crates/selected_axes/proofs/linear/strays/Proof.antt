@@ -41,8 +41,12 @@ mul-last c =
 loop-holds : tie.Need-loop-holds Inv-loop μ-loop
 unfolding any
 loop-holds c =
-    let k = c .before .before .before in
-    (omega arith, row-end (k .args .i) (k .args .n) (k .args .d) _ (k .pre .0) (k .pre .2), row-end (k .args .n - 1) (k .args .n) (k .args .d) _ (omega arith) (k .pre .2), refl)
+    let k = c .before .before .before in (
+      omega arith,
+      row-end (k .args .i) (k .args .n) (k .args .d) _ (k .pre .0) (k .pre .2),
+      row-end (k .args .n - 1) (k .args .n) (k .args .d) _ (omega arith) (k .pre .2),
+      refl,
+    )
 
 returns : tie.Need-returns Inv-loop μ-loop
 unfolding chordError ofBits round
@@ -50,15 +54,21 @@ returns c =
     let a = c .before .before .before .before .before .before .before .before .before .args in
     let l = c .before .before .before .before .before .loop in
     let q = taskOver (a .n) (a .d) (a .s .now) (a .y .now) in
-    sym (any-found (test q (a .i)) (a .d) (l .a) (omega arith) (tested q (a .i) (l .a) (c .before .abs .result) true (c .before .abs .ensures) (c .if1 .taken)))
+    sym (any-found (test q (a .i)) (a .d) (l .a) (omega arith)
+    (tested q (a .i) (l .a) (c .before .abs .result) true (c .before .abs .ensures) (c .if1 .taken)))
 
 loop-again : tie.Need-loop-again Inv-loop μ-loop
 unfolding chordError ofBits round
 loop-again c =
     let a = c .before .before .before .before .before .before .before .before .before .args in
     let l = c .before .before .before .before .before .loop in
-    let q = taskOver (a .n) (a .d) (a .s .now) (a .y .now) in
-    (omega arith, l .inv .1, l .inv .2, any-next (test q (a .i)) (l .a) (l .inv .3) (tested q (a .i) (l .a) (c .before .abs .result) false (c .before .abs .ensures) (c .if1 .left)))
+    let q = taskOver (a .n) (a .d) (a .s .now) (a .y .now) in (
+      omega arith,
+      l .inv .1,
+      l .inv .2,
+      any-next (test q (a .i)) (l .a) (l .inv .3)
+          (tested q (a .i) (l .a) (c .before .abs .result) false (c .before .abs .ensures) (c .if1 .left)),
+    )
 
 returns-2 : tie.Need-returns-2 Inv-loop μ-loop
 returns-2 c =

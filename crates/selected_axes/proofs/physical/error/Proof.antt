@@ -30,7 +30,8 @@ loop-holds c =
     let e : a .n ≡ a .n + 1 - 1 = omega arith in
     (omega arith, ap (λ (k : ℕ). each (turn (a .bounds .now) (a .d) (a .a)) 0 k +0) e)
 
-within : (c : tie.In-loop Inv-loop μ-loop) → let a = c .before .before .before .args in c .before .loop .i * a .d + a .a + 1 ≤ length (a .bounds .now)
+within : (c : tie.In-loop Inv-loop μ-loop) → let a = c .before .before .before .args in c .before .loop .i * a .d + a .a + 1 ≤ length
+    (a .bounds .now)
 within c =
     let s = c .before .before .before in
     omega (arith, row-end (c .before .loop .i) (s .args .n) (s .args .d) (length (s .args .bounds .now)) (c .loop-test .taken) (s .pre .1))

@@ -28,8 +28,13 @@ loop-again c =
     let a = c .before .before .before .before .args in
     let l = c .before .before .loop in
     let f = errorOf (a .n + 1) (a .d) (a .bounds .now) in
-    let one : take (l .a + 1) (lib.ListN.set (l .e) (l .a) (c .error .result)) ≡ take (l .a) (l .e) ++ (c .error .result ∷ []) = rw add-one (take-suc-set (l .e) (l .a) (c .error .result) (omega arith)) in
-    (omega arith, simp length-set (l .inv .1), one ∙ ap (λ (k : List Float). k ++ (c .error .result ∷ [])) (l .inv .2) ∙ ap (λ (v : Float). listOf (l .a) f ++ (v ∷ [])) (c .error .ensures) ∙ sym (list-more (l .a) f))
+    let one : take (l .a + 1) (lib.ListN.set (l .e) (l .a) (c .error .result))
+    ≡ take (l .a) (l .e) ++ (c .error .result ∷ []) = rw add-one (take-suc-set (l .e) (l .a) (c .error .result) (omega arith)) in (
+      omega arith,
+      simp length-set (l .inv .1),
+      one ∙ ap (λ (k : List Float). k ++ (c .error .result ∷ [])) (l .inv .2)
+          ∙ ap (λ (v : Float). listOf (l .a) f ++ (v ∷ [])) (c .error .ensures) ∙ sym (list-more (l .a) f),
+    )
 
 returns : tie.Need-returns Inv-loop μ-loop
 returns c =

@@ -29,7 +29,8 @@ returns : tie.Need-returns Inv-loop μ-loop
 returns c =
     let a = c .before .before .before .before .before .args in
     let l = c .before .before .before .before .loop in
-    sym (any-found (test (a .eps .now) (a .errors .now)) (a .d) (l .a) (omega arith) (c .if1 .taken)) ∙ excessive-is (a .eps .now) (a .errors .now) (a .d)
+    sym (any-found (test (a .eps .now) (a .errors .now)) (a .d) (l .a) (omega arith) (c .if1 .taken))
+    ∙ excessive-is (a .eps .now) (a .errors .now) (a .d)
 
 loop-again : tie.Need-loop-again Inv-loop μ-loop
 loop-again c =
@@ -42,7 +43,8 @@ returns-2 c =
     let a = c .before .before .args in
     let l = c .before .loop in
     let e : l .a ≡ a .d = omega arith in
-    sym (ap (λ (k : ℕ). any k (test (a .eps .now) (a .errors .now))) (sym e) ∙ l .inv .1) ∙ excessive-is (a .eps .now) (a .errors .now) (a .d)
+    sym (ap (λ (k : ℕ). any k (test (a .eps .now) (a .errors .now))) (sym e) ∙ l .inv .1)
+    ∙ excessive-is (a .eps .now) (a .errors .now) (a .d)
 
 pub is-excessive-spec : {M : Type 1} → statement M
 is-excessive-spec =

@@ -18,7 +18,8 @@ abbrev cell : List Float → ℕ → ℕ → List Float → ℕ → Float
 cell w to first eps a = scaled (at w (to + a)) (at eps a) (at w (first + a))
 
 abbrev Inv-loop : tie.InvT-loop
-Inv-loop work₀ to first d eps a₀ work a = (a ≤ d) × (work ≡ written to (listOf a (cell work₀ to first eps)) work₀) × (length work ≡ length work₀)
+Inv-loop work₀ to first d eps a₀ work a =
+    (a ≤ d) × (work ≡ written to (listOf a (cell work₀ to first eps)) work₀) × (length work ≡ length work₀)
 
 abbrev μ-loop : tie.MeasureT-loop
 μ-loop work₀ to first d eps a₀ work a = d - a
@@ -26,7 +27,12 @@ abbrev μ-loop : tie.MeasureT-loop
 loop-holds : tie.Need-loop-holds Inv-loop μ-loop
 loop-holds c =
     let a = c .args in
-    (omega arith, sym (written-none (a .to) (a .work .now)) ∙ ap (λ (l : List Float). written (a .to) l (a .work .now)) (sym (list-none (cell (a .work .now) (a .to) (a .first) (a .eps .now)))), refl)
+    let w = a .work .now in (
+      omega arith,
+      sym (written-none (a .to) w)
+          ∙ ap (λ (l : List Float). written (a .to) l w) (sym (list-none (cell w (a .to) (a .first) (a .eps .now)))),
+      refl,
+    )
 
 loop-again : tie.Need-loop-again Inv-loop μ-loop
 loop-again c =
@@ -36,12 +42,16 @@ loop-again c =
     let f = cell w (a .to) (a .first) (a .eps .now) in
     let v = listOf (l .a) f in
     let n = list-length (l .a) f in
-    let here : at (l .work) (a .to + l .a) ≡ at w (a .to + l .a) = ap (λ (k : List Float). at k (a .to + l .a)) (l .inv .1) ∙ behind-written (a .to) v w nan (a .to + l .a) (omega arith) (omega arith) in
-    let there : at (l .work) (a .first + l .a) ≡ at w (a .first + l .a) = ap (λ (k : List Float). at k (a .first + l .a)) (l .inv .1) ∙ before-written (a .to) v w nan (a .first + l .a) (omega arith) (omega arith) in
+    let here : at (l .work) (a .to + l .a) ≡ at w (a .to + l .a) = ap (λ (k : List Float). at k (a .to + l .a)) (l .inv .1)
+    ∙ behind-written (a .to) v w nan (a .to + l .a) (omega arith) (omega arith) in
+    let there : at (l .work) (a .first + l .a) ≡ at w (a .first + l .a) = ap (λ (k : List Float). at k (a .first + l .a)) (l .inv .1)
+    ∙ before-written (a .to) v w nan (a .first + l .a) (omega arith) (omega arith) in
     let e = at (a .eps .now) (l .a) in (
       omega arith,
-      cell-next (a .to) (l .a) f (l .work) w (scaled (at (l .work) (a .to + l .a)) e (at (l .work) (a .first + l .a))) (omega arith) (l .inv .1)
-          (ap (λ (x : Float). scaled x e (at (l .work) (a .first + l .a))) here ∙ ap (λ (x : Float). scaled (at w (a .to + l .a)) e x) there),
+      cell-next (a .to) (l .a) f (l .work) w (scaled (at (l .work) (a .to + l .a)) e (at (l .work) (a .first + l .a))) (omega arith)
+          (l .inv .1)
+          (ap (λ (x : Float). scaled x e (at (l .work) (a .first + l .a))) here
+          ∙ ap (λ (x : Float). scaled (at w (a .to + l .a)) e x) there),
       simp length-set (omega arith),
     )
 

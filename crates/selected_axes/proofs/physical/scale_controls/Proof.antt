@@ -18,7 +18,8 @@ abbrev cell : List Float → ℕ → ℕ → ℕ → List Float → ℕ → ℕ 
 cell w to d first eps i a = scaled (at w (to + i * d + a)) (at eps a) (at w (first + a))
 
 abbrev Inv-loop : tie.InvT-loop
-Inv-loop work₀ to m first d eps i₀ work i = (i ≤ m) × (work ≡ written to (table i d (cell work₀ to d first eps)) work₀) × (length work ≡ length work₀)
+Inv-loop work₀ to m first d eps i₀ work i =
+    (i ≤ m) × (work ≡ written to (table i d (cell work₀ to d first eps)) work₀) × (length work ≡ length work₀)
 
 abbrev μ-loop : tie.MeasureT-loop
 μ-loop work₀ to m first d eps i₀ work i = m - i
@@ -26,10 +27,15 @@ abbrev μ-loop : tie.MeasureT-loop
 loop-holds : tie.Need-loop-holds Inv-loop μ-loop
 loop-holds c =
     let a = c .before .args in
-    let w = a .work .now in
-    (omega arith, sym (written-none (a .to) w) ∙ ap (λ (l : List Float). written (a .to) l w) (sym (table-none (a .d) (cell w (a .to) (a .d) (a .first) (a .eps .now)))), refl)
+    let w = a .work .now in (
+      omega arith,
+      sym (written-none (a .to) w) ∙ ap (λ (l : List Float). written (a .to) l w)
+          (sym (table-none (a .d) (cell w (a .to) (a .d) (a .first) (a .eps .now)))),
+      refl,
+    )
 
-within : (c : tie.In-loop Inv-loop μ-loop) → let a = c .before .before .before .args in a .to + c .before .loop .i * a .d + a .d ≤ length (a .work .now)
+within : (c : tie.In-loop Inv-loop μ-loop) → let a = c .before .before .before .args in a .to + c .before .loop .i * a .d + a .d ≤ length
+    (a .work .now)
 within c =
     let s = c .before .before .before in
     let a = s .args in
@@ -50,12 +56,16 @@ loop-again c =
     let n = table-length (l .i) (a .d) F in
     let k = within (c .before .before .before .before) in
     let here : (j : ℕ) → j < a .d → at (l .work) (a .to + l .i * a .d + j) ≡ at w (a .to + l .i * a .d + j) =
-    λ j h. ap (λ (z : List Float). at z (a .to + l .i * a .d + j)) (l .inv .1) ∙ behind-written (a .to) v w nan (a .to + l .i * a .d + j) (omega arith) (omega arith) in
+    λ j h. ap (λ (z : List Float). at z (a .to + l .i * a .d + j)) (l .inv .1)
+    ∙ behind-written (a .to) v w nan (a .to + l .i * a .d + j) (omega arith) (omega arith) in
     let there : (j : ℕ) → j < a .d → at (l .work) (a .first + j) ≡ at w (a .first + j) =
-    λ j h. ap (λ (z : List Float). at z (a .first + j)) (l .inv .1) ∙ before-written (a .to) v w nan (a .first + j) (omega arith) (omega arith) in (
+    λ j h. ap (λ (z : List Float). at z (a .first + j)) (l .inv .1)
+    ∙ before-written (a .to) v w nan (a .first + j) (omega arith) (omega arith) in (
       omega arith,
-      row-next (a .to) (a .d) (l .i) F (λ j. scaled (at (l .work) (a .to + l .i * a .d + j)) (at eps j) (at (l .work) (a .first + j))) (l .work) (c .before .before .scale-control .last .0) w (omega arith) (l .inv .1) (c .before .before .scale-control .ensures)
-          (λ j h. ap (λ (z : Float). scaled z (at eps j) (at (l .work) (a .first + j))) (here j h) ∙ ap (λ (z : Float). scaled (at w (a .to + l .i * a .d + j)) (at eps j) z) (there j h)),
+      row-next (a .to) (a .d) (l .i) F (λ j. scaled (at (l .work) (a .to + l .i * a .d + j)) (at eps j) (at (l .work) (a .first + j)))
+          (l .work) (c .before .before .scale-control .last .0) w (omega arith) (l .inv .1) (c .before .before .scale-control .ensures)
+          (λ j h. ap (λ (z : Float). scaled z (at eps j) (at (l .work) (a .first + j))) (here j h)
+          ∙ ap (λ (z : Float). scaled (at w (a .to + l .i * a .d + j)) (at eps j) z) (there j h)),
       omega arith,
     )
 
@@ -64,7 +74,8 @@ returns c =
     let a = c .before .before .before .args in
     let l = c .before .loop in
     let e : l .i ≡ a .m = omega arith in
-    l .inv .1 ∙ ap (λ (k : ℕ). written (a .to) (table k (a .d) (cell (a .work .now) (a .to) (a .d) (a .first) (a .eps .now))) (a .work .now)) e
+    l .inv .1 ∙ ap (λ (k : ℕ). written (a .to) (table k (a .d) (cell (a .work .now) (a .to) (a .d) (a .first) (a .eps .now)))
+    (a .work .now)) e
 
 pub scale-controls-spec : {M : Type 1} → statement M
 scale-controls-spec =

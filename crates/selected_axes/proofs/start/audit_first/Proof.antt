@@ -16,7 +16,8 @@ returns c =
     let n = c .before .before .number-of in
     let v = c .before .before .before .before .before .audit-in in
     let f = c .before .before .before .before .before .before .before .before .before .before .rebuild in
-    let e = audit-made p (memoryAt p (a .work .now)) (memoryAt p (f .last .0)) (memoryAt p (v .last .0)) (n .result) (v .result .checked) (v .result .outcome) (countsOf (a .report)) (f .ensures) (n .ensures) (v .ensures .0) (v .ensures .1 .0) in
+    let e = audit-made p (memoryAt p (a .work .now)) (memoryAt p (f .last .0)) (memoryAt p (v .last .0)) (n .result) (v .result .checked)
+    (v .result .outcome) (countsOf (a .report)) (f .ensures) (n .ensures) (v .ensures .0) (v .ensures .1 .0) in
     (e .0, (e .1, (refl, refl, omega (arith, v .ensures .1 .1, s .pre .0 .waypoints-fit, s .pre .0 .small, s .pre .2))))
 
 pub audit-first-spec : {M : Type 1} → statement M

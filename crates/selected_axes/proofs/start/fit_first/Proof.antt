@@ -23,7 +23,8 @@ returns c =
     let e = c .ended-of in
     let r = e .result .report in
     let n = fit-few p (a .work .now) (s .pre .0) 1 _ (answerOf (f .result)) firstStrength (f .ensures .0) in (
-      fit-made p x x₁ (answerOf (f .result)) (e .result .number) (r .refinements) (r .rows) (r .intervals) (sym (s .pre .1) ∙ c .before .before .before .before .before .before .if1 .taken) (f .ensures .0) (f .ensures .1) (e .ensures),
+      fit-made p x x₁ (answerOf (f .result)) (e .result .number) (r .refinements) (r .rows) (r .intervals)
+          (sym (s .pre .1) ∙ c .before .before .before .before .before .before .if1 .taken) (f .ensures .0) (f .ensures .1) (e .ensures),
       (controls-changed p x x₁ _ (f .ensures .1), (e .ensures .1, omega (arith, n .1, e .ensures .2), e .ensures .3)),
     )
 

@@ -14,8 +14,12 @@ seed-requires c κs =
     let s = c .before .before .before .before .before in
     let k = c .before .before .before .block-of in
     let q = products (s .args .p) (length (s .args .work .now)) (s .pre .0) in
-    let r = s .pre .0 in
-    (r .few, omega (arith, r .waypoints-fit), omega (arith, q .points, k .ensures .0), omega (arith, r .waypoints-fit, r .cells-fit, r .knots-fit, k .ensures .0))
+    let r = s .pre .0 in (
+      r .few,
+      omega (arith, r .waypoints-fit),
+      omega (arith, q .points, k .ensures .0),
+      omega (arith, r .waypoints-fit, r .cells-fit, r .knots-fit, k .ensures .0),
+    )
 
 returns : tie.Need-returns
 unfolding seededCells
@@ -23,7 +27,8 @@ returns c =
     let s = c .before .before .before .before .before .before .before .before in
     let k = c .before .before .before .before .before .before .block-of in
     let v = c .before .before .seed in
-    knots-put (s .args .p) (s .args .work .now) (s .pre .0) (k .result) (v .result) (v .last .0) _ (k .ensures .0) (sym (s .pre .1) ∙ c .before .before .before .before .if1 .taken) (v .ensures .0) (v .ensures .1)
+    knots-put (s .args .p) (s .args .work .now) (s .pre .0) (k .result) (v .result) (v .last .0) _ (k .ensures .0)
+    (sym (s .pre .1) ∙ c .before .before .before .before .if1 .taken) (v .ensures .0) (v .ensures .1)
 
 returns-2 : tie.Need-returns-2
 returns-2 c =

@@ -1,6 +1,6 @@
 -- `start::start` meets its contract.
 use mathlib.Core.Path.{_≡_, refl}
-use Prim.Native.Nat.{_+_, _-_, _*_, _≤_}
+use Prim.Native.Nat.{ℕ, _+_, _-_, _*_, _≤_}
 use native.Mathlib.Omega.{arith}
 use borrow.Author.Needs.{needs}
 use lib.ListN.{length}
@@ -13,57 +13,90 @@ use Rattle.selected_axes.proofs.Starting.{start-many, Chord, bent-is, s
 use Rattle.selected_axes.proofs.start.start.Statement.{statement}
 use Rattle.selected_axes.proofs.start.start.Tie as tie
 
-few : (c : tie.After-put-knots) → c .put-knots .result ≤ 3 * (c .before .before .before .before .before .args .p .samples - 2)
+-- where it began
+abbrev begun : tie.After-put-knots → tie.Start
+begun c = c .before .before .before .before .before
+
+few : (c : tie.After-put-knots) → c .put-knots .result ≤ 3 * (begun c .args .p .samples - 2)
 few c =
-    let s = c .before .before .before .before .before in
-    let a = s .args in
-    let r = s .pre .0 in
-    omega (arith, c .put-knots .ensures .1 .0, first-knots-few (taskIn (a .p) (memoryAt (a .p) (a .work .now))) (lengths (a .p) (a .work .now) r .s) (r .two))
-
--- 8 did not refuse
-roomy : (c : tie.Else1) → let a = c .before .before .before .before .before .before .before .before .args in Roomy (sized (a .p) (c .before .before .before .put-knots .result + 6)) (length (a .work .now))
-roomy c =
-    let s = c .before .before .before .before .before .before .before .before in
-    let a = s .args in
-    roomy-few (a .p) (length (a .work .now)) (c .before .before .before .put-knots .result + 6) (a .segments) (s .pre .0) (omega arith) (omega (arith, c .if1 .left)) (s .pre .1)
-
-chord : (c : tie.After-begin) → let a = c .before .before .before .before .before .before .before .before .before .before .args in
-    let k = c .before .before .before .before .before .put-knots in
-    Chord (a .p) (k .result) (a .work .now) (k .last .0) (memoryAt (sized (a .p) (k .result + 6)) (c .begin .last .0))
-chord c =
-    let k = c .before .before .before .before .before .put-knots in
-    record { inner = k .ensures .0; many = k .ensures .1 .0; task = k .ensures .1 .1; chord = c .begin .ensures .0; task₂ = c .begin .ensures .1 }
+    let a = begun c .args in
+    let r = begun c .pre .0 in
+    let k = first-knots-few (taskIn (a .p) (memoryAt (a .p) (a .work .now))) (lengths (a .p) (a .work .now) r .s) (r .two) in
+    omega (arith, c .put-knots .ensures .1 .0, k)
 
 returns : tie.Need-returns
 returns c =
-    let a = c .before .before .before .before .before .before .before .before .args in
-    let k = c .before .before .before .put-knots in (
+    let b = c .before .before .before in
+    let a = begun b .args in
+    let k = b .put-knots in (
       start-many (a .segments) (k .result) (taskIn (a .p) (memoryAt (a .p) (a .work .now))) _ (k .ensures .1 .0) (c .if1 .taken),
       (λ h. absurd (omega arith), (refl, omega arith, omega arith)),
     )
 
+-- 8 did not refuse
+abbrev put : tie.Else1 → tie.After-put-knots
+put c = c .before .before .before
+
+abbrev count : tie.Else1 → ℕ
+count c = put c .put-knots .result + 6
+
+roomy : (c : tie.Else1) → let a = begun (put c) .args in Roomy (sized (a .p) (count c)) (length (a .work .now))
+roomy c =
+    let s = begun (put c) in
+    let a = s .args in
+    roomy-few (a .p) (length (a .work .now)) (count c) (a .segments) (s .pre .0) (omega arith) (omega (arith, c .if1 .left)) (s .pre .1)
+
 begin-requires : tie.Need-begin-requires
 begin-requires c κs =
-    let same : length (c .before .before .before .before .put-knots .last .0) ≡ length (c .before .before .before .before .before .before .before .before .before .args .work .now) = omega arith in rw same (roomy (c .before))
+    let b = put (c .before) in
+    let same : length (b .put-knots .last .0) ≡ length (begun b .args .work .now) = omega arith in
+    rw same (roomy (c .before))
+
+-- the chord was put
+abbrev passed : tie.After-begin → tie.Else1
+passed c = c .before .before
+
+chord : (c : tie.After-begin) → let b = put (passed c) in let a = begun b .args in
+    Chord (a .p) (b .put-knots .result) (a .work .now) (b .put-knots .last .0)
+    (memoryAt (sized (a .p) (count (passed c))) (c .begin .last .0))
+chord c =
+    let k = put (passed c) .put-knots in
+    record {
+      inner = k .ensures .0;
+      many = k .ensures .1 .0;
+      task = k .ensures .1 .1;
+      chord = c .begin .ensures .0;
+      task₂ = c .begin .ensures .1;
+    }
 
 first-state-requires : tie.Need-first-state-requires
 first-state-requires c κs =
-    let b = c .before .before .before .before .before .before .before .before .before .before .is-curved in
-    let e = chord (c .before .before .before) in
-    let same : length (c .before .before .before .begin .last .0) ≡ length (c .before .before .before .before .before .before .before .before .before .before .before .before .before .args .work .now) = omega arith in
-    (rw same (roomy (c .before .before .before .before .before)), bent-is e (b .result) (b .ensures), wide _ _ (start-rises e (c .before .before .before .before .before .before .before .before .before .before .before .before .slice-known .given)))
+    let g = c .before .before .before in
+    let k = put (passed g) in
+    let b = k .before .before .is-curved in
+    let e = chord g in
+    let same : length (g .begin .last .0) ≡ length (begun k .args .work .now) = omega arith in (
+      rw same (roomy (passed g)),
+      bent-is e (b .result) (b .ensures),
+      wide _ _ (start-rises e (k .before .before .before .before .slice-known .given)),
+    )
 
 returns-2 : tie.Need-returns-2
 returns-2 c =
-    let a = c .before .before .before .before .before .before .before .before .before .before .before .before .before .before .before .before .before .args in
+    let g = c .before .before .before .before .before .before .before in
+    let k = put (passed g) in
+    let a = begun k .args in
     let v = c .before .before .before .first-state in
-    let e = chord (c .before .before .before .before .before .before .before) in
-    let less = c .before .before .before .before .before .before .before .before .before .if1 .left in
+    let e = chord g in
+    let less = passed g .if1 .left in
     let same : length (v .last .0) ≡ length (a .work .now) = omega arith in (
       start-made e (a .segments) _ less (v .ensures .0),
       (
-        λ h. let t = start-keeps e (memoryAt (sized (a .p) (c .before .before .before .before .before .before .before .before .before .before .before .before .put-knots .result + 6)) (v .last .0)) (c .before .before .before .before .before .before .before .before .before .before .before .before .before .before .before .before .slice-known .given) (v .ensures .1 .0 h) in
-            (t .0, t .1, t .2, rw same (roomy (c .before .before .before .before .before .before .before .before .before)), omega (arith, less)),
+        λ h.
+            let t = start-keeps e (memoryAt (sized (a .p) (count (passed g))) (v .last .0))
+            (k .before .before .before .before .slice-known .given)
+            (v .ensures .1 .0 h) in
+            (t .0, t .1, t .2, rw same (roomy (passed g)), omega (arith, less)),
         v .ensures .1 .1,
       ),
     )
@@ -74,12 +107,15 @@ start-spec =
     (tie.spec
     (λ c κs. search needs)
     (λ c κs. search needs)
-    (λ c. omega (arith, few (c .before .before), c .before .before .before .before .before .before .before .pre .0 .waypoints-fit, c .before .before .before .before .before .before .before .pre .0 .small))
+    (λ c. let k = c .before .before in omega (arith, few k, begun k .pre .0 .waypoints-fit, begun k .pre .0 .small))
     (λ c. search needs)
     returns
-    (λ c. omega (arith, few (c .before .before .before), c .before .before .before .before .before .before .before .before .pre .0 .waypoints-fit, c .before .before .before .before .before .before .before .before .pre .0 .small))
+    (λ c. let k = put c in omega (arith, few k, begun k .pre .0 .waypoints-fit, begun k .pre .0 .small))
     begin-requires
     first-state-requires
-    (λ c. omega (arith, c .before .before .before .before .before .before .before .before .before .if1 .left, c .before .before .before .before .before .before .before .before .before .before .before .before .before .before .before .before .before .pre .1, c .before .before .before .before .before .before .before .before .before .before .before .before .before .before .before .before .before .pre .0 .small))
+    (λ c.
+    let g = passed (c .before .before .before .before .before .before .before) in
+    let s = begun (put g) in
+    omega (arith, g .if1 .left, s .pre .1, s .pre .0 .small))
     (λ c. search needs)
     returns-2)
