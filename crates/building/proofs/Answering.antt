@@ -4,66 +4,62 @@ use mathlib.Core.Bool.{Bool, true, false, not, cond, _||_}
 use mathlib.Core.List.{List}
 use Prim.Native.Nat.{ℕ, _+_, _-_, _*_, _≤_, _<_, max}
 use native.Mathlib.Omega.{arith}
-use borrow.Author.Tests.{ltb-false, eq-eqb, ne-eqb}
-use lib.Dec.{eqb, ltb}
+use native.Mathlib.Decide.{ℕ-discrete}
+use borrow.Author.Tests.{eqb-true, ne-eqb}
+use lib.Dec.{eqb}
 use lib.ListN.{length}
 use lib.Ieee.{Float}
 use Rattle.curve.specs.declared.Curve.{Curve}
 use Rattle.curve.specs.declared.Mode.{Mode}
-use Rattle.request.proofs.Anys.{or-none}
 use Rattle.smoothing.specs.Answer.{Answer}
 use Rattle.smoothing.specs.Answer.Answer.{done, refused, exhausted}
 use Rattle.smoothing.specs.Request.{Lane, Limits}
-use Rattle.smoothing.specs.Checks.{wideLane, wideLimits, miscountedPoints, Room, shortRoom}
+use Rattle.smoothing.specs.Checks.{wideLane, wideLimits, miscountedPoints, shortRoom}
 use Rattle.smoothing.specs.Build.{Result, checkedOf, answerOf, buildIn}
+use Rattle.checks.specs.Checks.{refusalFirst}
+use Rattle.checks.proofs.Domain.{sized}
 use Rattle.building.specs.declared.Report.{Report}
 use Rattle.building.specs.Outcome.{noCurve, reported, curveAfter, Results, lengthsOf, resultsAfter, workAfter}
-use Rattle.building.specs.Answered.{answerTo, Domain, Fitting}
+use Rattle.building.specs.Answered.{answerTo}
+
+-- 18, 20 or 19
+abbrev pub First : ℕ → Type 0
+First n = (eqb n 18 || eqb n 20 || eqb n 19) ≡ true
 
 module _ (l : Lane) (m : Limits) (w : List Float) (s : Results) where
-  pub answer-18 : (wideLane l || wideLimits m) ≡ true → answerTo l m w s ≡ refused 18
+  abbrev number : ℕ
+  number = refusalFirst (lengthsOf w s) l m
+
+  pub first-refused : 0 < number → (answerTo l m w s ≡ refused number) × First number
+  unfolding refusalFirst buildIn answerOf
+  first-refused h = go (wideLane l || wideLimits m) (miscountedPoints l) (shortRoom (lengthsOf w s) l m) h
+    where
+      go : (a b c : Bool) → let n : ℕ = cond a 18 (cond b 20 (cond c 19 0)) in 0 < n
+          → (cond a (refused 18) (cond b (refused 20) (cond c (refused 19) (checkedOf l m))) ≡ refused n) × First n
+      go true b c h = (refl, refl)
+      go false true c h = (refl, refl)
+      go false false true h = (refl, refl)
+      go false false false h = absurd (omega arith)
+
+  pub answer-on : number ≡ 0 → answerTo l m w s ≡ checkedOf l m
   unfolding buildIn answerOf
-  answer-18 e = rw e refl
+  answer-on h = let p = sized (lengthsOf w s) l m h in rw (p .narrow, p .counted, p .roomy) refl
 
-  pub answer-20 : (wideLane l || wideLimits m) ≡ false → (length (l .points) ≡ l .d * l .n → ⊥) → answerTo l m w s ≡ refused 20
-  unfolding buildIn answerOf miscountedPoints
-  answer-20 e f = let g = ne-eqb (length (l .points)) (l .d * l .n) f in rw (e, g) refl
-
-  pub answer-19 : (wideLane l || wideLimits m) ≡ false → length (l .points) ≡ l .d * l .n → shortRoom (lengthsOf w s) l m ≡ true
-      → answerTo l m w s ≡ refused 19
-  unfolding buildIn answerOf miscountedPoints
-  answer-19 e f h = let g = eq-eqb (length (l .points)) (l .d * l .n) f in rw (e, g, h) refl
-
-  pub answer-on : (wideLane l || wideLimits m) ≡ false → length (l .points) ≡ l .d * l .n → shortRoom (lengthsOf w s) l m ≡ false
-      → answerTo l m w s ≡ checkedOf l m
-  unfolding buildIn answerOf miscountedPoints
-  answer-on e f h = let g = eq-eqb (length (l .points)) (l .d * l .n) f in rw (e, g, h) refl
-
--- what they let through
-pub in-domain : (l : Lane) (m : Limits) → (wideLane l || wideLimits m) ≡ false
-    → (l .d ≤ 16) × (l .n ≤ 20000) × (m .segments ≤ 20000) × (m .refinements ≤ 200)
-unfolding wideLane wideLimits
-in-domain l m e =
-    let a = or-none _ _ e in
-    let b = or-none _ _ (a .0) in
-    let c = or-none _ _ (a .1) in
-    (ltb-false _ _ (b .0), ltb-false _ _ (b .1), ltb-false _ _ (c .0), ltb-false _ _ (c .1))
-
-pub has-room : (room : Room) (l : Lane) (m : Limits) → shortRoom room l m ≡ false
-    → ((max (l .n) (m .segments) + 16) * (16 * l .d + 32) ≤ room .work) × (m .segments + 1 ≤ room .breaks) × (m .segments * (6 * l .d) ≤ room .coefficients)
-    × (l .n ≤ room .otherBreaks) × (l .n * (6 * l .d) ≤ room .otherCoefficients) × (l .d ≤ room .errors)
-unfolding shortRoom
-has-room room l m e =
-    let a = or-none _ _ e in
-    let b = or-none _ _ (a .0) in
-    let c = or-none _ _ (b .0) in
-    let f = or-none _ _ (c .0) in
-    let g = or-none _ _ (f .0) in
-    (ltb-false _ _ (g .0), ltb-false _ _ (g .1), ltb-false _ _ (f .1), ltb-false _ _ (c .1), ltb-false _ _ (b .1), ltb-false _ _ (a .1))
+pub first-known : (n : ℕ) → First n → (1 ≤ n) × (n ≤ 20) × (n ≡ 14 → ⊥)
+first-known n h = elim (ℕ-discrete n 18) [
+  | yes e ↦ (omega arith, omega arith, λ z. omega arith)
+  | no e ↦
+      elim (ℕ-discrete n 20) [
+        | yes f ↦ (omega arith, omega arith, λ z. omega arith)
+        | no f ↦
+            let g : n ≡ 19 = eqb-true n 19 (sym (rw (ne-eqb n 18 e, ne-eqb n 20 f) refl) ∙ h) in
+            (omega arith, omega arith, λ z. omega arith)
+      ]
+]
 
 -- a request that 18, 20 or 19 turned away: nothing was touched
 pub turned-away : (x : Answer Result) (n : ℕ) (mode : Mode) (d : ℕ) (o : Answer Report) (c : Curve) (w : List Float) (s : Results)
-    → x ≡ refused n → (eqb n 18 || eqb n 20 || eqb n 19) ≡ true
+    → x ≡ refused n → First n
     → (o ≡ refused n) × (c ≡ noCurve mode) → (o ≡ reported x) × ((c ≡ curveAfter mode d x) × ((w ≡ workAfter x w) × (s ≡ resultsAfter x s)))
 unfolding reported curveAfter workAfter resultsAfter
 turned-away x n mode d o c w s e u h = (

@@ -31,6 +31,7 @@ use Rattle.refinement.specs.Memory.{Roomy, cellsOf, breaksPlace, memoryAt, size
 use Rattle.building.specs.declared.Report.{Report}
 use Rattle.building.specs.declared.compute.Computed.{Computed}
 use Rattle.building.specs.declared.entry.Run.{Run}
+use Rattle.interpolation.specs.declared.Nodes.{Nodes}
 use Rattle.interpolation.specs.Memory.{breaksPlace as otherBreaksPlace, polynomialIn}
 use Rattle.building.specs.Outcome.{reportOf, Results, resultsAfter, workAfter}
 use Rattle.building.specs.Computed.{Both, both, bothFrom, withOther, selectedAt, otherAt}
@@ -58,23 +59,25 @@ module _ (l : Lane) (m : Limits) where
   unfolding checkedOf smoothedOf checkedBoth bothFrom withOther andThen
   checked-both = go (eqb (refusalOf l) 0)
     where
-      go : (b : Bool)
-          → cond b (andThen (selectedOf m (laneTask l) (laneUnits l)) (λ s. andThen (otherOf l) (λ p. done (resultOf l s p)))) (refused (refusalOf l))
-          ≡ andThen (cond b (andThen (selectedOf m (laneTask l) (laneUnits l)) (λ s. andThen (otherOf l) (λ p. done (both s p)))) (refused (refusalOf l))) told
+      go : (b : Bool) → cond b (smoothedOf l m) (refused (refusalOf l))
+          ≡ andThen (cond b (bothFrom m (laneTask l) (laneUnits l) (otherOf l)) (refused (refusalOf l))) told
       go true = together (selectedOf m (laneTask l) (laneUnits l)) (otherOf l)
       go false = refl
 
+  checked-is : (b : Answer Both) → checkedBoth l m ≡ b → checkedOf l m ≡ andThen b told
+  checked-is b e = checked-both ∙ ap (λ (x : Answer Both). andThen x told) e
+
   pub both-done : (s : Selected) (p : Polynomial Float) → checkedBoth l m ≡ done (both s p) → checkedOf l m ≡ done (resultOf l s p)
   unfolding andThen
-  both-done s p e = checked-both ∙ ap (λ (x : Answer Both). andThen x told) e
+  both-done s p = checked-is (done (both s p))
 
   pub both-refused : (n : ℕ) → checkedBoth l m ≡ refused n → checkedOf l m ≡ refused n
   unfolding andThen
-  both-refused n e = checked-both ∙ ap (λ (x : Answer Both). andThen x told) e
+  both-refused n = checked-is (refused n)
 
   pub both-exhausted : (w : Float) → checkedBoth l m ≡ exhausted w → checkedOf l m ≡ exhausted w
   unfolding andThen
-  both-exhausted w e = checked-both ∙ ap (λ (x : Answer Both). andThen x told) e
+  both-exhausted w = checked-is (exhausted w)
 
   -- ---- the numbers that it refuses with
   abbrev Known : ℕ → Type 0
@@ -102,7 +105,10 @@ module _ (l : Lane) (m : Limits) where
     where
       others : (x : Selected) (o : Answer (Polynomial Float)) → otherOf l ≡ o → andThen o (λ p. done (both x p)) ≡ refused n → Known n
       others x (done p) e g = absurd (refused-done (sym g))
-      others x (refused k) e g = let r = other-refused l k e in let q : k ≡ n = refused-same g in (omega arith, omega arith, λ z. omega arith)
+      others x (refused k) e g =
+          let r = other-refused l k e in
+          let q : k ≡ n = refused-same g in
+          (omega arith, omega arith, λ z. omega arith)
       others x (exhausted w) e g = absurd (exhausted-refused g)
 
       chosen : (x : Answer Selected) → selectedOf m (laneTask l) (laneUnits l) ≡ x
@@ -115,7 +121,7 @@ module _ (l : Lane) (m : Limits) where
       chosen (exhausted w) e g = absurd (exhausted-refused g)
 
       go : (b : Bool) → eqb (refusalOf l) 0 ≡ b
-          → cond b (andThen (selectedOf m (laneTask l) (laneUnits l)) (λ s. andThen (otherOf l) (λ p. done (both s p)))) (refused (refusalOf l)) ≡ refused n → Known n
+          → cond b (bothFrom m (laneTask l) (laneUnits l) (otherOf l)) (refused (refusalOf l)) ≡ refused n → Known n
       go true e g = chosen (selectedOf m (laneTask l) (laneUnits l)) refl g
       go false e g =
           let q : refusalOf l ≡ n = refused-same g in
@@ -146,48 +152,52 @@ module _ (l : Lane) (m : Limits) (r : Run) (w : List Float) (P : Placed l m r (l
   abbrev pub x : Result
   x = resultOf l (selectedAt (planOf l m) (r .computed) w) (otherAt (planOf l m) others (r .computed) w)
 
-  spans : (r .computed .count - 5) * (6 * axisCount l) ≤ 6 * (plan .room * axisCount l)
-  spans = let h : (r .computed .count - 5) * axisCount l ≤ plan .room * axisCount l = mul-le-mul-right (axisCount l) (omega (arith, P .roomy .knots-fit)) in omega arith
-
   segments-are : r .computed .count - 5 ≡ length (memoryAt plan w .breaks) - 1
   segments-are =
-      let n = length-window (breaksPlace plan) (breaksPlace plan + (r .computed .count - 5) + 1) w (omega arith) (omega (arith, P .roomy .knots-fit, P .roomy .cells-fit)) in
+      let n = length-window (breaksPlace plan) (breaksPlace plan + (r .computed .count - 5) + 1) w (omega arith)
+      (omega (arith, P .roomy .knots-fit, P .roomy .cells-fit)) in
       omega (arith, n)
 
-  -- the other axes' part of the slice
-  other-long : cellsOf (planOf l m) + (10 * plan .room + 8 * (plan .room * others)) ≤ length w
-      → r .computed .«other_segments» + 1 ≡ length (window (otherBreaksPlace (record { samples = l .n; axes = others; room = plan .room }))
-      (otherBreaksPlace (record { samples = l .n; axes = others; room = plan .room }) + r .computed .«other_segments» + 1) (drop (cellsOf (planOf l m)) w))
-  other-long fits =
-      let p = otherBreaksPlace (record { samples = l .n; axes = others; room = plan .room }) in
-      let e = length-drop (cellsOf (planOf l m)) w in
-      let n = length-window p (p + r .computed .«other_segments» + 1) (drop (cellsOf (planOf l m)) w) (omega arith)
-      (omega (arith, e, fits, P .others-few, P .roomy .waypoints-fit)) in
-      omega (arith, n)
+  -- the other axes' part of the slice, which fits
+  abbrev nodes : Nodes
+  nodes = record { samples = l .n; axes = others; room = plan .room }
 
-  others-are : cellsOf (planOf l m) + (10 * plan .room + 8 * (plan .room * others)) ≤ length w
-      → cond (eqb (r .j) 0) 0 (r .computed .«other_segments») ≡ length (otherAt (planOf l m) others (r .computed) w .breaks) - 1
-  others-are fits = rw (P .j-is) (go (eqb others 0))
-    where
-      go : (b : Bool) → cond b 0 (r .computed .«other_segments»)
-          ≡ length (cond b (record { breaks = []; coefficients = [] }) (polynomialIn (record { samples = l .n; axes = others; room = plan .room }) (r .computed .«other_segments») (drop (cellsOf (planOf l m)) w)) .breaks) - 1
-      go true = refl
-      go false = omega (arith, other-long fits)
+  abbrev segments : ℕ
+  segments = r .computed .«other_segments»
+
+  abbrev part : List Float
+  part = drop (cellsOf (planOf l m)) w
 
   module _ (fits : cellsOf (planOf l m) + (10 * plan .room + 8 * (plan .room * others)) ≤ length w) where
+    other-long : segments + 1 ≡ length (window (otherBreaksPlace nodes) (otherBreaksPlace nodes + segments + 1) part)
+    other-long =
+        let e = length-drop (cellsOf (planOf l m)) w in
+        let n = length-window (otherBreaksPlace nodes) (otherBreaksPlace nodes + segments + 1) part (omega arith)
+        (omega (arith, e, fits, P .others-few, P .roomy .waypoints-fit)) in
+        omega (arith, n)
+
+    others-are : cond (eqb (r .j) 0) 0 segments ≡ length (otherAt (planOf l m) others (r .computed) w .breaks) - 1
+    others-are = rw (P .j-is) (go (eqb others 0))
+      where
+        go : (b : Bool) → cond b 0 segments
+            ≡ length (cond b (record { breaks = []; coefficients = [] }) (polynomialIn nodes segments part) .breaks) - 1
+        go true = refl
+        go false = omega (arith, other-long)
+
     pub report-is : reportIn r ≡ reportOf x
     unfolding resultOf
     report-is =
         λ i. record {
           segments = segments-are i;
-          «interpolated_segments» = others-are fits i;
+          «interpolated_segments» = others-are i;
           refinements = r .computed .report .refinements;
           «fitting_rows» = r .computed .report .rows;
           «checked_intervals» = r .computed .report .intervals;
         }
 
     pub curve-is : (mode : Mode)
-        → curveIn r (l .d) (parameterOf (l .spacing) (l .parameters) (l .n) 0) (parameterOf (l .spacing) (l .parameters) (l .n) (l .n - 1)) mode ≡ curveOf mode (l .d) x
+        → curveIn r (l .d) (parameterOf (l .spacing) (l .parameters) (l .n) 0) (parameterOf (l .spacing) (l .parameters) (l .n) (l .n - 1))
+        mode ≡ curveOf mode (l .d) x
     unfolding resultOf curveOf
     curve-is mode =
         λ i. record {
@@ -198,7 +208,7 @@ module _ (l : Lane) (m : Limits) (r : Run) (w : List Float) (P : Placed l m r (l
           end = parameterOf (l .spacing) (l .parameters) (l .n) (l .n - 1);
           mode = mode;
           segments = segments-are i;
-          «other_segments» = others-are fits i;
+          «other_segments» = others-are i;
         }
 
   pub results-are : (p : Plan) (j : ℕ) (s : Results) → p ≡ plan → j ≡ others → resultsFrom p j (r .computed) w s ≡ resultsAfter (done x) s

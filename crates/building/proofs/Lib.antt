@@ -1,9 +1,4 @@
-pub mod Padded
-pub mod Selected
-pub mod Refusals
-pub mod Preparing
 pub mod Computing
-pub mod Copying
 pub mod Passing
 pub mod Finished
 pub mod Answering

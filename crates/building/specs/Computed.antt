@@ -1,49 +1,28 @@
 -- What is computed once the checks 1 to 5 let a request through: 6 and 7, the selected axes, then the other axes, over the work slice.
-use mathlib.Core.Path.{_≡_}
-use Prim.Native.Nat.{ℕ, _+_, _-_, _*_, _≤_}
+use Prim.Native.Nat.{ℕ}
 use mathlib.Core.Bool.{cond}
-use mathlib.Core.List.{List, [], _∷_}
-use lib.Dec.{eqb}
-use lib.ListN.{length, drop, take}
+use mathlib.Core.List.{List}
+use lib.ListN.{drop, take}
 use lib.Ieee.{Float}
-use Rattle.bspline.specs.Rows.{listOf}
 use Rattle.bspline.specs.Segments.{Polynomial}
 use Rattle.request.specs.declared.parameters.Spacing.{Spacing}
-use Rattle.request.specs.Parameters.{normalisedOf, unreliable}
+use Rattle.request.specs.Parameters.{unreliable}
 use Rattle.smoothing.specs.Answer.{Answer, andThen}
 use Rattle.smoothing.specs.Answer.Answer.{done, refused, exhausted}
 use Rattle.smoothing.specs.Request.{Limits}
 use Rattle.smoothing.specs.Checks.{overflows}
-use Rattle.smoothing.specs.Rows.{Task, Units, taskOf, gathered}
+use Rattle.smoothing.specs.Rows.{Task, Units}
 use Rattle.smoothing.specs.Finish.{Selected}
-use Rattle.smoothing.specs.Interpolate.{interpolateOf}
 use Rattle.smoothing.specs.Build.{selectedOf}
 use Rattle.refinement.specs.declared.plan.Plan.{Plan}
 use Rattle.refinement.specs.Memory.{cellsOf, memoryAt, sized}
 use Rattle.refinement.specs.Refit.{countsOf}
-use Rattle.interpolation.specs.declared.Nodes.{Nodes}
 use Rattle.selected_axes.specs.declared.course.Ending.{Ending}
 use Rattle.selected_axes.specs.declared.course.Ending.the-variants.{Done, Refused, Exhausted}
 use Rattle.selected_axes.specs.declared.course.Smoothed.{Smoothed}
+use Rattle.work_slice.specs.Rows.{otherIn}
 use Rattle.building.specs.declared.compute.Computed.{Computed}
-use Rattle.selected_axes.specs.Selected.{selectedIn, endingOf}
-use Rattle.interpolation.specs.Memory.{polynomialIn}
-
--- `s`, n normalised parameters
-abbrev pub sOf : Spacing → List Float → ℕ → List Float
-sOf spacing parameters n = listOf n (normalisedOf spacing parameters n)
-
--- the polynomial of the other axes, j of them: none where j is 0
-abbrev pub otherIn : ℕ → ℕ → ℕ → ℕ → List Float → Polynomial Float
-otherIn n j room segments w =
-    cond (eqb j 0) (record { breaks = []; coefficients = [] }) (polynomialIn (record { samples = n; axes = j; room = room }) segments w)
-
--- `interpolate(points, &s, &other)`, if there is an other axis
-abbrev pub otherFrom : ℕ → ℕ → List Float → List Float → Answer (Polynomial Float)
-otherFrom n j s rows =
-    let none : Answer (Polynomial Float) = done (record { breaks = []; coefficients = [] }) in
-    let some = interpolateOf n j s rows in
-    cond (eqb j 0) none some
+use Rattle.selected_axes.specs.Selected.{selectedIn}
 
 -- the selected axes and the other axes
 pub record Both : Type 0 where

@@ -1,9 +1,9 @@
 -- What `build` answers, and what every lent slice holds afterwards.
 use Prim.Native.Nat.{ℕ}
 use mathlib.Core.Bool.{Bool, cond, _||_}
-use mathlib.Core.List.{List, _++_}
+use mathlib.Core.List.{List}
 use lib.Dec.{eqb}
-use lib.ListN.{length, drop, replicate}
+use lib.ListN.{length, replicate}
 use lib.Ieee.{Float}
 use Rattle.window.specs.Cells.{+0, zeros}
 use Rattle.curve.specs.declared.Curve.{Curve}
@@ -13,8 +13,9 @@ use Rattle.smoothing.specs.Answer.Answer.{done, refused, exhausted}
 use Rattle.smoothing.specs.Request.{Request}
 use Rattle.smoothing.specs.Checks.{Room}
 use Rattle.smoothing.specs.Build.{Result, curveOf, buildIn}
+use Rattle.work_slice.specs.Rows.{onto}
 use Rattle.building.specs.declared.Report.{Report}
-use Rattle.building.specs.Checks.{roomOf}
+use Rattle.checks.specs.Checks.{roomOf}
 use Rattle.building.specs.declared.Answer.{Answer}
 use Rattle.building.specs.declared.Answer.the-variants.{Accepted, BadPoints, NoAxes, BadAxes, BadTolerance, BadParameters, BadRange, Overflow, InitialSegments, BadDiagonal, BadPivot, BadSolution, NotAbove, NotFinite, RefinementsUsedUp, SegmentsUsedUp, BadMidpoint, ErrorAboveTolerance, AboveDomain, ShortSlice, PointCells}
 
@@ -79,16 +80,19 @@ pub record Results : Type 0 where
 
 abbrev pub results : List Float → List Float → List Float → List Float → List Float → Results
 results breaks coefficients otherBreaks otherCoefficients errors =
-    record { breaks = breaks; coefficients = coefficients; otherBreaks = otherBreaks; otherCoefficients = otherCoefficients; errors = errors }
+    record {
+      breaks = breaks;
+      coefficients = coefficients;
+      otherBreaks = otherBreaks;
+      otherCoefficients = otherCoefficients;
+      errors = errors;
+    }
 
 -- the lengths of all that is lent
 abbrev pub lengthsOf : List Float → Results → Room
 lengthsOf work s =
-    roomOf (length work) (length (s .breaks)) (length (s .coefficients)) (length (s .otherBreaks)) (length (s .otherCoefficients)) (length (s .errors))
-
--- l with v in its first cells, its "used cells"; the others are unchanged
-abbrev pub onto : List Float → List Float → List Float
-onto v l = v ++ drop (length v) l
+    roomOf (length work) (length (s .breaks)) (length (s .coefficients)) (length (s .otherBreaks)) (length (s .otherCoefficients))
+    (length (s .errors))
 
 -- "Result slices are untouched by a refusal"
 unfoldable pub resultsAfter : answers.Answer Result → Results → Results

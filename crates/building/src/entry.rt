@@ -5,8 +5,8 @@ ghost use lib.Dec.{eqb};
 ghost use Prim.Native.Nat.{_+_, _-_, _*_, _≤_, _<_, max};
 ghost use lib.ListN.{length};
 ghost use Rattle.selected_axes.specs.declared.course.Ending.the-variants.{Refused};
-ghost use Rattle.building.specs.Request.{limitsOf, laneOf};
-ghost use Rattle.building.specs.Checks.{refusalBefore};
+ghost use Rattle.checks.specs.Request.{limitsOf, laneOf};
+ghost use Rattle.checks.specs.Checks.{refusalBefore};
 ghost use Rattle.request.specs.declared.parameters.Spacing.the-variants.{Listed};
 ghost use Rattle.request.specs.Parameters.{parameterOf};
 ghost use Rattle.smoothing.specs.Answer.Answer.{done, refused};
@@ -14,15 +14,15 @@ ghost use Rattle.smoothing.specs.Build.{checkedOf};
 ghost use Rattle.building.specs.Outcome.{outcomeOf, reported, noCurve, curveAfter, results, resultsAfter, workAfter};
 ghost use Rattle.building.specs.Answered.{answerTo, Domain, Fitting, Ran, Writable, resultsFrom, reportIn, curveIn};
 use crate::Answer;
-use crate::Axes;
-use crate::Limits;
 use crate::Report;
-use crate::Tolerance;
-use crate::checks;
-use crate::choices;
+use crate::answers;
 use crate::compute;
 use crate::compute::Computed;
-use crate::results;
+use checks::Axes;
+use checks::Limits;
+use checks::Tolerance;
+use checks::choices;
+use checks::refusals;
 use curve::Curve;
 use curve::Mode;
 use refinement::plan::Plan;
@@ -135,7 +135,7 @@ fn checked(
     ensures { λ r. ⌜ Ran (laneOf d n axes (now («axis_list» .entry)) tolerance (now («tolerance_list» .entry)) spacing
         (now (parameters .entry)) (now (points .entry))) (limitsOf limits) r (now (work .exit)) ⌝ }
 {
-    let number = checks::refusal_before(
+    let number = refusals::refusal_before(
         points,
         d,
         n,
@@ -186,69 +186,11 @@ fn no_curve(mode: Mode) -> Curve
     }
 }
 
-// The refusals by the checks 1 to 7, those up to the first audit, and the later ones, by document 01's number.
-fn input_refusal(number: usize) -> Answer
-    requires { ⌜ (1 ≤ number) × (number ≤ 7) ⌝ }
-    ensures { λ r. ⌜ outcomeOf r ≡ refused number ⌝ }
-{
-    match number {
-        1 => Answer::BadPoints,
-        2 => Answer::NoAxes,
-        3 => Answer::BadAxes,
-        4 => Answer::BadTolerance,
-        5 => Answer::BadParameters,
-        6 => Answer::BadRange,
-        _ => Answer::Overflow,
-    }
-}
-
-fn fit_refusal(number: usize) -> Answer
-    requires { ⌜ (8 ≤ number) × (number ≤ 13) ⌝ }
-    ensures { λ r. ⌜ outcomeOf r ≡ refused number ⌝ }
-{
-    match number {
-        8 => Answer::InitialSegments,
-        9 => Answer::BadDiagonal,
-        10 => Answer::BadPivot,
-        11 => Answer::BadSolution,
-        12 => Answer::NotAbove,
-        _ => Answer::NotFinite,
-    }
-}
-
-fn late_refusal(number: usize) -> Answer
-    requires { ⌜ (15 ≤ number) × (number ≤ 20) ⌝ }
-    ensures { λ r. ⌜ outcomeOf r ≡ refused number ⌝ }
-{
-    match number {
-        15 => Answer::SegmentsUsedUp,
-        16 => Answer::BadMidpoint,
-        17 => Answer::ErrorAboveTolerance,
-        18 => Answer::AboveDomain,
-        19 => Answer::ShortSlice,
-        _ => Answer::PointCells,
-    }
-}
-
-// The refusal with document 01's number.
-fn refusal(number: usize) -> Answer
-    requires { ⌜ (1 ≤ number) × (number ≤ 20) × (number ≡ 14 → ⊥) ⌝ }
-    ensures { λ r. ⌜ outcomeOf r ≡ refused number ⌝ }
-{
-    if number < 8 {
-        return input_refusal(number);
-    }
-    if number < 14 {
-        return fit_refusal(number);
-    }
-    late_refusal(number)
-}
-
 fn refuse(number: usize, mode: Mode) -> Built
     requires { ⌜ (1 ≤ number) × (number ≤ 20) × (number ≡ 14 → ⊥) ⌝ }
     ensures { λ r. ⌜ (outcomeOf (r .answer) ≡ refused number) × (r .curve ≡ noCurve mode) ⌝ }
 {
-    let answer = refusal(number);
+    let answer = answers::refusal(number);
     let curve = no_curve(mode);
     Built { answer, curve }
 }
@@ -273,10 +215,9 @@ fn write_results(
         (now («other_breaks» .entry)) (now («other_coefficients» .entry)) (now (errors .entry))) ⌝ }
 {
     let e = p.room;
-    let b = refinement::plan::block_of(p);
-    let cells = 14 * e + 10 * b;
-    results::put_selected(work, p, breaks, coefficients);
-    results::put_other(
+    let cells = 14 * e + 10 * (e * p.axes);
+    work_slice::put_selected(work, p, breaks, coefficients);
+    work_slice::put_other(
         &work[cells..],
         e,
         p.samples,
@@ -286,7 +227,7 @@ fn write_results(
         other_coefficients,
     );
     let from = c.errors;
-    results::put_errors(&from, p.axes, errors);
+    work_slice::put_errors(&from, p.axes, errors);
 }
 
 // The segments of j other axes: none where there is none of them.
@@ -464,13 +405,8 @@ pub fn build(
         (results (now (breaks .entry)) (now (coefficients .entry)) (now («other_breaks» .entry)) (now («other_coefficients» .entry))
         (now (errors .entry))) ⌝ }
 {
-    if checks::is_wide(d, n, limits) {
-        return refuse(18, mode);
-    }
-    if points.len() != d * n {
-        return refuse(20, mode);
-    }
-    if checks::is_short(
+    let number = refusals::refusal_first(
+        points.len(),
         work.len(),
         breaks.len(),
         coefficients.len(),
@@ -480,8 +416,9 @@ pub fn build(
         d,
         n,
         limits,
-    ) {
-        return refuse(19, mode);
+    );
+    if 0 < number {
+        return refuse(number, mode);
     }
     let built = finish(
         points,

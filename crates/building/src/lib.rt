@@ -1,31 +1,15 @@
 // The source's `SmoothedSpline::build`, over slices that the caller lends: a request checked, smoothed and
 // written to the results.
-mod choices; // choices.rt: the axes and the tolerances that a request chooses
-mod checks; // checks.rt: what turns a request away
+mod answers; // answers.rt: answers and document 01's numbers
 pub mod compute; // compute.rt: what is computed once the checks let a request through
-mod results; // results.rt: from the work slice to the result slices
 pub mod entry; // entry.rt: all of it
 
+pub use answers::number;
+pub use checks::Axes;
+pub use checks::Limits;
+pub use checks::Tolerance;
 pub use entry::Built;
 pub use entry::build;
-
-// Which axes are smoothed: all, or those of a list, which stands beside it.
-pub enum Axes {
-    All,
-    Listed,
-}
-
-// The tolerance: one for all smoothed axes, or one for each, in a list, which stands beside it.
-pub enum Tolerance {
-    Uniform(f64),
-    PerAxis,
-}
-
-// How many rounds and how many segments a request may take.
-pub struct Limits {
-    pub refinements: usize,
-    pub segments: usize,
-}
 
 // The report of an accepted request: the segments of the selected axes and of the other axes, the
 // rounds made, the rows of all fits and the intervals of all audits.

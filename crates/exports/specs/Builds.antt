@@ -1,18 +1,22 @@
--- The request that the numbers and slices of a caller in C make.
+-- The request that the numbers and slices of a caller in C make, and what a call writes.
 use Prim.Native.Nat.{ℕ}
 use mathlib.Core.Bool.{Bool, cond}
-use mathlib.Core.List.{List}
+use mathlib.Core.List.{List, [], _∷_}
+use lib.Dec.{eqb}
 use lib.Ieee.{Float}
-use Rattle.smoothing.specs.Answer.{Answer}
+use Rattle.smoothing.specs.Answer.{Answer, numberOf}
+use Rattle.smoothing.specs.Answer.Answer.{done, refused, exhausted}
 use Rattle.smoothing.specs.Build.{Result}
 use Rattle.request.specs.declared.parameters.Spacing.{Spacing}
 use Rattle.request.specs.declared.parameters.Spacing.the-variants.{Listed, Even}
-use Rattle.building.specs.declared.Axes.{Axes}
-use Rattle.building.specs.declared.Axes.the-variants.{All, Listed as ListedAxes}
-use Rattle.building.specs.declared.Tolerance.{Tolerance}
-use Rattle.building.specs.declared.Tolerance.the-variants.{Uniform, PerAxis}
-use Rattle.building.specs.Request.{laneOf}
-use Rattle.building.specs.Outcome.{Results}
+use Rattle.checks.specs.declared.Axes.{Axes}
+use Rattle.checks.specs.declared.Axes.the-variants.{All, Listed as ListedAxes}
+use Rattle.checks.specs.declared.Tolerance.{Tolerance}
+use Rattle.checks.specs.declared.Tolerance.the-variants.{Uniform, PerAxis}
+use Rattle.checks.specs.Request.{laneOf}
+use Rattle.curve.specs.declared.Mode.{Mode}
+use Rattle.building.specs.declared.Report.{Report}
+use Rattle.building.specs.Outcome.{reported, Results, resultsAfter, workAfter, curveAfter}
 use Rattle.building.specs.Answered.{answerTo}
 
 -- all axes, or those listed; one tolerance, or those listed; even parameters, or those listed
@@ -31,3 +35,43 @@ abbrev pub requested : ℕ → ℕ → Bool → List ℕ → Bool → Float → 
 requested d n all axes uniform tolerance tolerances even parameters points refinements segments work s =
     answerTo (laneOf d n (axesOf all) axes (toleranceOf uniform tolerance) tolerances (spacingOf even) parameters points)
     (record { refinements = refinements; segments = segments }) work s
+
+-- the report's counts
+abbrev pub countsOf : Report → List ℕ
+countsOf r = r .segments ∷ r .«interpolated_segments» ∷ r .refinements ∷ r .«fitting_rows» ∷ r .«checked_intervals» ∷ []
+
+-- they are written where the request is accepted
+abbrev pub countsAfter : Answer Report → List ℕ → List ℕ
+countsAfter (done r) old = countsOf r
+countsAfter (refused n) old = old
+countsAfter (exhausted x) old = old
+
+-- "number 14 carries the worst ratio of error to tolerance": it is written with 14
+abbrev pub ratioAfter : Answer Report → Float → Float
+ratioAfter (done r) old = old
+ratioAfter (refused n) old = old
+ratioAfter (exhausted x) old = x
+
+-- a number of the curve is written where the answer's number is 0
+abbrev pub endAfter : ℕ → Float → Float → Float
+endAfter number x old = cond (eqb number 0) x old
+
+-- all that a call writes
+pub record Written : Type 0 where
+  pub work : List Float
+  pub results : Results
+  pub counts : List ℕ
+  pub ratio : Float
+  pub start : Float
+  pub end : Float
+
+abbrev pub written : List Float → Results → List ℕ → Float → Float → Float → Written
+written work results counts ratio start end =
+    record { work = work; results = results; counts = counts; ratio = ratio; start = start; end = end }
+
+abbrev pub writtenAfter : Mode → ℕ → Answer Result → Written → Written
+writtenAfter mode d z w =
+    written (workAfter z (w .work)) (resultsAfter z (w .results)) (countsAfter (reported z) (w .counts))
+    (ratioAfter (reported z) (w .ratio))
+    (endAfter (numberOf (reported z)) (curveAfter mode d z .start) (w .start))
+    (endAfter (numberOf (reported z)) (curveAfter mode d z .end) (w .end))

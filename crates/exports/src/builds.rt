@@ -3,8 +3,9 @@
 // curve's start and end.
 ghost use mathlib.Core.Path.{_≡_};
 ghost use Rattle.smoothing.specs.Answer.{numberOf};
-ghost use Rattle.building.specs.Outcome.{outcomeOf, reported, results, resultsAfter, workAfter};
-ghost use Rattle.exports.specs.Builds.{axesOf, toleranceOf, spacingOf, requested};
+ghost use Rattle.building.specs.Outcome.{outcomeOf, reported, results};
+ghost use Rattle.exports.specs.Curve.{modeOf};
+ghost use Rattle.exports.specs.Builds.{axesOf, toleranceOf, spacingOf, requested, countsOf, countsAfter, ratioAfter, endAfter, written, writtenAfter};
 use crate::queries;
 use building::Answer;
 use building::Axes;
@@ -12,35 +13,6 @@ use building::Limits;
 use building::Report;
 use building::Tolerance;
 use request::parameters::Spacing;
-
-// The number of an answer.
-fn number(answer: Answer) -> u64
-    ensures { λ r. ⌜ r ≡ numberOf (outcomeOf answer) ⌝ }
-{
-    match answer {
-        Answer::Accepted(_) => 0,
-        Answer::BadPoints => 1,
-        Answer::NoAxes => 2,
-        Answer::BadAxes => 3,
-        Answer::BadTolerance => 4,
-        Answer::BadParameters => 5,
-        Answer::BadRange => 6,
-        Answer::Overflow => 7,
-        Answer::InitialSegments => 8,
-        Answer::BadDiagonal => 9,
-        Answer::BadPivot => 10,
-        Answer::BadSolution => 11,
-        Answer::NotAbove => 12,
-        Answer::NotFinite => 13,
-        Answer::RefinementsUsedUp(_) => 14,
-        Answer::SegmentsUsedUp => 15,
-        Answer::BadMidpoint => 16,
-        Answer::ErrorAboveTolerance => 17,
-        Answer::AboveDomain => 18,
-        Answer::ShortSlice => 19,
-        Answer::PointCells => 20,
-    }
-}
 
 // All axes, or those of a list.
 fn axes_of(all: bool) -> Axes
@@ -73,27 +45,37 @@ fn spacing_of(even: bool) -> Spacing
 }
 
 // The report's counts.
-fn put_counts(report: Report, counts: &mut [usize; 5]) {
-    counts[0] = report.segments;
-    counts[1] = report.interpolated_segments;
-    counts[2] = report.refinements;
-    counts[3] = report.fitting_rows;
-    counts[4] = report.checked_intervals;
+fn put_counts(report: Report, counts: &mut [usize; 5])
+    ensures { λ _. ⌜ now (counts .exit) ≡ countsOf report ⌝ }
+{
+    *counts = [
+        report.segments,
+        report.interpolated_segments,
+        report.refinements,
+        report.fitting_rows,
+        report.checked_intervals,
+    ];
 }
 
 // What the answer holds beside its number.
-fn put_answer(answer: Answer, counts: &mut [usize; 5], ratio: &mut f64) {
-    if let Answer::Accepted(report) = answer {
-        put_counts(report, counts);
-    }
-    if let Answer::RefinementsUsedUp(x) = answer {
-        *ratio = x;
+fn put_answer(answer: Answer, counts: &mut [usize; 5], ratio: &mut f64)
+    ensures { λ _. ⌜ now (counts .exit) ≡ countsAfter (outcomeOf answer) (now (counts .entry)) ⌝ }
+    ensures { λ _. ⌜ now (ratio .exit) ≡ ratioAfter (outcomeOf answer) (now (ratio .entry)) ⌝ }
+{
+    match answer {
+        Answer::Accepted(report) => put_counts(report, counts),
+        Answer::RefinementsUsedUp(x) => {
+            *ratio = x;
+        }
+        _ => {}
     }
 }
 
 // A number of the curve, where there is one.
-fn put_end(answer: Answer, x: f64, to: &mut f64) {
-    if let Answer::Accepted(_) = answer {
+fn put_end(number: u64, x: f64, to: &mut f64)
+    ensures { λ _. ⌜ now (to .exit) ≡ endAfter number x (now (to .entry)) ⌝ }
+{
+    if number == 0 {
         *to = x;
     }
 }
@@ -128,18 +110,16 @@ pub extern "C" fn pamitoye_build(
         (now («tolerance_list» .entry)) even (now (parameters .entry)) (now (points .entry)) refinements segments (now (work .entry))
         (results (now (breaks .entry)) (now (coefficients .entry)) (now («other_breaks» .entry)) (now («other_coefficients» .entry))
         (now (errors .entry))))) ⌝ }
-    ensures { λ _. ⌜ now (work .exit) ≡ workAfter (requested d n all (now («axis_list» .entry)) uniform tolerance
-        (now («tolerance_list» .entry)) even (now (parameters .entry)) (now (points .entry)) refinements segments (now (work .entry))
-        (results (now (breaks .entry)) (now (coefficients .entry)) (now («other_breaks» .entry)) (now («other_coefficients» .entry))
-        (now (errors .entry)))) (now (work .entry)) ⌝ }
-    ensures { λ _. ⌜ results (now (breaks .exit)) (now (coefficients .exit)) (now («other_breaks» .exit))
-        (now («other_coefficients» .exit)) (now (errors .exit))
-        ≡ resultsAfter (requested d n all (now («axis_list» .entry)) uniform tolerance (now («tolerance_list» .entry)) even
-        (now (parameters .entry)) (now (points .entry)) refinements segments (now (work .entry))
+    ensures { λ _. ⌜ written (now (work .exit)) (results (now (breaks .exit)) (now (coefficients .exit)) (now («other_breaks» .exit))
+        (now («other_coefficients» .exit)) (now (errors .exit))) (now (counts .exit)) (now (ratio .exit)) (now (start .exit))
+        (now (end .exit))
+        ≡ writtenAfter (modeOf clamp) d (requested d n all (now («axis_list» .entry)) uniform tolerance (now («tolerance_list» .entry))
+        even (now (parameters .entry)) (now (points .entry)) refinements segments (now (work .entry))
         (results (now (breaks .entry)) (now (coefficients .entry)) (now («other_breaks» .entry)) (now («other_coefficients» .entry))
         (now (errors .entry))))
-        (results (now (breaks .entry)) (now (coefficients .entry)) (now («other_breaks» .entry)) (now («other_coefficients» .entry))
-        (now (errors .entry))) ⌝ }
+        (written (now (work .entry)) (results (now (breaks .entry)) (now (coefficients .entry)) (now («other_breaks» .entry))
+        (now («other_coefficients» .entry)) (now (errors .entry))) (now (counts .entry)) (now (ratio .entry)) (now (start .entry))
+        (now (end .entry))) ⌝ }
 {
     let limits = Limits {
         refinements,
@@ -166,8 +146,9 @@ pub extern "C" fn pamitoye_build(
     );
     let answer = built.answer;
     let curve = built.curve;
+    let number = building::number(answer);
     put_answer(answer, counts, ratio);
-    put_end(answer, curve.start, start);
-    put_end(answer, curve.end, end);
-    number(answer)
+    put_end(number, curve.start, start);
+    put_end(number, curve.end, end);
+    number
 }

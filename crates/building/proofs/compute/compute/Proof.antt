@@ -8,36 +8,47 @@ use lib.ListN.{length, take, drop}
 use lib.Ieee.{Float}
 use Rattle.bspline.specs.Segments.{Polynomial}
 use Rattle.smoothing.specs.Answer.{Answer}
-use Rattle.smoothing.specs.Rows.{Task, Units, taskOf, gathered}
+use Rattle.smoothing.specs.Request.{Limits}
+use Rattle.smoothing.specs.Rows.{Task, Units}
 use Rattle.smoothing.specs.Build.{selectedOf}
-use Rattle.refinement.specs.Memory.{Roomy, memoryAt, taskIn, sized}
-use Rattle.building.specs.Request.{limitsOf}
-use Rattle.selected_axes.specs.Selected.{unitsOf, endingOf}
-use Rattle.building.specs.Computed.{sOf, otherFrom, bothFrom, computedOf, smoothedAt}
+use Rattle.refinement.specs.Memory.{Roomy, sized}
+use Rattle.checks.specs.Request.{limitsOf}
+use Rattle.selected_axes.specs.Selected.{endingOf}
+use Rattle.work_slice.specs.Rows.{unitsFrom, taskFrom, otherFrom}
+use Rattle.building.specs.Computed.{bothFrom, computedOf, smoothedAt}
 use Rattle.building.proofs.Computing.{stops, goes, both-done, both-refused, both-exhausted, ended-refused, ended-exhausted, refused-not-done, exhausted-not-done}
 use Rattle.building.proofs.compute.compute.Statement.{statement}
 use Rattle.building.proofs.compute.compute.Tie as tie
 
+abbrev limits : tie.Start → Limits
+limits s = limitsOf (s .args .limits)
+
 abbrev units : tie.Start → Units
-units s = let a = s .args in unitsOf (a .points .now) (a .d) (a .p .samples) (take (a .p .axes) (a .axes .now)) (take (a .p .axes) (a .eps .now))
+units s = let a = s .args in unitsFrom (a .p .samples) (a .p .axes) (a .points .now) (a .d) (a .axes .now) (a .eps .now)
 
 abbrev task : tie.Start → Task
-task s = taskOf (s .args .p .samples) (s .args .p .axes) (sOf (s .args .spacing) (s .args .parameters .now) (s .args .p .samples)) (units s)
+task s = let a = s .args in taskFrom (a .p .samples) (a .p .axes) (a .spacing) (a .parameters .now) (units s)
 
-room : (c : tie.Else1) → let s = c .before .before .before .before .before .before .before .before in Roomy (s .args .p) (length (c .before .before .before .prepare .last .0))
+-- 6 and 7 were asked: where it began
+abbrev first : tie.After-prepare → tie.Start
+first c = c .before .before .before .before .before
+
+room : (c : tie.Else1) → let p = c .before .before .before in Roomy (first p .args .p) (length (p .prepare .last .0))
 room c =
-    let s = c .before .before .before .before .before .before .before .before in
-    let e : length (s .args .work .now) ≡ length (c .before .before .before .prepare .last .0) = omega (arith, c .before .before .work .given) in
+    let p = c .before .before .before in
+    let s = first p in
+    let e : length (s .args .work .now) ≡ length (p .prepare .last .0) = omega (arith, c .before .before .work .given) in
     subst (λ (n : ℕ). Roomy (s .args .p) n) e (s .pre .0 .0)
 
 returns : tie.Need-returns
-unfolding taskOf
 returns c =
     let p = c .before .before .before .before in
-    let s = p .before .before .before .before .before in
-    let a = s .args in (
-      ended-refused _ _ (p .prepare .result) (c .ended .ensures)
-          ∙ sym (stops (a .spacing) (a .parameters .now) (limitsOf (a .limits)) (task s) (units s) _ (p .prepare .result) (p .prepare .ensures .0) (c .before .if1 .taken)),
+    let s = first p in
+    let a = s .args in
+    let r = p .prepare in (
+      ended-refused _ _ (r .result) (c .ended .ensures)
+          ∙ sym (stops (a .spacing) (a .parameters .now) (limits s) (task s) (units s) _ (r .result) (r .ensures .0)
+          (c .before .if1 .taken)),
       λ e. absurd (refused-not-done _ _ (c .ended .ensures) e),
     )
 
@@ -50,28 +61,27 @@ smooth-requires c κs =
 
 -- the whole of it, once 6 and 7 let it pass and the selected axes have ended
 module _ (c : tie.After-smooth) where
+  abbrev asked : tie.After-prepare
+  asked = c .before .before .before .before .before
+
   abbrev begun : tie.Start
-  begun = c .before .before .before .before .before .before .before .before .before .before
+  begun = first asked
 
   abbrev other : Answer (Polynomial Float)
-  other =
-      let a = begun .args in
-      otherFrom (a .p .samples) (a .j) (sOf (a .spacing) (a .parameters .now) (a .p .samples)) (gathered (a .points .now) (a .d) (a .p .samples) (take (a .j) (a .rest .now)))
+  other = let a = begun .args in otherFrom (a .p .samples) (a .j) (a .spacing) (a .parameters .now) (a .points .now) (a .d) (a .rest .now)
 
-  none : c .before .before .before .before .before .prepare .result ≡ 0
+  none : asked .prepare .result ≡ 0
   none = omega (arith, c .before .before .if1 .left)
 
-  passed : computedOf (begun .args .spacing) (begun .args .parameters .now) (limitsOf (begun .args .limits)) (task begun) (units begun) other
-      ≡ bothFrom (limitsOf (begun .args .limits)) (task begun) (units begun) other
-  unfolding taskOf
+  passed : computedOf (begun .args .spacing) (begun .args .parameters .now) (limits begun) (task begun) (units begun) other
+      ≡ bothFrom (limits begun) (task begun) (units begun) other
   passed =
-      let p = c .before .before .before .before .before in
-      goes (begun .args .spacing) (begun .args .parameters .now) (limitsOf (begun .args .limits)) (task begun) (units begun) other (p .prepare .result) (p .prepare .ensures .0) none
+      goes (begun .args .spacing) (begun .args .parameters .now) (limits begun) (task begun) (units begun) other (asked .prepare .result)
+      (asked .prepare .ensures .0) none
 
-  smoothed : endingOf (c .smooth .result .ending) (smoothedAt (begun .args .p) (c .smooth .result) (c .smooth .last .0)) ≡ selectedOf (limitsOf (begun .args .limits)) (task begun) (units begun)
-  smoothed =
-      let p = c .before .before .before .before .before in
-      c .smooth .ensures .0 ∙ ap (λ (q : Task). selectedOf (limitsOf (begun .args .limits)) q (units begun)) (p .prepare .ensures .1 none)
+  smoothed : endingOf (c .smooth .result .ending) (smoothedAt (begun .args .p) (c .smooth .result) (c .smooth .last .0))
+      ≡ selectedOf (limits begun) (task begun) (units begun)
+  smoothed = c .smooth .ensures .0 ∙ ap (λ (q : Task). selectedOf (limits begun) q (units begun)) (asked .prepare .ensures .1 none)
 
 with-others-requires : tie.Need-with-others-requires
 with-others-requires c κs =
@@ -94,12 +104,13 @@ returns-2 c =
     let e = v .before .before .enum-told .given .1 in
     let s = begun r in (
       v .with-others .ensures .0
-          ∙ sym (passed r ∙ both-done (limitsOf (s .args .limits)) (task s) (units s) (other r) _ _ (smoothed r) e),
+          ∙ sym (passed r ∙ both-done (limits s) (task s) (units s) (other r) _ _ (smoothed r) e),
       λ z.
           let k = v .with-others .ensures .1 z in
           let R = r .smooth .ensures .1 e in
-          let l : length (r .smooth .last .0) ≡ length (v .with-others .last .0) = omega (arith, c .before .work3 .given) in (
-            subst (λ (m : ℕ). Roomy (sized (s .args .p) m) (length (v .with-others .last .0))) (sym (k .0)) (subst (λ (n : ℕ). Roomy (sized (s .args .p) (r .smooth .result .count)) n) l (R .0)),
+          let l : length (r .smooth .last .0) ≡ length (v .with-others .last .0) = omega (arith, c .before .work3 .given) in
+          let kept = subst (λ (n : ℕ). Roomy (sized (s .args .p) (r .smooth .result .count)) n) l (R .0) in (
+            subst (λ (m : ℕ). Roomy (sized (s .args .p) m) (length (v .with-others .last .0))) (sym (k .0)) kept,
             omega (arith, k .0, R .1),
             k .1,
           ),
@@ -111,7 +122,7 @@ returns-3 c =
     let e = c .before .before .ending .given .1 in
     let s = begun r in (
       ended-refused _ _ _ (c .ended2 .ensures)
-          ∙ sym (passed r ∙ both-refused (limitsOf (s .args .limits)) (task s) (units s) (other r) _ _ (smoothed r) _ e),
+          ∙ sym (passed r ∙ both-refused (limits s) (task s) (units s) (other r) _ _ (smoothed r) _ e),
       λ z. absurd (refused-not-done _ _ (c .ended2 .ensures) z),
     )
 
@@ -121,7 +132,7 @@ returns-4 c =
     let e = c .before .before .ending2 .given .1 in
     let s = begun r in (
       ended-exhausted _ _ _ (c .ended3 .ensures)
-          ∙ sym (passed r ∙ both-exhausted (limitsOf (s .args .limits)) (task s) (units s) (other r) _ _ (smoothed r) _ e),
+          ∙ sym (passed r ∙ both-exhausted (limits s) (task s) (units s) (other r) _ _ (smoothed r) _ e),
       λ z. absurd (exhausted-not-done _ _ (c .ended3 .ensures) z),
     )
 

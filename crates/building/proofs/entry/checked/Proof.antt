@@ -5,8 +5,8 @@ use native.Mathlib.Omega.{arith}
 use borrow.Author.Needs.{needs}
 use Rattle.smoothing.specs.Request.{Lane}
 use Rattle.smoothing.specs.Answer.Answer.{refused}
-use Rattle.building.specs.Request.{limitsOf, laneOf}
-use Rattle.building.specs.Checks.{refusalBefore}
+use Rattle.checks.specs.Request.{limitsOf, laneOf}
+use Rattle.checks.specs.Checks.{refusalBefore}
 use Rattle.building.proofs.Computing.{ended-refused, refused-not-done}
 use Rattle.building.proofs.Passing.{stops-early}
 use Rattle.building.proofs.entry.checked.Statement.{statement}
@@ -15,7 +15,8 @@ use Rattle.building.proofs.entry.checked.Tie as tie
 abbrev lane : tie.Start → Lane
 lane s =
     let a = s .args in
-    laneOf (a .d) (a .n) (a .axes) (a .axis-list .now) (a .tolerance) (a .tolerance-list .now) (a .spacing) (a .parameters .now) (a .points .now)
+    laneOf (a .d) (a .n) (a .axes) (a .axis-list .now) (a .tolerance) (a .tolerance-list .now) (a .spacing) (a .parameters .now)
+    (a .points .now)
 
 returns : tie.Need-returns
 returns c =

@@ -4,25 +4,26 @@ use mathlib.Core.List.{List}
 use Prim.Native.Nat.{ℕ, _+_, _-_, _*_, _≤_, _<_, max}
 use native.Mathlib.Omega.{arith}
 use borrow.Author.Needs.{needs}
-use lib.ListN.{length, getD, take}
+use lib.ListN.{length}
 use lib.Ieee.{Float}
-use Rattle.smoothing.specs.Request as smoothing
 use Rattle.smoothing.specs.Request.{Lane, axisCount}
-use Rattle.smoothing.specs.Rows.{otherAxes}
 use Rattle.refinement.specs.declared.plan.Plan.{Plan}
 use Rattle.refinement.specs.Memory.{Roomy, sized}
-use Rattle.building.specs.Request.{limitsOf, laneOf}
-use Rattle.building.specs.Checks.{refusalBefore}
+use Rattle.checks.specs.Request.{limitsOf, laneOf}
+use Rattle.checks.specs.Checks.{refusalBefore}
+use Rattle.checks.proofs.Passed.{two-waypoints, axes-count, tolerances-count, listed-long}
+use Rattle.checks.proofs.Selected.{listed-count, per-axis-count}
 use Rattle.building.specs.Computed.{computedIn}
 use Rattle.building.specs.Answered.{planOf}
-use Rattle.building.proofs.Passing.{two, all-axes, tolerances-count, listed-long, listed-are, per-axis-are, work-fits, k-most, picked-front, picked-below, j-is, j-sum, others-below, all-is}
+use Rattle.building.proofs.Passing.{work-fits, Picked, k-few, picked-below, Parted, j-is, j-sum, others-below, all-is}
 use Rattle.building.proofs.entry.gather.Statement.{statement}
 use Rattle.building.proofs.entry.gather.Tie as tie
 
 abbrev lane : tie.Start → Lane
 lane s =
     let a = s .args in
-    laneOf (a .d) (a .n) (a .axes) (a .axis-list .now) (a .tolerance) (a .tolerance-list .now) (a .spacing) (a .parameters .now) (a .points .now)
+    laneOf (a .d) (a .n) (a .axes) (a .axis-list .now) (a .tolerance) (a .tolerance-list .now) (a .spacing) (a .parameters .now)
+    (a .points .now)
 
 passed : (s : tie.Start) → refusalBefore (lane s) ≡ 0
 passed s = s .pre .1
@@ -30,37 +31,40 @@ passed s = s .pre .1
 chosen-requires : tie.Need-chosen-requires
 chosen-requires c κs =
     let s = c .before .before .before .before .before in
-    let l = lane s in
-    let g = all-axes l (passed s) in
-    (s .pre .0 .d-most, λ e. let i = ap length (listed-are (s .args .axes) (s .args .axis-list .now) (s .args .d) e) in omega (arith, g, i, s .pre .0 .d-most))
+    let a = s .args in
+    let g = axes-count (lane s) (passed s) in
+    let d = s .pre .0 .d-most in
+    (d, λ e. omega (arith, g, listed-count (a .axis-list .now) (a .d) (a .axes) e, d))
 
 -- the axes that were chosen
-module _ (c : tie.After-chosen) where
-  abbrev begun : tie.Start
-  begun = c .before .before .before .before .before .before
+abbrev begun : tie.After-chosen → tie.Start
+begun c = c .before .before .before .before .before .before
 
-  abbrev picked : List ℕ
-  picked = c .chosen .result .axes
-
-  k-few : c .chosen .result .count ≤ 16
-  k-few = omega (arith, k-most (lane begun) (passed begun) (begun .pre .0 .d-most) (c .chosen .result .count) picked (c .chosen .ensures .0) (c .chosen .ensures .1), begun .pre .0 .d-most)
+picked : (c : tie.After-chosen) → Picked (lane (begun c)) (c .chosen .result .count) (c .chosen .result .axes)
+picked c =
+    record {
+      passed = passed (begun c);
+      small = begun c .pre .0 .d-most;
+      count = c .chosen .ensures .0;
+      cells = c .chosen .ensures .1;
+    }
 
 tolerances-of-requires : tie.Need-tolerances-of-requires
 tolerances-of-requires c κs =
     let g = c .before in
     let s = begun g in
+    let a = s .args in
     let l = lane s in (
-      k-few g,
+      k-few (picked g),
       λ e.
-          let t = tolerances-count l (passed s) in
-          let i = ap length (per-axis-are (s .args .tolerance) (s .args .tolerance-list .now) (axisCount l) e) in
-          omega (arith, t, i, g .chosen .ensures .0),
+          let i = per-axis-count (a .tolerance) (a .tolerance-list .now) (axisCount l) e in
+          omega (arith, tolerances-count l (passed s), i, g .chosen .ensures .0),
     )
 
 others-requires : tie.Need-others-requires
-others-requires c κs = let g = c .before .before .before .before in (k-few g, begun g .pre .0 .d-most)
+others-requires c κs = let g = c .before .before .before .before in (k-few (picked g), begun g .pre .0 .d-most)
 
--- the axes that are left over
+-- and those left over
 module _ (c : tie.After-others) where
   abbrev first : tie.After-chosen
   first = c .before .before .before .before .before
@@ -74,17 +78,8 @@ module _ (c : tie.After-others) where
   abbrev j : ℕ
   j = c .others .result .count
 
-  left-count : j ≡ length (otherAxes (lane start))
-  left-count =
-      j-is (lane start) (passed start) (start .pre .0 .d-most) k (picked first) (first .chosen .ensures .0) (first .chosen .ensures .1) j (c .others .result .axes) (c .others .ensures .0) (c .others .ensures .1)
-
-  sum : j + k ≡ start .args .d
-  sum =
-      j-sum (lane start) (passed start) (start .pre .0 .d-most) k (picked first) (first .chosen .ensures .0) (first .chosen .ensures .1) j (c .others .result .axes) (c .others .ensures .0) (c .others .ensures .1)
-
-  left-below : (a : ℕ) → a < j → getD (c .others .result .axes) a 0 < start .args .d
-  left-below =
-      others-below (lane start) (passed start) (start .pre .0 .d-most) k (picked first) (first .chosen .ensures .0) (first .chosen .ensures .1) j (c .others .result .axes) (c .others .ensures .0) (c .others .ensures .1)
+  parted : Parted (lane start) k (first .chosen .result .axes) j (c .others .result .axes)
+  parted = record { first = picked first; count = c .others .ensures .0; cells = c .others .ensures .1 }
 
 compute-requires : tie.Need-compute-requires
 compute-requires c κs =
@@ -93,14 +88,15 @@ compute-requires c κs =
     let D = s .pre .0 in
     let r = c .before .before .before .before .room-of in
     let e : r .result ≡ max (s .args .n) (s .args .limits .segments) + 16 = r .ensures in
-    let fit = work-fits (r .result) (k o) (j o) (s .args .d) (length (s .args .work .now)) (sum o) (rw e (D .work-fits)) in
+    let sum = j-sum (parted o) in
+    let fit = work-fits (r .result) (k o) (j o) (s .args .d) (length (s .args .work .now)) sum (rw e (D .work-fits)) in
     let R : Roomy (record { axes = k o; samples = s .args .n; room = r .result; count = 6 }) (length (s .args .work .now)) =
     record {
-      few = k-few (first o);
+      few = k-few (picked (first o));
       six = omega arith;
       knots-fit = omega arith;
       waypoints-fit = omega arith;
-      two = two (lane s) (passed s);
+      two = two-waypoints (lane s) (passed s);
       small = omega (arith, D .n-most, D .segments-most);
       cells-fit = omega (arith, fit);
     } in (
@@ -108,11 +104,11 @@ compute-requires c κs =
       (
         (
           D .d-most,
-          omega (arith, sum o, D .d-most),
+          omega (arith, sum, D .d-most),
           D .n-most,
           omega (arith, D .points-are),
-          left-below o,
-          picked-below (lane s) (passed s) (D .d-most) (k o) (picked (first o)) (first o .chosen .ensures .0) (first o .chosen .ensures .1),
+          others-below (parted o),
+          picked-below (picked (first o)),
         ),
         listed-long (lane s) (passed s),
       ),
@@ -122,27 +118,29 @@ returns : tie.Need-returns
 returns c =
     let v = c .before .before .compute in
     let o = c .before .before .before .before .before .before .before .before .before in
-    let t = c .before .before .before .before .before .before .before .before .before .before .before .before .tolerances-of in
+    let t = o .before .before .before .tolerances-of in
     let s = start o in
-    let D = s .pre .0 in
     let l = lane s in
     let r = c .before .before .before .before .before .before .before .room-of in
-    let f = first o in
+    let count = first o .chosen .ensures .0 in
+    let plan : _≡_ {A = Plan} (record { axes = k o; samples = s .args .n; room = r .result; count = 6 })
+    (planOf l (limitsOf (s .args .limits))) =
+    λ i. record { axes = count i; samples = s .args .n; room = r .ensures i; count = 6 } in
     record {
       is =
-          (λ i. computedIn (record { axes = sym (f .chosen .ensures .0) i; samples = s .args .n; room = sym (r .ensures) i; count = 6 }) (sym (left-count o) i) (v .result) (v .last .0))
+          (λ i. computedIn (sym plan i) (sym (j-is (parted o)) i) (v .result) (v .last .0))
           ∙ v .ensures .0
-          ∙ all-is l (passed s) (D .d-most) (k o) (picked f) (f .chosen .ensures .0) (f .chosen .ensures .1) (j o) (o .others .result .axes) (o .others .ensures .0) (o .others .ensures .1) (t .result .cells) (t .ensures) (limitsOf (s .args .limits));
+          ∙ all-is (parted o) (t .result .cells) (t .ensures) (limitsOf (s .args .limits));
       places = λ e.
           let p = v .ensures .1 e in
           record {
-            k-is = f .chosen .ensures .0;
-            j-is = left-count o;
-            two = two l (passed s);
+            k-is = count;
+            j-is = j-is (parted o);
+            two = two-waypoints l (passed s);
             listed = listed-long l (passed s);
-            all-axes = all-axes l (passed s);
-            axes-are = f .chosen .ensures .1;
-            roomy = subst (λ (q : Plan). Roomy (sized q (v .result .count)) (length (v .last .0))) (λ i. record { axes = f .chosen .ensures .0 i; samples = s .args .n; room = r .ensures i; count = 6 }) (p .0);
+            all-axes = axes-count l (passed s);
+            axes-are = first o .chosen .ensures .1;
+            roomy = subst (λ (q : Plan). Roomy (sized q (v .result .count)) (length (v .last .0))) plan (p .0);
             few = p .1;
             others-few = p .2;
           };

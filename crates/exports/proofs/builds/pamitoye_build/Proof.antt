@@ -3,32 +3,59 @@ use mathlib.Core.Path.{_≡_, ap, _∙_}
 use mathlib.Core.List.{List}
 use borrow.Author.Needs.{needs}
 use lib.Ieee.{Float}
+use Rattle.request.specs.declared.parameters.Spacing.{Spacing}
 use Rattle.smoothing.specs.Answer.{Answer, numberOf}
 use Rattle.smoothing.specs.Build.{Result}
-use Rattle.building.specs.Request.{laneOf}
-use Rattle.building.specs.Outcome.{reported, Results, results, resultsAfter, workAfter}
+use Rattle.checks.specs.declared.Axes.{Axes}
+use Rattle.checks.specs.declared.Tolerance.{Tolerance}
+use Rattle.checks.specs.Request.{laneOf}
+use Rattle.building.specs.Outcome.{outcomeOf, reported, Results, results}
 use Rattle.building.specs.Answered.{answerTo}
-use Rattle.exports.specs.Builds.{axesOf, toleranceOf, spacingOf, requested}
+use Rattle.exports.specs.Builds.{axesOf, toleranceOf, spacingOf, Written, written, writtenAfter}
+use Rattle.exports.proofs.Writing.{all-written}
 use Rattle.exports.proofs.builds.pamitoye_build.Statement.{statement}
 use Rattle.exports.proofs.builds.pamitoye_build.Tie as tie
 
+abbrev lent : tie.Start → Results
+lent s =
+    let a = s .args in
+    results (a .breaks .now) (a .coefficients .now) (a .other-breaks .now) (a .other-coefficients .now) (a .errors .now)
+
+-- all that is written, as it was
+abbrev old : tie.Start → Written
+old s =
+    let a = s .args in
+    written (a .work .now) (lent s) (a .counts .now) (a .ratio .now) (a .start .now) (a .end .now)
+
+abbrev answered : tie.Start → Axes → Tolerance → Spacing → Answer Result
+answered s axes tolerance spacing =
+    let a = s .args in
+    answerTo (laneOf (a .d) (a .n) axes (a .axis-list .now) tolerance (a .tolerance-list .now) spacing (a .parameters .now)
+    (a .points .now))
+    (record { refinements = a .refinements; segments = a .segments }) (a .work .now) (lent s)
+
 returns : tie.Need-returns
 returns c =
-    let g = c .before .before .before .before .before .before .before .before .before .before .before .before .before .before .before .before .before .before .before .before .before in
+    let h = c .before .before .before .before .before .before .before in
+    let g = h .before .before .before .before .before .before .before .before .before .before .before .before .before .before in
+    let m = g .before .before .before .before .before .before .before in
+    let p = m .before in
+    let t = p .before in
+    let x = t .before in
+    let s = x .before .before .before .before .before .before .before .before .before .before .before in
+    let a = s .args in
     let b = g .build in
-    let a = g .before .before .before .before .before .before .before .before .before .before .before .before .before .before .before .before .before .before .before .before .before .args in
-    let s = results (a .breaks .now) (a .coefficients .now) (a .other-breaks .now) (a .other-coefficients .now) (a .errors .now) in
-    let x = g .before .before .before .before .before .before .before .before .before .before .axes-of .ensures in
-    let t = g .before .before .before .before .before .before .before .before .before .tolerance-of .ensures in
-    let p = g .before .before .before .before .before .before .before .before .spacing-of .ensures in
-    let e : answerTo (laneOf (a .d) (a .n) (g .before .before .before .before .before .before .before .before .before .before .axes-of .result) (a .axis-list .now) (g .before .before .before .before .before .before .before .before .before .tolerance-of .result) (a .tolerance-list .now)
-    (g .before .before .before .before .before .before .before .before .spacing-of .result) (a .parameters .now) (a .points .now)) (record { refinements = a .refinements; segments = a .segments }) (a .work .now) s
-    ≡ requested (a .d) (a .n) (a .all) (a .axis-list .now) (a .uniform) (a .tolerance) (a .tolerance-list .now) (a .even) (a .parameters .now) (a .points .now)
-    (a .refinements) (a .segments) (a .work .now) s =
-    λ i. answerTo (laneOf (a .d) (a .n) (x i) (a .axis-list .now) (t i) (a .tolerance-list .now) (p i) (a .parameters .now) (a .points .now))
-    (record { refinements = a .refinements; segments = a .segments }) (a .work .now) s in (
-      c .number .ensures ∙ ap numberOf (b .ensures .0) ∙ ap (λ (z : Answer Result). numberOf (reported z)) e,
-      (b .ensures .1 .1 .0 ∙ ap (λ (z : Answer Result). workAfter z (a .work .now)) e, b .ensures .1 .1 .1 ∙ ap (λ (z : Answer Result). resultsAfter z s) e),
+    let n = h .number in
+    let v = c .before .before .before .before .put-answer in
+    let e : answered s (x .axes-of .result) (t .tolerance-of .result) (p .spacing-of .result)
+    ≡ answered s (axesOf (a .all)) (toleranceOf (a .uniform) (a .tolerance)) (spacingOf (a .even)) =
+    λ i. answered s (x .axes-of .ensures i) (t .tolerance-of .ensures i) (p .spacing-of .ensures i) in (
+      n .ensures ∙ ap numberOf (b .ensures .0) ∙ ap (λ (z : Answer Result). numberOf (reported z)) e,
+      all-written (m .mode .result) (a .d) _ (outcomeOf (b .result .answer)) (b .result .curve) (n .result) (b .ensures .0)
+          (b .ensures .1 .0)
+          (n .ensures) (old s) (b .ensures .1 .1 .0) (b .ensures .1 .1 .1) (v .ensures .0) (v .ensures .1)
+          (c .before .before .put-end .ensures) (c .put-end2 .ensures)
+          ∙ (λ i. writtenAfter (m .mode .ensures i) (a .d) (e i) (old s)),
     )
 
 pub pamitoye-build-spec : {M : Type 1} → statement M

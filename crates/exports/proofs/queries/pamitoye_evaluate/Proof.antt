@@ -6,8 +6,11 @@ use Rattle.exports.proofs.queries.pamitoye_evaluate.Statement.{statemen
 use Rattle.exports.proofs.queries.pamitoye_evaluate.Tie as tie
 
 returns : tie.Need-returns
-returns c = let e = c .before .before .before .before .before .before .before .before .before .evaluate .ensures in
-    rw (← c .before .before .before .before .before .before .before .before .before .before .before .before .before .before .curve .ensures) (c .number .ensures ∙ ap (λ (o : Outcome). o .number) e, ap (λ (o : Outcome). o .after) e)
+returns c =
+    let q = c .before .before .before .before .before .before .before .before .before in
+    let k = q .before .before .before .before .before .curve .ensures in
+    let e = q .evaluate .ensures in
+    rw (← k) (c .number .ensures ∙ ap (λ (o : Outcome). o .number) e, ap (λ (o : Outcome). o .after) e)
 
 pub pamitoye-evaluate-spec : {M : Type 1} → statement M
 pamitoye-evaluate-spec =

@@ -1,0 +1,4 @@
+pub mod Padded
+pub mod Selected
+pub mod Passed
+pub mod Domain

@@ -1,0 +1,73 @@
+-- The refusals 1 to 7 of a lane: 6 and 7 are asked where none of 1 to 5 holds; and what holds of a lane that 1 to 5 let through.
+use mathlib.Core.Path.{_≡_, refl, sym, ap, _∙_}
+use mathlib.Core.Bool.{Bool, true, false, cond}
+use Prim.Native.Nat.{ℕ, _+_, _≤_, _<_}
+use native.Mathlib.Omega.{arith}
+use borrow.Author.Tests.{not-false, eqb-true}
+use lib.Dec.{eqb}
+use lib.ListN.{length, getD}
+use Rattle.request.specs.declared.parameters.Spacing.{Spacing}
+use Rattle.request.specs.declared.parameters.Spacing.the-variants.{Listed}
+use Rattle.request.specs.Parameters.{miscounted, misplaced}
+use Rattle.request.specs.Points.{unfit}
+use Rattle.request.proofs.Anys.{or-none}
+use Rattle.request.proofs.Counts.{waypoint-count}
+use Rattle.smoothing.specs.Request.{Lane, axisCount, smoothedAxes, toleranceList}
+use Rattle.smoothing.specs.Rows.{taskOf, laneTask, otherAxes}
+use Rattle.smoothing.specs.Checks.{noAxes, badAxes, badTolerance, refusalOf}
+use Rattle.smoothing.proofs.Passed.{passed, good-axes, all-axes}
+use Rattle.checks.specs.Checks.{refusalBefore, refusalAfter}
+
+pub refusal-after : (l : Lane)
+    → refusalOf l ≡ cond (eqb (refusalBefore l) 0) (refusalAfter (l .spacing) (l .parameters) (laneTask l)) (refusalBefore l)
+unfolding refusalOf refusalBefore laneTask taskOf
+refusal-after l =
+    go (unfit (l .d) (l .n) (l .points)) (noAxes l) (badAxes l) (badTolerance l) (misplaced (l .spacing) (l .parameters) (l .n))
+    (refusalAfter (l .spacing) (l .parameters) (laneTask l))
+  where
+    go : (a b c d e : Bool) (x : ℕ) → cond a 1 (cond b 2 (cond c 3 (cond d 4 (cond e 5 x))))
+        ≡ cond (eqb (cond a 1 (cond b 2 (cond c 3 (cond d 4 (cond e 5 0))))) 0) x (cond a 1 (cond b 2 (cond c 3 (cond d 4 (cond e 5 0)))))
+    go true b c d e x = refl
+    go false true c d e x = refl
+    go false false true d e x = refl
+    go false false false true e x = refl
+    go false false false false true x = refl
+    go false false false false false x = refl
+
+module _ (l : Lane) (h : refusalBefore l ≡ 0) where
+  record Before : Type 0 where
+    points : unfit (l .d) (l .n) (l .points) ≡ false
+    axes : badAxes l ≡ false
+    tolerance : badTolerance l ≡ false
+    placed : misplaced (l .spacing) (l .parameters) (l .n) ≡ false
+
+  before : Before
+  unfolding refusalBefore
+  before =
+      let b = passed (unfit (l .d) (l .n) (l .points)) 1 _ (omega arith) h in
+      let c = passed (noAxes l) 2 _ (omega arith) (b .1) in
+      let d = passed (badAxes l) 3 _ (omega arith) (c .1) in
+      let e = passed (badTolerance l) 4 _ (omega arith) (d .1) in
+      let f = passed (misplaced (l .spacing) (l .parameters) (l .n)) 5 0 (omega arith) (e .1) in
+      record { points = b .0; axes = d .0; tolerance = e .0; placed = f .0 }
+
+  pub two-waypoints : 2 ≤ l .n
+  two-waypoints = waypoint-count (l .d) (l .n) (l .points) (before .points)
+
+  pub axes-below : (i : ℕ) → i < axisCount l → getD (smoothedAxes l) i 0 < l .d
+  axes-below i g = good-axes l (before .axes) i g .0
+
+  pub axes-count : length (otherAxes l) + axisCount l ≡ l .d
+  axes-count = all-axes l (before .axes)
+
+  pub tolerances-count : length (toleranceList l) ≡ axisCount l
+  unfolding badTolerance
+  tolerances-count = eqb-true _ _ (not-false (eqb (length (toleranceList l)) (axisCount l)) (or-none _ _ (before .tolerance) .0))
+
+  pub listed-long : l .spacing ≡ Listed → l .n ≤ length (l .parameters)
+  unfolding misplaced miscounted
+  listed-long e =
+      let m = or-none _ _ (or-none _ _ (before .placed) .0) .0 in
+      let c = ap (λ (s : Spacing). miscounted s (l .parameters) (l .n)) (sym e) ∙ m in
+      let g : length (l .parameters) ≡ l .n = eqb-true _ _ (not-false (eqb (length (l .parameters)) (l .n)) c) in
+      omega arith

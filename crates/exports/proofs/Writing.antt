@@ -1,0 +1,28 @@
+-- All that a call writes, put together.
+use mathlib.Core.Path.{_≡_, ap, _∙_}
+use mathlib.Core.List.{List}
+use Prim.Native.Nat.{ℕ}
+use lib.Ieee.{Float}
+use Rattle.curve.specs.declared.Curve.{Curve}
+use Rattle.curve.specs.declared.Mode.{Mode}
+use Rattle.smoothing.specs.Answer.{Answer, numberOf}
+use Rattle.smoothing.specs.Build.{Result}
+use Rattle.building.specs.declared.Report.{Report}
+use Rattle.building.specs.Outcome.{reported, Results, resultsAfter, workAfter, curveAfter}
+use Rattle.exports.specs.Builds.{countsAfter, ratioAfter, endAfter, Written, written, writtenAfter}
+
+-- the answer y, the code's outcome o, curve k and number n
+module _ (mode : Mode) (d : ℕ) (y : Answer Result) (o : Answer Report) (k : Curve) (n : ℕ) (told : o ≡ reported y)
+    (curve : k ≡ curveAfter mode d y) (number : n ≡ numberOf o) (w : Written) where
+  ends : n ≡ numberOf (reported y)
+  ends = number ∙ ap numberOf told
+
+  pub all-written : {work : List Float} {results : Results} {counts : List ℕ} {ratio start end : Float} → work ≡ workAfter y (w .work)
+      → results ≡ resultsAfter y (w .results) → counts ≡ countsAfter o (w .counts) → ratio ≡ ratioAfter o (w .ratio)
+      → start ≡ endAfter n (k .start) (w .start) → end ≡ endAfter n (k .end) (w .end)
+      → written work results counts ratio start end ≡ writtenAfter mode d y w
+  all-written a b c r s e =
+      λ i. written (a i) (b i) ((c ∙ ap (λ (x : Answer Report). countsAfter x (w .counts)) told) i)
+      ((r ∙ ap (λ (x : Answer Report). ratioAfter x (w .ratio)) told) i)
+      ((s ∙ (λ j. endAfter (ends j) (curve j .start) (w .start))) i)
+      ((e ∙ (λ j. endAfter (ends j) (curve j .end) (w .end))) i)
