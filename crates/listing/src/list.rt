@@ -2,8 +2,12 @@
 // after the other; a case is its kind, a count of whole numbers and these, four bytes each, and a
 // count of cells, four bytes, and these, eight bytes each; low bytes first.
 ghost use mathlib.Core.Path.{_≡_};
-ghost use Prim.Native.Nat.{_≤_, min};
-ghost use lib.ListN.{length};
+ghost use Prim.Native.Nat.{_+_, _≤_, min};
+ghost use mathlib.Core.Bool.{true};
+ghost use lib.ListN.{length, take};
+ghost use Rattle.window.specs.Window.{window};
+ghost use Rattle.encoding.specs.Bytes.{lowFirst};
+ghost use Rattle.listing.specs.Cases.{opening, afterCase};
 use libc::STDIN_FILENO;
 
 pub enum Status {
@@ -35,7 +39,9 @@ fn none(status: Status) -> Head
 }
 
 // Reads n bytes to the start of `bytes`; whether all were there.
-fn take(bytes: &mut [u8], n: usize) -> bool {
+fn take(bytes: &mut [u8], n: usize) -> bool
+    ensures { λ r. ⌜ (r ≡ true → n ≤ length (now (bytes .entry))) ⌝ }
+{
     if bytes.len() < n {
         return false;
     }
@@ -45,7 +51,9 @@ fn take(bytes: &mut [u8], n: usize) -> bool {
 
 // The whole number of the n bytes of `bytes` from `start` on, n at most 8; 0 where they are not
 // there.
-fn number_at(bytes: &[u8], start: usize, n: usize) -> u64 {
+fn number_at(bytes: &[u8], start: usize, n: usize) -> u64
+    ensures { λ r. ⌜ (n ≤ 8 → start + n ≤ length (now (bytes .entry)) → r ≡ lowFirst (window start (start + n) (now (bytes .entry)))) ⌝ }
+{
     if 8 < n {
         return 0;
     }
@@ -60,7 +68,9 @@ fn number_at(bytes: &[u8], start: usize, n: usize) -> u64 {
 }
 
 // Whether the input starts as a list does.
-pub fn opens(bytes: &mut [u8]) -> bool {
+pub fn opens(bytes: &mut [u8]) -> bool
+    ensures { λ r. ⌜ (r ≡ true → lowFirst (take 8 (now (bytes .exit))) ≡ opening) ⌝ }
+{
     if !take(bytes, 8) {
         return false;
     }
@@ -175,7 +185,9 @@ pub fn next_case(bytes: &mut [u8], cells: &mut [f64]) -> Head
 }
 
 // The byte after a case that starts at `place`, has `count` whole numbers and `cells` cells.
-pub fn after(place: u64, count: usize, cells: usize) -> u64 {
+pub fn after(place: u64, count: usize, cells: usize) -> u64
+    ensures { λ r. ⌜ r ≡ afterCase place count cells ⌝ }
+{
     if count <= 16 {
         if cells <= 65536 {
             let length = 6 + 4 * count + 8 * cells;

@@ -1,4 +1,9 @@
 // From one case of a list to the next.
+ghost use mathlib.Core.Path.{_≡_};
+ghost use mathlib.Core.Bool.{false, cond};
+ghost use Rattle.listing.specs.declared.list.Status.the-variants.{Damaged};
+ghost use Rattle.listing.specs.Cases.{afterCase};
+ghost use Rattle.listing.specs.Lines.{isEnd, closedBy};
 use crate::list;
 use crate::list::Head;
 use crate::list::Status;
@@ -12,11 +17,25 @@ pub struct Turn {
     pub more: bool,
 }
 
-// There is no case at the byte `place`: the list has ended, or does not read.
-pub fn stopped(out: &mut [u8], at: usize, place: u64, status: Status) -> Turn {
+fn is_end(status: Status) -> bool
+    ensures { λ r. ⌜ r ≡ isEnd status ⌝ }
+{
     match status {
-        Status::End => output::flush(out, at),
-        _ => output::damaged(out, at, place),
+        Status::Case => false,
+        Status::End => true,
+        Status::Damaged => false,
+    }
+}
+
+// There is no case at the byte `place`: the list has ended, or does not read.
+pub fn stopped(out: &mut [u8], at: usize, place: u64, status: Status) -> Turn
+    ensures { λ r. ⌜ (r .at ≡ at) × (r .place ≡ place) × (r .more ≡ false) ⌝ }
+    ensures { λ _. ⌜ now (out .exit) ≡ closedBy status (now (out .entry)) at place ⌝ }
+{
+    if is_end(status) {
+        output::flush(out, at);
+    } else {
+        output::damaged(out, at, place);
     }
     Turn {
         at,
@@ -26,7 +45,11 @@ pub fn stopped(out: &mut [u8], at: usize, place: u64, status: Status) -> Turn {
 }
 
 // The case at the byte `place` has its line, or could not be answered.
-pub fn answered(out: &mut [u8], line: Line, place: u64, head: Head) -> Turn {
+pub fn answered(out: &mut [u8], line: Line, place: u64, head: Head) -> Turn
+    ensures { λ r. ⌜ (r .at ≡ line .at) × (r .more ≡ line .good) ⌝ }
+    ensures { λ r. ⌜ r .place ≡ cond (line .good) (afterCase place (head .count) (head .cells)) place ⌝ }
+    ensures { λ _. ⌜ now (out .exit) ≡ cond (line .good) (now (out .entry)) (closedBy Damaged (now (out .entry)) (line .at) place) ⌝ }
+{
     if !line.good {
         return stopped(out, line.at, place, Status::Damaged);
     }

@@ -2,6 +2,8 @@
 ghost use mathlib.Core.Path.{_≡_};
 ghost use Prim.Native.Nat.{_+_, _*_, _≤_, _<_};
 ghost use Rattle.polynomial.specs.Placed.{Laid};
+ghost use mathlib.Core.Bool.{true};
+ghost use Rattle.listing.specs.Lines.{Unanswered};
 use listing::list::Head;
 use listing::output;
 use listing::output::Line;
@@ -45,7 +47,9 @@ fn arrange(cells: &[f64], work: &mut [f64], curve: usize) -> bool {
 }
 
 // The line of an audit: the bounds and the witnesses, which lie one after the other, or the number.
-fn line(outcome: Outcome, list: &[f64], out: &mut [u8], at: usize) -> Line {
+fn line(outcome: Outcome, list: &[f64], out: &mut [u8], at: usize) -> Line
+    ensures { λ r. ⌜ r .good ≡ true ⌝ }
+{
     let next = output::text(out, at, b"audit");
     if let Outcome::Done = outcome {
         let next = output::cells(out, next, list, list.len());
@@ -70,6 +74,7 @@ fn answer(
     at: usize,
 ) -> Line
     requires { ⌜ (d ≤ 16) × (n ≤ 65536) × (0 < m) × (m ≤ 65536) × (first < n) × (last < n) ⌝ }
+    ensures { λ r. ⌜ Unanswered (now (out .entry)) at (now (out .exit)) r ⌝ }
 {
     let p = layout(d, n, m);
     let bounds = p.bounds;
@@ -89,7 +94,9 @@ fn answer(
 }
 
 // Kind 50, whole numbers d, n, first, last, segments: the bounds and the witnesses after the audit.
-pub fn audit(head: Head, cells: &[f64], work: &mut [f64], out: &mut [u8], at: usize) -> Line {
+pub fn audit(head: Head, cells: &[f64], work: &mut [f64], out: &mut [u8], at: usize) -> Line
+    ensures { λ r. ⌜ Unanswered (now (out .entry)) at (now (out .exit)) r ⌝ }
+{
     let wholes = head.wholes;
     let d = wholes[0] as usize;
     let n = wholes[1] as usize;

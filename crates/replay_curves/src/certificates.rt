@@ -1,6 +1,9 @@
 // Cases of crate `certificate`.
-ghost use Prim.Native.Nat.{_≤_};
 ghost use lib.ListN.{length};
+ghost use mathlib.Core.Path.{_≡_};
+ghost use mathlib.Core.Bool.{true};
+ghost use Rattle.replay_curves.specs.Following.{FollowingParts};
+ghost use Rattle.listing.specs.Lines.{Unanswered};
 use certificate::certify::Certificate;
 use certificate::certify::Refusal;
 use curve::Curve;
@@ -26,7 +29,7 @@ struct Parts {
 
 // The parts of `count` cells; their own counts are whole numbers 9 to 14.
 fn find_parts(wholes: &[u64; 16], count: usize) -> Parts
-    ensures { λ r. ⌜ (r .from ≤ r .breaks) × (r .breaks ≤ r .coefficients) × (r .coefficients ≤ r .«other_breaks») × (r .«other_breaks» ≤ r .«other_coefficients») × (r .«other_coefficients» ≤ r .points) × (r .points ≤ count) ⌝ }
+    ensures { λ r. ⌜ FollowingParts r count ⌝ }
 {
     let bad = Parts {
         good: false,
@@ -94,7 +97,9 @@ fn number(refusal: Refusal) -> u64 {
 }
 
 // The line of a certificate.
-fn line(certificate: Certificate, out: &mut [u8], at: usize) -> Line {
+fn line(certificate: Certificate, out: &mut [u8], at: usize) -> Line
+    ensures { λ r. ⌜ r .good ≡ true ⌝ }
+{
     let next = output::text(out, at, b"certify");
     match certificate {
         Certificate::Figure(x) => {
@@ -127,7 +132,7 @@ fn answer(
     spacing: Spacing,
     axis: usize,
 ) -> Certificate
-    requires { ⌜ (p .from ≤ p .breaks) × (p .breaks ≤ p .coefficients) × (p .coefficients ≤ p .«other_breaks») × (p .«other_breaks» ≤ p .«other_coefficients») × (p .«other_coefficients» ≤ p .points) × (p .points ≤ length (now cells)) ⌝ }
+    requires { ⌜ FollowingParts p (length (now cells)) ⌝ }
 {
     let a = p.from;
     let b = p.breaks;
@@ -151,7 +156,9 @@ fn answer(
 
 // Kind 90, whole numbers d, k, segments of both sets, n, four of axes, six counts of cells, and the
 // axis with the parameter mode: the certified figure.
-pub fn certify(head: Head, cells: &[f64], out: &mut [u8], at: usize) -> Line {
+pub fn certify(head: Head, cells: &[f64], out: &mut [u8], at: usize) -> Line
+    ensures { λ r. ⌜ Unanswered (now (out .entry)) at (now (out .exit)) r ⌝ }
+{
     let wholes = head.wholes;
     let p = find_parts(&wholes, cells.len());
     if !p.good {

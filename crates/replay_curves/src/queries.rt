@@ -1,5 +1,6 @@
 // Cases of crate `curve`.
-ghost use Prim.Native.Nat.{_≤_};
+ghost use Rattle.replay_curves.specs.Following.{FollowingSlices};
+ghost use Rattle.listing.specs.Lines.{Unanswered};
 use curve::Curve;
 use curve::Mode;
 use listing::axes;
@@ -9,10 +10,10 @@ use listing::output::Line;
 use listing::sizes;
 use query::Answer;
 
-// The parts of a case's cells after `start` and `end`: where the first begins, and where each of the
+// The slices of a case's cells after `start` and `end`: where the first begins, and where each of the
 // breaks, coefficients, other breaks and other coefficients ends; the queries follow. Where the case
 // does not fit its counts, `good` says so.
-struct Parts {
+struct Slices {
     good: bool,
     from: usize,
     breaks: usize,
@@ -21,11 +22,11 @@ struct Parts {
     other_coefficients: usize,
 }
 
-// The parts of `count` cells.
-fn find_parts(d: usize, k: usize, n: usize, others: usize, queries: usize, count: usize) -> Parts
-    ensures { λ r. ⌜ (r .from ≤ r .breaks) × (r .breaks ≤ r .coefficients) × (r .coefficients ≤ r .«other_breaks») × (r .«other_breaks» ≤ r .«other_coefficients») × (r .«other_coefficients» ≤ count) ⌝ }
+// The slices of `count` cells.
+fn find_slices(d: usize, k: usize, n: usize, others: usize, queries: usize, count: usize) -> Slices
+    ensures { λ r. ⌜ FollowingSlices r count ⌝ }
 {
-    let bad = Parts {
+    let bad = Slices {
         good: false,
         from: 0,
         breaks: 0,
@@ -55,7 +56,7 @@ fn find_parts(d: usize, k: usize, n: usize, others: usize, queries: usize, count
     if other_coefficients + queries != count {
         return bad;
     }
-    Parts {
+    Slices {
         good: true,
         from: 2,
         breaks,
@@ -145,13 +146,15 @@ fn queries<'a>(
 
 // Kind 80, whole numbers d, k, segments of both sets, queries and four of axes: values and derivatives
 // at every query.
-pub fn evaluate(head: Head, cells: &[f64], out: &mut [u8], at: usize) -> Line {
+pub fn evaluate(head: Head, cells: &[f64], out: &mut [u8], at: usize) -> Line
+    ensures { λ r. ⌜ Unanswered (now (out .entry)) at (now (out .exit)) r ⌝ }
+{
     let wholes = head.wholes;
     let d = wholes[0] as usize;
     let k = wholes[1] as usize;
     let n = wholes[2] as usize;
     let others = wholes[3] as usize;
-    let p = find_parts(d, k, n, others, wholes[4] as usize, cells.len());
+    let p = find_slices(d, k, n, others, wholes[4] as usize, cells.len());
     if !p.good {
         return output::unanswered(at);
     }

@@ -1,4 +1,7 @@
 // Cases of crate `float`.
+ghost use mathlib.Core.Path.{_≡_};
+ghost use mathlib.Core.Bool.{true};
+ghost use Rattle.listing.specs.Lines.{Unanswered};
 use listing::list::Head;
 use listing::output;
 use listing::output::Line;
@@ -29,7 +32,9 @@ fn name(kind: u8, out: &mut [u8], at: usize) -> usize {
 }
 
 // A number for each cell.
-pub fn numbers(kind: u8, cells: &[f64], out: &mut [u8], at: usize) -> Line {
+pub fn numbers(kind: u8, cells: &[f64], out: &mut [u8], at: usize) -> Line
+    ensures { λ r. ⌜ r .good ≡ true ⌝ }
+{
     let mut next = name(kind, out, at);
     let mut i = 0;
     while i < cells.len() {
@@ -58,7 +63,9 @@ fn pair(kind: u8, x: f64, y: f64, out: &mut [u8], at: usize) -> usize {
 }
 
 // An answer for each two cells.
-pub fn pairs(kind: u8, cells: &[f64], out: &mut [u8], at: usize) -> Line {
+pub fn pairs(kind: u8, cells: &[f64], out: &mut [u8], at: usize) -> Line
+    ensures { λ r. ⌜ r .good ≡ true ⌝ }
+{
     let mut next = name(kind, out, at);
     let mut i = 1;
     while i < cells.len() {
@@ -80,7 +87,9 @@ fn other(kind: u8, exponent: u32, x: f64, out: &mut [u8], at: usize) -> usize {
 }
 
 // A power of each cell, or whether it is finite.
-pub fn others(head: Head, cells: &[f64], out: &mut [u8], at: usize) -> Line {
+pub fn others(head: Head, cells: &[f64], out: &mut [u8], at: usize) -> Line
+    ensures { λ r. ⌜ Unanswered (now (out .entry)) at (now (out .exit)) r ⌝ }
+{
     let kind = head.kind;
     let exponent = head.wholes[1];
     if 0x7fff_ffff < exponent {

@@ -1,6 +1,7 @@
 // Cases of crates `sorting` and `seed`.
 ghost use mathlib.Core.Path.{_≡_};
 ghost use Prim.Native.Nat.{_*_, _≤_};
+ghost use Rattle.listing.specs.Lines.{Unanswered};
 use listing::list::Head;
 use listing::output;
 use listing::output::Line;
@@ -15,7 +16,9 @@ fn rows(d: usize, n: usize) -> usize
 }
 
 // Kind 60, whole numbers d and n: the number of seeded knots, and the knots.
-pub fn seeded(head: Head, cells: &[f64], work: &mut [f64], out: &mut [u8], at: usize) -> Line {
+pub fn seeded(head: Head, cells: &[f64], work: &mut [f64], out: &mut [u8], at: usize) -> Line
+    ensures { λ r. ⌜ Unanswered (now (out .entry)) at (now (out .exit)) r ⌝ }
+{
     let d = head.wholes[0] as usize;
     let n = head.wholes[1] as usize;
     if 16 < d {
@@ -74,7 +77,9 @@ fn ends(t: &[f64], m: usize, x: &[f64], out: &mut [u8], at: usize) -> usize {
 }
 
 // Kind 61, whole numbers knots and count: the number of regions, and the ends of each.
-pub fn regions(head: Head, cells: &[f64], out: &mut [u8], at: usize) -> Line {
+pub fn regions(head: Head, cells: &[f64], out: &mut [u8], at: usize) -> Line
+    ensures { λ r. ⌜ Unanswered (now (out .entry)) at (now (out .exit)) r ⌝ }
+{
     let knots = head.wholes[0] as usize;
     let count = head.wholes[1] as usize;
     if knots < 6 {
@@ -95,7 +100,9 @@ pub fn regions(head: Head, cells: &[f64], out: &mut [u8], at: usize) -> Line {
 }
 
 // Kind 62: the number of cells once sorted and without repeats, and these.
-pub fn sort_dedup(cells: &[f64], work: &mut [f64], out: &mut [u8], at: usize) -> Line {
+pub fn sort_dedup(cells: &[f64], work: &mut [f64], out: &mut [u8], at: usize) -> Line
+    ensures { λ r. ⌜ Unanswered (now (out .entry)) at (now (out .exit)) r ⌝ }
+{
     let n = cells.len();
     if work.len() < n {
         return output::unanswered(at);

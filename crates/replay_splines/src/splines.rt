@@ -1,13 +1,16 @@
 // Cases of crate `bspline`.
 ghost use mathlib.Core.Path.{_≡_};
 ghost use Prim.Native.Nat.{_*_, _≤_};
+ghost use Rattle.listing.specs.Lines.{Unanswered};
 use bspline::Spline;
 use listing::list::Head;
 use listing::output;
 use listing::output::Line;
 
 // Kinds 20 and 21, whole number n: x, and a list of n.
-pub fn point(head: Head, cells: &[f64], out: &mut [u8], at: usize) -> Line {
+pub fn point(head: Head, cells: &[f64], out: &mut [u8], at: usize) -> Line
+    ensures { λ r. ⌜ Unanswered (now (out .entry)) at (now (out .exit)) r ⌝ }
+{
     let kind = head.kind;
     let n = head.wholes[0];
     if cells.len() == 0 {
@@ -30,7 +33,9 @@ pub fn point(head: Head, cells: &[f64], out: &mut [u8], at: usize) -> Line {
 }
 
 // The six values on a span.
-fn values(t: &[f64], span: usize, x: f64, out: &mut [u8], at: usize) -> Line {
+fn values(t: &[f64], span: usize, x: f64, out: &mut [u8], at: usize) -> Line
+    ensures { λ r. ⌜ Unanswered (now (out .entry)) at (now (out .exit)) r ⌝ }
+{
     if span < 5 {
         return output::unanswered(at);
     }
@@ -49,7 +54,9 @@ fn values(t: &[f64], span: usize, x: f64, out: &mut [u8], at: usize) -> Line {
 }
 
 // The 36 coefficients on a span.
-fn powers(t: &[f64], span: u64, x: f64, out: &mut [u8], at: usize) -> Line {
+fn powers(t: &[f64], span: u64, x: f64, out: &mut [u8], at: usize) -> Line
+    ensures { λ r. ⌜ Unanswered (now (out .entry)) at (now (out .exit)) r ⌝ }
+{
     if span < 5 {
         return output::unanswered(at);
     }
@@ -68,7 +75,9 @@ fn powers(t: &[f64], span: u64, x: f64, out: &mut [u8], at: usize) -> Line {
 }
 
 // Kinds 22, 23 and 24, whole numbers knots and, for 24, span: the knots, then x.
-pub fn basis(head: Head, cells: &[f64], out: &mut [u8], at: usize) -> Line {
+pub fn basis(head: Head, cells: &[f64], out: &mut [u8], at: usize) -> Line
+    ensures { λ r. ⌜ Unanswered (now (out .entry)) at (now (out .exit)) r ⌝ }
+{
     let kind = head.kind;
     let n = head.wholes[0];
     let given = head.wholes[1];
@@ -103,7 +112,9 @@ fn product(a: usize, b: usize) -> usize
 
 // The insertion of x into the spline of `count` controls that lies in `work`, its knots at 0 and
 // its controls after one free cell.
-fn inserted(work: &mut [f64], count: usize, d: usize, x: f64, out: &mut [u8], at: usize) -> Line {
+fn inserted(work: &mut [f64], count: usize, d: usize, x: f64, out: &mut [u8], at: usize) -> Line
+    ensures { λ r. ⌜ Unanswered (now (out .entry)) at (now (out .exit)) r ⌝ }
+{
     if count < 6 {
         return output::unanswered(at);
     }
@@ -132,7 +143,9 @@ fn inserted(work: &mut [f64], count: usize, d: usize, x: f64, out: &mut [u8], at
 }
 
 // The polynomial of the spline of `count` controls that lies at the front of `work`.
-fn segments(work: &mut [f64], count: usize, d: usize, out: &mut [u8], at: usize) -> Line {
+fn segments(work: &mut [f64], count: usize, d: usize, out: &mut [u8], at: usize) -> Line
+    ensures { λ r. ⌜ Unanswered (now (out .entry)) at (now (out .exit)) r ⌝ }
+{
     if count < 6 {
         return output::unanswered(at);
     }
@@ -169,7 +182,9 @@ fn segments(work: &mut [f64], count: usize, d: usize, out: &mut [u8], at: usize)
 }
 
 // Kinds 25 and 26, whole numbers d and knots: for 25 x first; the knots, then the controls.
-pub fn spline(head: Head, cells: &[f64], work: &mut [f64], out: &mut [u8], at: usize) -> Line {
+pub fn spline(head: Head, cells: &[f64], work: &mut [f64], out: &mut [u8], at: usize) -> Line
+    ensures { λ r. ⌜ Unanswered (now (out .entry)) at (now (out .exit)) r ⌝ }
+{
     let kind = head.kind;
     let d = head.wholes[0];
     let knots = head.wholes[1];

@@ -3,17 +3,20 @@ ghost use mathlib.Core.Path.{_≡_};
 ghost use Prim.Native.Nat.{_+_, _-_, _*_, _≤_, _<_};
 ghost use Rattle.normal.specs.System.{sizeOf};
 ghost use Rattle.fit.specs.Region.{Laid};
+ghost use mathlib.Core.Bool.{true};
+ghost use Rattle.listing.specs.Lines.{Unanswered};
 use fit::Fitted;
 use fitting_rows::Place;
 use listing::list::Head;
 use listing::output;
 use listing::output::Line;
 
-// The arrays of a case with d axes, n samples and m controls, in the case's order, and the system of k
-// controls after them.
+// The arrays of a case with d axes, n samples and m controls, in the case's order, and the system of the
+// controls from a up to z after them.
 fn layout(d: usize, n: usize, m: usize, a: usize, z: usize) -> Place
     requires { ⌜ (d ≤ 16) × (2 ≤ n) × (n ≤ 65536) × (6 ≤ m) × (m ≤ 65536) × (a ≤ z) × (z ≤ m) ⌝ }
-    ensures { λ r. ⌜ Laid r a z (r .system + sizeOf (z - a) d) × (r .axes ≡ d) × (r .controls ≤ 4000000) × (m * d ≤ 4000000) × (r .system ≤ 8000000) × (sizeOf (z - a) d ≤ 8000000) ⌝ }
+    ensures { λ r. ⌜ Laid r a z (r .system + sizeOf (z - a) d) × (r .axes ≡ d) × (r .controls ≤ 4000000)
+        × (m * d ≤ 4000000) × (r .system ≤ 8000000) × (sizeOf (z - a) d ≤ 8000000) ⌝ }
 {
     let controls = m + 6;
     let parameters = controls + m * d;
@@ -31,7 +34,9 @@ fn layout(d: usize, n: usize, m: usize, a: usize, z: usize) -> Place
 }
 
 // The line of a fit: its counts and all controls, or the number.
-fn line(fitted: Fitted, controls: &[f64], out: &mut [u8], at: usize) -> Line {
+fn line(fitted: Fitted, controls: &[f64], out: &mut [u8], at: usize) -> Line
+    ensures { λ r. ⌜ r .good ≡ true ⌝ }
+{
     let next = output::text(out, at, b"fit");
     match fitted {
         Fitted::Done(counts) => {
@@ -60,6 +65,7 @@ fn answer(
     at: usize,
 ) -> Line
     requires { ⌜ (d ≤ 16) × (2 ≤ n) × (n ≤ 65536) × (6 ≤ m) × (m ≤ 65536) × (a ≤ z) × (z ≤ m) ⌝ }
+    ensures { λ r. ⌜ Unanswered (now (out .entry)) at (now (out .exit)) r ⌝ }
 {
     let p = layout(d, n, m, a, z);
     let k = z - a;
@@ -85,7 +91,9 @@ fn answer(
 }
 
 // Kind 40, whole numbers d, n, a, z, knots: the controls after the fit of the window [a, z).
-pub fn fit(head: Head, cells: &[f64], work: &mut [f64], out: &mut [u8], at: usize) -> Line {
+pub fn fit(head: Head, cells: &[f64], work: &mut [f64], out: &mut [u8], at: usize) -> Line
+    ensures { λ r. ⌜ Unanswered (now (out .entry)) at (now (out .exit)) r ⌝ }
+{
     let wholes = head.wholes;
     let d = wholes[0] as usize;
     let n = wholes[1] as usize;

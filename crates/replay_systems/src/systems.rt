@@ -3,6 +3,9 @@ ghost use mathlib.Core.Path.{_≡_};
 ghost use Prim.Native.Nat.{_+_, _*_, _≤_};
 ghost use lib.ListN.{length};
 ghost use Rattle.normal.specs.System.{sizeOf};
+ghost use Rattle.replay_systems.specs.Windows.{Lies};
+ghost use mathlib.Core.Bool.{true};
+ghost use Rattle.listing.specs.Lines.{Unanswered};
 use listing::list::Head;
 use listing::output;
 use listing::output::Line;
@@ -68,7 +71,8 @@ struct Window {
 
 // Adds the row that lies from `from` on; whether it reads.
 fn add_row(cells: &[f64], from: usize, w: Window, sys: &mut [f64]) -> bool
-    requires { ⌜ (w .d ≤ 16) × (w .a + w .n ≤ w .controls) × (w .controls ≤ 65536) × (w .controls * w .d ≤ length (now cells)) × (from + (8 + w .d) ≤ length (now cells)) × (length (now sys) ≡ sizeOf (w .n) (w .d)) ⌝ }
+    requires { ⌜ Lies w × (w .controls * w .d ≤ length (now cells)) × (from + (8 + w .d) ≤ length (now cells))
+        × (length (now sys) ≡ sizeOf (w .n) (w .d)) ⌝ }
 {
     let d = w.d;
     let start = index_of(cells[from], w.controls);
@@ -85,7 +89,7 @@ fn add_row(cells: &[f64], from: usize, w: Window, sys: &mut [f64]) -> bool
 
 // Adds as many rows as lie after the controls; whether all read.
 fn add_rows(cells: &[f64], rows: usize, w: Window, sys: &mut [f64]) -> bool
-    requires { ⌜ (w .d ≤ 16) × (w .a + w .n ≤ w .controls) × (w .controls ≤ 65536) × (w .controls * w .d + rows * (8 + w .d) ≤ length (now cells)) × (length (now sys) ≡ sizeOf (w .n) (w .d)) ⌝ }
+    requires { ⌜ Lies w × (w .controls * w .d + rows * (8 + w .d) ≤ length (now cells)) × (length (now sys) ≡ sizeOf (w .n) (w .d)) ⌝ }
 {
     let mut from = w.controls * w.d;
     let mut i = 0;
@@ -100,7 +104,9 @@ fn add_rows(cells: &[f64], rows: usize, w: Window, sys: &mut [f64]) -> bool
 }
 
 // The line of a system: the refusal's number, or the solution.
-fn line(answer: Solved, solution: &[f64], out: &mut [u8], at: usize) -> Line {
+fn line(answer: Solved, solution: &[f64], out: &mut [u8], at: usize) -> Line
+    ensures { λ r. ⌜ r .good ≡ true ⌝ }
+{
     let next = output::text(out, at, b"normal");
     match answer {
         Solved::Done => {
@@ -122,7 +128,8 @@ fn system(
     out: &mut [u8],
     at: usize,
 ) -> Line
-    requires { ⌜ (w .d ≤ 16) × (w .a + w .n ≤ w .controls) × (w .controls ≤ 65536) × (w .controls * w .d + rows * (8 + w .d) ≤ length (now cells)) × (sizeOf (w .n) (w .d) ≤ length (now work)) ⌝ }
+    requires { ⌜ Lies w × (w .controls * w .d + rows * (8 + w .d) ≤ length (now cells)) × (sizeOf (w .n) (w .d) ≤ length (now work)) ⌝ }
+    ensures { λ r. ⌜ Unanswered (now (out .entry)) at (now (out .exit)) r ⌝ }
 {
     let n = w.n;
     let d = w.d;
@@ -148,7 +155,9 @@ fn checked(
     work: &mut [f64],
     out: &mut [u8],
     at: usize,
-) -> Line {
+) -> Line
+    ensures { λ r. ⌜ Unanswered (now (out .entry)) at (now (out .exit)) r ⌝ }
+{
     if 16 < d {
         return output::unanswered(at);
     }
@@ -175,7 +184,9 @@ fn checked(
 }
 
 // Kind 30, whole numbers d, a, z, controls, rows: the system of the controls from a up to z.
-pub fn normal(head: Head, cells: &[f64], work: &mut [f64], out: &mut [u8], at: usize) -> Line {
+pub fn normal(head: Head, cells: &[f64], work: &mut [f64], out: &mut [u8], at: usize) -> Line
+    ensures { λ r. ⌜ Unanswered (now (out .entry)) at (now (out .exit)) r ⌝ }
+{
     let d = head.wholes[0] as usize;
     let a = head.wholes[1] as usize;
     let z = head.wholes[2] as usize;

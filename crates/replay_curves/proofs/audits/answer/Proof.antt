@@ -1,6 +1,7 @@
--- `audits::answer` is safe: the slice is as long as the case, so that the parts lie in it.
+-- `audits::answer` meets its contract: the slice is as long as the case, so that the parts lie in it.
 use native.Mathlib.Omega.{arith}
 use borrow.Author.Needs.{needs}
+use Rattle.listing.proofs.Lines.{told}
 use Rattle.replay_curves.proofs.audits.answer.Statement.{statement}
 use Rattle.replay_curves.proofs.audits.answer.Tie as tie
 
@@ -34,4 +35,4 @@ answer-spec =
     (λ c κs. search needs)
     (λ c. search needs)
     (λ c. search needs)
-    (λ c. search needs))
+    (λ c. told (c .before .before .line .ensures)))

@@ -1,6 +1,7 @@
--- `queries::evaluate` is safe: the parts follow each other within the cells.
+-- `queries::evaluate` meets its contract: the parts follow each other within the cells.
 use native.Mathlib.Omega.{arith}
 use borrow.Author.Needs.{needs}
+use Rattle.listing.proofs.Lines.{told}
 use Rattle.replay_curves.proofs.queries.evaluate.Statement.{statement}
 use Rattle.replay_curves.proofs.queries.evaluate.Tie as tie
 
@@ -49,4 +50,4 @@ evaluate-spec =
     (λ c κs. search needs)
     (λ c κs. search needs)
     same-length
-    (λ c. search needs))
+    (λ c. told (c .before .before .end .ensures .1)))

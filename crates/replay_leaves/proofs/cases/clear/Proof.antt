@@ -1,7 +1,8 @@
--- `cases::clear` is safe.
+-- `cases::clear` meets its contract.
 use native.Mathlib.Omega.{arith}
 use borrow.Author.Needs.{needs}
 use lib.ListN.{length-take}
+use Rattle.listing.proofs.Lines.{told}
 use Rattle.replay_leaves.proofs.cases.clear.Statement.{statement}
 use Rattle.replay_leaves.proofs.cases.clear.Tie as tie
 
@@ -24,4 +25,4 @@ clear-spec =
     (λ c κs. search needs)
     (λ c. search needs)
     (λ c. search needs)
-    (λ c. search needs))
+    (λ c. told (c .before .before .end .ensures .1)))

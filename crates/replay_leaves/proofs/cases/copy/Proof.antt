@@ -1,7 +1,8 @@
--- `cases::copy` is safe.
+-- `cases::copy` meets its contract.
 use native.Mathlib.Omega.{arith}
 use borrow.Author.Needs.{needs}
 use lib.ListN.{length-take}
+use Rattle.listing.proofs.Lines.{told}
 use Rattle.replay_leaves.proofs.cases.copy.Statement.{statement}
 use Rattle.replay_leaves.proofs.cases.copy.Tie as tie
 
@@ -31,4 +32,4 @@ copy-spec =
     (λ c κs. search needs)
     (λ c. search needs)
     (λ c. search needs)
-    (λ c. search needs))
+    (λ c. told (c .before .before .end .ensures .1)))

@@ -29,4 +29,4 @@ numbers-spec =
     (λ c. omega arith)
     (λ c κs. omega arith)
     (λ c. omega arith)
-    (λ c. tt))
+    (λ c. c .before .before .end .ensures .1))

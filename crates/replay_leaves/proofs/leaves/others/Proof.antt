@@ -2,7 +2,9 @@
 use mathlib.Core.Path.{_≡_}
 use Prim.Native.Nat.{_-_}
 use native.Mathlib.Omega.{arith}
+use borrow.Author.Needs.{needs}
 use lib.ListN.{length}
+use Rattle.listing.proofs.Lines.{told}
 use Rattle.replay_leaves.proofs.leaves.others.Statement.{statement}
 use Rattle.replay_leaves.proofs.leaves.others.Tie as tie
 
@@ -20,7 +22,7 @@ others-spec =
     μ-loop
     (λ c. omega arith)
     (λ c κs. omega arith)
-    (λ c. tt)
+    (λ c. search needs)
     (λ c κs. omega arith)
     (λ c. omega arith)
     (λ c. omega arith)
@@ -32,4 +34,4 @@ others-spec =
     (λ c. omega arith)
     (λ c κs. omega arith)
     (λ c. omega arith)
-    (λ c. tt))
+    (λ c. told (c .before .before .end .ensures .1)))

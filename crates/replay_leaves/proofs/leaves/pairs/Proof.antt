@@ -31,4 +31,4 @@ pairs-spec =
     (λ c. omega arith)
     (λ c κs. omega arith)
     (λ c. omega arith)
-    (λ c. tt))
+    (λ c. c .before .before .end .ensures .1))

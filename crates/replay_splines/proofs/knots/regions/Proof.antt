@@ -1,7 +1,8 @@
--- `knots::regions` is safe.
+-- `knots::regions` meets its contract.
 use native.Mathlib.Omega.{arith}
 use borrow.Author.Needs.{needs}
 use lib.ListN.{length-take}
+use Rattle.listing.proofs.Lines.{told}
 use Rattle.replay_splines.proofs.knots.regions.Statement.{statement}
 use Rattle.replay_splines.proofs.knots.regions.Tie as tie
 
@@ -33,4 +34,4 @@ regions-spec =
     (λ c κs. search needs)
     (λ c κs. search needs)
     (λ c. search needs)
-    (λ c. search needs))
+    (λ c. told (c .before .before .end .ensures .1)))

@@ -1,7 +1,8 @@
--- `knots::sort_dedup` is safe.
+-- `knots::sort_dedup` meets its contract.
 use native.Mathlib.Omega.{arith}
 use borrow.Author.Needs.{needs}
 use lib.ListN.{length-take}
+use Rattle.listing.proofs.Lines.{told}
 use Rattle.replay_splines.proofs.knots.sort_dedup.Statement.{statement}
 use Rattle.replay_splines.proofs.knots.sort_dedup.Tie as tie
 
@@ -31,4 +32,4 @@ sort-dedup-spec =
     (λ c κs. search needs)
     (λ c. search needs)
     (λ c. search needs)
-    (λ c. search needs))
+    (λ c. told (c .before .before .end .ensures .1)))

@@ -1,7 +1,8 @@
--- `splines::basis` is safe.
+-- `splines::basis` meets its contract.
 use native.Mathlib.Omega.{arith}
 use borrow.Author.Needs.{needs}
 use lib.ListN.{length-take}
+use Rattle.listing.proofs.Lines.{told}
 use Rattle.replay_splines.proofs.splines.basis.Statement.{statement}
 use Rattle.replay_splines.proofs.splines.basis.Tie as tie
 
@@ -35,4 +36,4 @@ basis-spec =
     (λ c κs. search needs)
     (λ c κs. search needs)
     (λ c. search needs)
-    (λ c. search needs))
+    (λ c. told (c .before .before .end .ensures .1)))

@@ -2,6 +2,7 @@
 use native.Mathlib.Omega.{arith}
 use borrow.Author.Needs.{needs}
 use lib.ListN.{length-take}
+use Rattle.listing.proofs.Lines.{told}
 use Rattle.replay_systems.proofs.fits.answer.Statement.{statement}
 use Rattle.replay_systems.proofs.fits.answer.Tie as tie
 
@@ -50,4 +51,4 @@ answer-spec =
     (λ c κs. search needs)
     (λ c. search needs)
     (λ c. search needs)
-    (λ c. search needs))
+    (λ c. told (c .before .before .line .ensures)))
