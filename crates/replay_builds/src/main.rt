@@ -2,10 +2,6 @@
 // parts of the buffers, and writes the oracle's line for each, with a further word where a cell that is
 // to stay or to be cleared is not as it should be. oracle/README.md has the form of a list and of the
 // lines.
-mod lending;
-mod lines;
-mod question;
-
 use listing::list;
 use listing::list::Status;
 use listing::output;
@@ -30,7 +26,7 @@ fn step(
     let status = head.status;
     let n = head.cells;
     if let Status::Case = status {
-        let line = lending::answer(
+        let line = replay_lending::answer(
             head,
             &cells[0..n],
             work,
