@@ -1,0 +1,6 @@
+-- Laws.
+pub mod OneSpelling
+pub mod Exact
+pub mod Places
+pub mod Numbers
+pub mod Longer
