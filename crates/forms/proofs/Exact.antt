@@ -160,6 +160,21 @@ many-exact {A} F X n = record { back = forth n; only = λ vs l rest N e. sole n 
     sole (suc n) vs l rest N e =
         next n vs l rest N (λ r bs s M. sole n bs r s M) (step (F .read l) (λ a r. after (readAll F n r) (λ bs s. got (a ∷ bs) s)) vs rest e)
 
+-- as many values as asked
+pub many-count : {A : Type 0} (F : Form A) (n : ℕ) (l : List ℕ) (vs : List A) (rest : List ℕ) → readAll F n l ≡ got vs rest → length vs ≡ n
+many-count {A} F zero l vs rest e = let q : _≡_ {A = List A} [] vs = cc in sym (ap length q)
+many-count {A} F (suc n) l vs rest e =
+    first (step (F .read l) (λ a r. after (readAll F n r) (λ bs s. got (a ∷ bs) s)) vs rest e) (λ r bs s. many-count F n r bs s)
+  where
+    second : (a : A) (r : List ℕ) → ((bs : List A) (s : List ℕ) → readAll F n r ≡ got bs s → length bs ≡ n)
+        → Stepped (readAll F n r) (λ bs s. got (a ∷ bs) s) vs rest → length vs ≡ suc n
+    second a r ih (stepped bs s e f) =
+        let q : a ∷ bs ≡ vs = cc in sym (ap length q) ∙ ap suc (ih bs s e)
+
+    first : Stepped (F .read l) (λ a r. after (readAll F n r) (λ bs s. got (a ∷ bs) s)) vs rest
+        → ((r : List ℕ) (bs : List A) (s : List ℕ) → readAll F n r ≡ got bs s → length bs ≡ n) → length vs ≡ suc n
+    first (stepped a r e f) ih = second a r (λ bs s. ih r bs s) (step (readAll F n r) (λ bs s. got (a ∷ bs) s) vs rest f)
+
 pub through-exact : {A B : Type 0} (to : A → B) (from : B → A) → ((b : B) → to (from b) ≡ b) → ((a : A) → from (to a) ≡ a)
     → (F : Form A) → Exact F → Exact (through to from F)
 through-exact {A} {B} to from there back F X = record {

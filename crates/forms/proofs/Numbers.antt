@@ -19,6 +19,10 @@ abbrev pub patterns : ℕ → List ℕ → List ℕ
 patterns zero l = []
 patterns (suc m) l = lowFirst (take 8 l) ∷ patterns m (drop 8 l)
 
+pub patterns-count : (m : ℕ) (l : List ℕ) → length (patterns m l) ≡ m
+patterns-count zero l = refl
+patterns-count (suc m) l = ap suc (patterns-count m (drop 8 l))
+
 pub patterns-read : (m : ℕ) (l : List ℕ) → 8 * m ≤ length l → readAll (bytes 8) m l ≡ got (patterns m l) (drop (8 * m) l)
 patterns-read zero l h = refl
 patterns-read (suc m) l h =

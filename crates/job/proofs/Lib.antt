@@ -1,0 +1,4 @@
+-- Laws.
+pub mod Spelling
+pub mod Places
+pub mod Front
