@@ -3,6 +3,7 @@
 mod builds;
 mod certificates;
 mod curves;
+pub mod jobs;
 pub mod known;
 mod leaves;
 mod splines;

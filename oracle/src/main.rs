@@ -8,7 +8,9 @@ pub(crate) use standin::DMatrixView;
 mod answer;
 mod case;
 mod certificate;
+mod compare;
 mod generate;
+mod job;
 mod list;
 mod random;
 mod refusal;
@@ -39,6 +41,8 @@ oracle answer < LIST > TEXT        one line for each case of the list
 oracle list FILE > LIST            the cases of a recipe: lines NAME SEED COUNT
 oracle requests SEED COUNT > LIST  generated requests as cases of kind build
 oracle table SEED COUNT            how many generated requests each refusal has
+oracle job < JOB > TEXT            what the program `lane` prints for a job
+oracle lane PROGRAM SEED COUNT     runs the program on generated jobs, and compares
 oracle help
 ";
 
@@ -54,6 +58,10 @@ fn main() -> ExitCode {
         ["table", seed, count] => {
             two_numbers(seed, count).map(|(seed, count)| table::table(seed, count).into_bytes())
         }
+        ["job"] => input().map(|bytes| job::print(&bytes).into_bytes()),
+        ["lane", program, seed, count] => two_numbers(seed, count)
+            .and_then(|(seed, count)| compare::compare(program, seed, count))
+            .map(String::into_bytes),
         ["help"] => Ok(help().into_bytes()),
         _ => Err(format!("no such command\n\n{}", help())),
     };
@@ -75,11 +83,16 @@ fn help() -> String {
     format!("{HELP}\nnames: {}\n", names.join(" "))
 }
 
-/// Answers the list on standard input.
-fn answer() -> Result<Vec<u8>, String> {
+/// All of standard input.
+fn input() -> Result<Vec<u8>, String> {
     let mut bytes = Vec::new();
     let read = std::io::stdin().read_to_end(&mut bytes);
-    read.map_err(|e| e.to_string())?;
+    read.map(|_| bytes).map_err(|e| e.to_string())
+}
+
+/// Answers the list on standard input.
+fn answer() -> Result<Vec<u8>, String> {
+    let bytes = input()?;
     let mut text = String::new();
     for (i, case) in list::read(&bytes)?.iter().enumerate() {
         let answer = answer::answer(case).map_err(|e| format!("case {i}: {e}"))?;

@@ -9,7 +9,7 @@ use crate::path::smoothing::{SmoothingTolerance, reach};
 use crate::random::{Random, power_of_two};
 use crate::refusal::Refusal;
 use crate::request::{Request, draw};
-use crate::{generate, list, recipe, requests, table};
+use crate::{generate, job, list, recipe, requests, table};
 use std::fs;
 
 #[test]
@@ -404,4 +404,30 @@ fn refusal_14_prints_its_ratio() {
         refused.line(Kind::Build),
         "build refused 14 3FF8000000000000"
     );
+}
+
+/// The 0.95 lane, as document 01 has it.
+const LANE: &[u8] =
+    b"\x01\x03\x14\x64\0\0\0\0\0\0\xF0\x3F\0\0\0\0\0\0\0\0ffffff\xEE\x3F\0\0\0\0\0\0\0\0";
+
+#[test]
+fn the_job_of_document_01() {
+    assert_eq!(job::print(LANE), "accepted 1 0 0 0 4\n3FEE666666666666\n");
+    assert_eq!(job::write([1, 3, 20, 100], 1., &[0., 0.95, 0.]), LANE);
+}
+
+#[test]
+fn jobs_that_do_not_read() {
+    let behind = |counts: &[u8]| job::print(&[counts, &LANE[4..]].concat());
+    // a fourth group, padding, and a count that is cut off
+    assert_eq!(behind(&[0x81, 0x80, 0x80, 1, 3, 20, 100]), "refused 25\n");
+    assert_eq!(behind(&[0x81, 0, 3, 20, 100]), "refused 25\n");
+    assert_eq!(job::print(&[1, 3, 20, 0x80]), "refused 25\n");
+    // a count above its limit comes before numbers that are missing, and after counts that do not read
+    assert_eq!(job::print(&[1, 0xFF, 0xFF, 0x7F, 20, 100]), "refused 18\n");
+    assert_eq!(job::print(&[3, 3, 20, 0x80]), "refused 25\n");
+    // short, and left over
+    assert_eq!(job::print(&LANE[..LANE.len() - 1]), "refused 25\n");
+    assert_eq!(job::print(&[LANE, &[0]].concat()), "refused 25\n");
+    assert_eq!(job::print(&[]), "refused 25\n");
 }
