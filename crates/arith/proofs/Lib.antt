@@ -3,3 +3,5 @@ pub mod Loops
 pub mod Rows
 pub mod Choice
 pub mod Nan
+pub mod Runs
+pub mod FloatOrder

@@ -13,7 +13,7 @@ use Rattle.arith.proofs.Rows.{row-end}
 use Rattle.bspline.specs.Powers.{powersOf}
 use Rattle.bspline.specs.Segments.{segmentOf, spanSegments, spanTurn, polynomialOf, Polynomial}
 use Rattle.bspline.proofs.Lengths.{segment-length}
-use Rattle.bspline.proofs.Joined.{join-length, join-at}
+use Rattle.window.proofs.Joined.{join-length, join-at}
 use Rattle.fraction.specs.Rational.{ℚ, _+q_, _-q_, _*q_, _/q_, negq, inverse, atMostq, _≤q_, _<q_, 𝟘, 𝟙}
 use Rattle.fraction.specs.RationalRing.{rationalRing}
 use Rattle.fraction.specs.Ring.{_⊕_, _⊖_, _⊗_, solve, combine, v0, v1, v2, v3}

@@ -13,8 +13,8 @@ use Rattle.arith.proofs.Rows.{row-end, rows-le}
 use Rattle.window.specs.Window.{window, splice}
 use Rattle.window.proofs.Windows.{length-window, length-splice}
 use Rattle.bspline.specs.Insertion.{knotsWith, alphaOf, control, mixed, mixedRow, newControl, mixedControls, weightsOf, weightAt}
-use Rattle.bspline.proofs.Joined.{list-length, list-at, table-length, table-at, table-ap, by-row}
-use Rattle.bspline.proofs.Written.{splice-before, splice-inside, splice-after}
+use Rattle.window.proofs.Joined.{list-length, list-at, table-length, table-at, table-ap, by-row}
+use Rattle.window.proofs.Written.{splice-before, splice-inside, splice-after}
 
 -- a row above row 0 follows on the one before it
 pub row-before : (i d : ℕ) → 0 < i → (i - 1) * d + d ≡ i * d

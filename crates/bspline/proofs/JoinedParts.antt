@@ -11,8 +11,8 @@ use Rattle.window.specs.Window.{window}
 use Rattle.window.proofs.Windows.{window-window}
 use Rattle.window.proofs.Parts.{read-seam}
 use Rattle.window.proofs.Seams.{same-window, window-append, window-front}
-use Rattle.bspline.specs.Rows.{join}
-use Rattle.bspline.proofs.Joined.{join-length}
+use Rattle.window.specs.Rows.{join}
+use Rattle.window.proofs.Joined.{join-length}
 
 module _ {A : Type 0} where
   -- rows that are known make the part

@@ -8,7 +8,7 @@ use Rattle.arith.specs.Operations.{Arith}
 use Rattle.arith.proofs.Loops.{each-keeps}
 use Rattle.bspline.specs.Segments.{addTurn, addRow, scaleTurn, segmentOf, spanSegments, Scaled}
 use Rattle.bspline.specs.Values.{innerTurn, innerLoop, Inner}
-use Rattle.bspline.proofs.Joined.{join-length}
+use Rattle.window.proofs.Joined.{join-length}
 
 pub inner-length : {A : Type 0} (o : Arith A) (left right : List A) (j : ℕ) (b : List A) → length (innerLoop o left right j b) ≡ length b
 unfolding innerLoop innerTurn

@@ -10,7 +10,7 @@ use borrow.Author.Tests.{ltb-true, ltb-false, lt-ltb, le-ltb}
 use Rattle.arith.specs.Loop.{whilst}
 use Rattle.arith.proofs.Choice.{cond-le}
 use Rattle.bspline.specs.Search.{pickOf, Bisection, several, halve, partitionPoint}
-use Rattle.bspline.proofs.Runs.{whilst-ends}
+use Rattle.arith.proofs.Runs.{whilst-ends}
 
 pub pick-le : {A : Type 0} (outside : A) (test : A → Bool) (list : List A) (at : ℕ) {high low k : ℕ} → high ≤ k → low ≤ k → pickOf outside test list at high low ≤ k
 unfolding pickOf

@@ -16,13 +16,13 @@ use Rattle.window.specs.Window.{window}
 use Rattle.window.proofs.Windows.{window-before}
 use Rattle.bspline.specs.declared.Spline.{Spline}
 use Rattle.bspline.specs.Powers.{powersOf}
-use Rattle.bspline.specs.Rows.{join, written}
+use Rattle.window.specs.Rows.{join, written}
 use Rattle.bspline.specs.Segments.{segmentOf, spanStart, spanWidth, spanSegments, spanTurn, Polynomial, polynomialOf}
 use Rattle.bspline.specs.Placed.{knotsAt, controlsAt, spanPut, countPut, polynomialAt, segmentsAt}
-use Rattle.bspline.proofs.Joined.{join-length}
+use Rattle.window.proofs.Joined.{join-length}
 use Rattle.bspline.proofs.Lengths.{segment-length, segments-length}
-use Rattle.bspline.proofs.Runs.{each-last}
-use Rattle.bspline.proofs.Written.{written-none, written-length, written-next, written-apart, set-written, set-next}
+use Rattle.arith.proofs.Runs.{each-last}
+use Rattle.window.proofs.Written.{written-none, written-length, written-next, written-apart, set-written, set-next}
 
 -- a knot of the spline, read from the slice
 pub knot-is : (s : Spline) (w : List Float) (i : ℕ) → i < s .count + 6 → getD (knotsAt s w) i nan ≡ getD w (s .knots + i) nan

@@ -11,7 +11,7 @@ use lib.Ieee.{Float, nan, le, lt}
 use Rattle.arith.specs.Operations.{Arith, floats}
 use Rattle.bspline.specs.Search.{partitionPoint, spanOf}
 use Rattle.bspline.proofs.PartitionPoint.{all-before, none-from}
-use Rattle.bspline.proofs.FloatOrder.{le-trans, le-self, lt-of-not-le}
+use Rattle.arith.proofs.FloatOrder.{le-trans, le-self, lt-of-not-le}
 
 module _ {A : Type 0} (o : Arith A) (t : List A) (m : ℕ) (x : A) (six : 5 < m) (long : m < length t)
     (transitive : (a b c : A) → o .atMost a b ≡ true → o .atMost b c ≡ true → o .atMost a c ≡ true)

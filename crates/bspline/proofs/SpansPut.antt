@@ -13,11 +13,11 @@ use Rattle.arith.proofs.Rows.{row-end}
 use Rattle.window.specs.Window.{window}
 use Rattle.window.proofs.Windows.{window-cell, window-same, window-before, window-after}
 use Rattle.bspline.specs.declared.Spline.{Spline}
-use Rattle.bspline.specs.Rows.{written}
+use Rattle.window.specs.Rows.{written}
 use Rattle.bspline.specs.Segments.{spanSegments}
 use Rattle.bspline.specs.Placed.{knotsAt, controlsAt, spanPut, spansPut, Wide}
 use Rattle.bspline.proofs.Lengths.{segments-length}
-use Rattle.bspline.proofs.Written.{written-length, set-written}
+use Rattle.window.proofs.Written.{written-length, set-written}
 
 -- the cells of segment j
 abbrev pub segmentRow : Spline → ℕ → List Float → ℕ → List Float

@@ -9,11 +9,11 @@ use Rattle.arith.specs.Operations.{floats}
 use Rattle.arith.specs.Loop.{each}
 use Rattle.arith.proofs.Loops.{each-same, each-runs}
 use Rattle.arith.proofs.Rows.{row-end}
-use Rattle.bspline.specs.Rows.{join, listOf}
+use Rattle.window.specs.Rows.{join, listOf}
 use Rattle.bspline.specs.Powers.{powersOf}
 use Rattle.bspline.specs.Segments.{addTurn, addRow, scaledBy, segmentOf, spanStart, spanWidth, spanSegments, spanTurn, Polynomial, polynomialOf}
 use Rattle.bspline.specs.Placed.{Wide}
-use Rattle.bspline.proofs.Joined.{join-ap, join-length, list-length}
+use Rattle.window.proofs.Joined.{join-ap, join-length, list-length}
 use Rattle.bspline.proofs.Lengths.{segments-length}
 
 -- ---- a span's own controls

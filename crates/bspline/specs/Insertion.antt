@@ -6,7 +6,7 @@ use mathlib.Core.List.{List, _∷_, _++_}
 use lib.Dec.{leb}
 use lib.ListN.{getD, take, drop}
 use Rattle.arith.specs.Operations.{Arith}
-use Rattle.bspline.specs.Rows.{listOf, table}
+use Rattle.window.specs.Rows.{listOf, table}
 
 -- `t.insert(k + 1, x)`: the knots with x after the knot at k
 abbrev pub knotsWith : {A : Type 0} → A → ℕ → List A → List A

@@ -3,7 +3,6 @@ pub mod Search
 pub mod Side
 pub mod Values
 pub mod Powers
-pub mod Rows
 pub mod Insertion
 pub mod Segments
 pub mod Choose

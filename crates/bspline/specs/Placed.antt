@@ -11,7 +11,7 @@ use Rattle.window.specs.Window.{window, splice}
 use Rattle.window.specs.Cells.{+0}
 use Rattle.bspline.specs.declared.Spline.{Spline}
 use Rattle.bspline.specs.Search.{spanOf}
-use Rattle.bspline.specs.Rows.{written}
+use Rattle.window.specs.Rows.{written}
 use Rattle.bspline.specs.Insertion.{knotsWith, controlsWith}
 use Rattle.bspline.specs.Segments.{spanStart, spanWidth, spanSegments, Polynomial, polynomialOf}
 

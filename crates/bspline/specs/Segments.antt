@@ -6,7 +6,7 @@ use lib.ListN.{getD, set, replicate}
 use Rattle.arith.specs.Operations.{Arith}
 use Rattle.arith.specs.Loop.{each}
 use Rattle.bspline.specs.Powers.{powersOf}
-use Rattle.bspline.specs.Rows.{join}
+use Rattle.window.specs.Rows.{join}
 
 -- `p[k] += row[k] * c`, with row r of the table of powers
 unfoldable pub addTurn : {A : Type 0} → Arith A → List A → ℕ → A → ℕ → List A → List A

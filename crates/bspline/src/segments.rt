@@ -6,7 +6,7 @@ ghost use lib.ListN.{length};
 ghost use Rattle.arith.specs.Operations.{floats};
 ghost use Rattle.arith.specs.Loop.{each};
 ghost use Rattle.window.specs.Window.{window};
-ghost use Rattle.bspline.specs.Rows.{join, written};
+ghost use Rattle.window.specs.Rows.{join, written};
 ghost use Rattle.bspline.specs.Segments.{addTurn, scaledBy, segmentOf};
 ghost use Rattle.bspline.specs.Placed.{spanPut, countPut, spansPut, polynomialAt, segmentsAt};
 use crate::Spline;

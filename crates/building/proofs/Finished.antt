@@ -13,7 +13,7 @@ use lib.Ieee.{Float}
 use Rattle.window.specs.Window.{window}
 use Rattle.window.specs.Cells.{zeros}
 use Rattle.window.proofs.Windows.{length-window}
-use Rattle.bspline.specs.Rows.{listOf}
+use Rattle.window.specs.Rows.{listOf}
 use Rattle.bspline.specs.Segments.{Polynomial}
 use Rattle.request.specs.Parameters.{parameterOf}
 use Rattle.curve.specs.declared.Mode.{Mode}

@@ -6,7 +6,7 @@ use mathlib.Core.List.{List}
 use lib.Dec.{eqb}
 use lib.ListN.{length, getD, take}
 use lib.Ieee.{Float}
-use Rattle.bspline.specs.Rows.{listOf}
+use Rattle.window.specs.Rows.{listOf}
 use Rattle.bspline.specs.Segments.{Polynomial}
 use Rattle.request.specs.declared.parameters.Spacing.the-variants.{Listed}
 use Rattle.curve.specs.declared.Curve.{Curve}

@@ -7,7 +7,7 @@ use native.Mathlib.Decide.{decLt, ℕ-discrete}
 use native.Mathlib.Numerals.{add-one}
 use lib.ListN.{length, getD, set, take, length-set, length-append, List·getD-append, List·getD-eq-default}
 use lib.Seq.{ext-getD, getD-set-same, getD-set-other, getD-at, take-suc, length-take-le, getD-take}
-use Rattle.bspline.proofs.Joined.{list-length, list-at}
+use Rattle.window.proofs.Joined.{list-length, list-at}
 use Rattle.checks.specs.Request.{padded}
 
 pub padded-length : (l : List ℕ) → length (padded l) ≡ 16

@@ -13,8 +13,8 @@ use lib.Seq.{length-take-le, getD-take, getD-append-add}
 use lib.Ieee.{Float, nan}
 use lib.Ieee.Scale.{finite}
 use Rattle.window.specs.Cells.{at}
-use Rattle.bspline.specs.Rows.{join, listOf}
-use Rattle.bspline.proofs.Joined.{list-length, list-at}
+use Rattle.window.specs.Rows.{join, listOf}
+use Rattle.window.proofs.Joined.{list-length, list-at}
 use Rattle.request.specs.Any.{any}
 use Rattle.request.proofs.Anys.{any-found}
 use Rattle.curve.specs.First.{firstOf}

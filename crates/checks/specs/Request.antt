@@ -3,7 +3,7 @@ use Prim.Native.Nat.{ℕ}
 use mathlib.Core.List.{List}
 use lib.ListN.{getD}
 use lib.Ieee.{Float}
-use Rattle.bspline.specs.Rows.{listOf}
+use Rattle.window.specs.Rows.{listOf}
 use Rattle.request.specs.declared.parameters.Spacing.{Spacing}
 use Rattle.smoothing.specs.Request as smoothing
 use Rattle.smoothing.specs.Request.{Lane}

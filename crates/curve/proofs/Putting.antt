@@ -8,9 +8,9 @@ use native.Mathlib.Numerals.{add-one}
 use lib.ListN.{length, set, length-append}
 use lib.Ieee.{Float}
 use Rattle.arith.proofs.Rows.{row-end}
-use Rattle.bspline.specs.Rows.{join, listOf}
-use Rattle.bspline.proofs.Joined.{join-length, list-length}
-use Rattle.bspline.proofs.Written.{written-none, written-length, written-next, fill-next}
+use Rattle.window.specs.Rows.{join, listOf}
+use Rattle.window.proofs.Joined.{join-length, list-length}
+use Rattle.window.proofs.Written.{written-none, written-length, written-next, fill-next}
 use Rattle.curve.specs.Put.{putAt}
 
 -- nothing yet

@@ -3,7 +3,7 @@ use mathlib.Core.Bool.{Bool, cond}
 use mathlib.Core.List.{List}
 use Prim.Native.Nat.{ℕ}
 use lib.Ieee.{Float}
-use Rattle.bspline.specs.Rows.{written}
+use Rattle.window.specs.Rows.{written}
 
 -- l with v from a on, where it is asked for
 abbrev pub putAt : Bool → ℕ → List Float → List Float → List Float

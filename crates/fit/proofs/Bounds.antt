@@ -16,7 +16,7 @@ use Rattle.normal.proofs.Outcomes.{solve-number}
 use Rattle.fitting_rows.specs.Arrays.{Arrays}
 use Rattle.fitting_rows.specs.Samples.{below}
 use Rattle.fitting_rows.specs.Pieces.{atOrBelow}
-use Rattle.fitting_rows.proofs.Point.{point-within}
+use Rattle.bspline.proofs.PointWithin.{point-within}
 use Rattle.fit.specs.Assembly.{low, high, assembledOf}
 use Rattle.fit.specs.Fit.{Fit, answer, addTurn, addedTo, solvedOf, fitOf}
 

@@ -16,7 +16,7 @@ use Rattle.fitting_rows.specs.declared.Place.{Place}
 use Rattle.fitting_rows.specs.Arrays.{Arrays, arraysAt}
 use Rattle.fitting_rows.specs.Samples.{below, denseOf, sampleSpan, sampleRowOf}
 use Rattle.fitting_rows.specs.Pieces.{atOrBelow, nodeRowOf, passedOver, meshSpan}
-use Rattle.fitting_rows.proofs.Point.{point-within}
+use Rattle.bspline.proofs.PointWithin.{point-within}
 use Rattle.fit.specs.Assembly.{Assembled, assembled, low, high, counted, sampleTurn, samplesOf, pieceOf, meshTurn, meshOf, sparseTurn, sparseOf, assembledOf}
 use Rattle.fit.specs.Fit.{Answer, Bounded, fitOf, rowsMost}
 use Rattle.fit.specs.Region.{Laid, before}

@@ -1,3 +1,2 @@
 -- Laws about the definitions.
-pub mod Point
 pub mod Rooms

@@ -7,9 +7,9 @@ use lib.Ieee.{Float, nan, binary64, sub, div}
 use lib.ListN.{length, take, getD}
 use lib.Seq.{length-take-le, getD-take}
 use Rattle.window.specs.Cells.{at}
-use Rattle.bspline.specs.Rows.{join, listOf, table, written}
-use Rattle.bspline.proofs.Joined.{join-length, list-length, table-at, table-ap}
-use Rattle.bspline.proofs.Written.{written-all}
+use Rattle.window.specs.Rows.{join, listOf, table, written}
+use Rattle.window.proofs.Joined.{join-length, list-length, table-at, table-ap}
+use Rattle.window.proofs.Written.{written-all}
 use Rattle.smoothing.specs.Rows.{gathered, centred}
 use Rattle.gathering.specs.Rows.{cellOf, centredCell}
 

@@ -2,7 +2,7 @@
 ghost use mathlib.Core.Path.{_≡_};
 ghost use Prim.Native.Nat.{_≤_};
 ghost use lib.ListN.{length};
-ghost use Rattle.bspline.specs.Rows.{listOf};
+ghost use Rattle.window.specs.Rows.{listOf};
 ghost use Rattle.request.specs.declared.parameters.Spacing.the-variants.{Listed};
 ghost use Rattle.request.specs.Parameters.{normalisedOf};
 use request::parameters;

@@ -2,7 +2,7 @@
 ghost use mathlib.Core.Path.{_≡_};
 ghost use Prim.Native.Nat.{_+_, _*_, _≤_};
 ghost use lib.ListN.{length, take};
-ghost use Rattle.bspline.specs.Rows.{listOf, written};
+ghost use Rattle.window.specs.Rows.{listOf, written};
 ghost use Rattle.smoothing.specs.Rows.{gathered, centred};
 ghost use Rattle.gathering.specs.Rows.{Below, cellOf, centredCell};
 

@@ -12,10 +12,10 @@ use Rattle.arith.specs.Loop.{each}
 use Rattle.window.specs.Window.{window}
 use Rattle.window.proofs.Windows.{window-at, window-same, window-after}
 use Rattle.bspline.specs.declared.Spline.{Spline}
-use Rattle.bspline.specs.Rows.{written}
+use Rattle.window.specs.Rows.{written}
 use Rattle.bspline.specs.Segments.{Polynomial, polynomialOf}
 use Rattle.bspline.specs.Placed.{knotsAt, controlsAt, polynomialFrom, polynomialAt, segmentsAt}
-use Rattle.bspline.proofs.Written.{written-length}
+use Rattle.window.proofs.Written.{written-length}
 use Rattle.normal.specs.System.{System, sizeOf}
 use Rattle.normal.specs.Solve.{solveOf}
 use Rattle.fitting_rows.specs.Arrays.{arraysAt}

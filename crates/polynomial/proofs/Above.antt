@@ -14,8 +14,8 @@ use Rattle.arith.proofs.Loops.{Holds, holds-cond, till-holds}
 use Rattle.arith.proofs.Loops.Holds.{goes, ends}
 use Rattle.window.specs.Cells.{at}
 use Rattle.float.specs.Order.{minOf}
-use Rattle.bspline.proofs.FloatOrder.{lt-not-le}
-use Rattle.bspline.proofs.Runs.{whilst-ends}
+use Rattle.arith.proofs.FloatOrder.{lt-not-le}
+use Rattle.arith.proofs.Runs.{whilst-ends}
 use Rattle.polynomial.specs.declared.piece.Piece.{Piece}
 use Rattle.polynomial.specs.declared.interval.Outcome.{Outcome}
 use Rattle.polynomial.specs.declared.interval.Outcome.the-variants.{Done}

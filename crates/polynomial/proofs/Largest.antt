@@ -10,7 +10,7 @@ use Rattle.window.specs.Cells.{at}
 use Rattle.fraction.specs.Value.{absoluteFloat}
 use Rattle.fraction.proofs.Comparison.{number-self}
 use Rattle.float.specs.Order.{chosen, maxOf}
-use Rattle.bspline.proofs.FloatOrder.{lt-le, lt-le-trans, lt-of-not-le}
+use Rattle.arith.proofs.FloatOrder.{lt-le, lt-le-trans, lt-of-not-le}
 use Rattle.polynomial.specs.declared.piece.Largest.{Largest}
 use Rattle.polynomial.specs.Interval.{allFinite, largestTurn}
 use Rattle.polynomial.specs.Largest.{largerOf, largestOf}

@@ -1,6 +1,5 @@
 -- Laws about the definitions.
 pub mod Walk
-pub mod Parts
 pub mod Placed
 pub mod Counts
 pub mod Above

@@ -12,7 +12,7 @@ use Rattle.polynomial.specs.declared.audit.Parts.{Parts}
 use Rattle.polynomial.specs.Interval.{Interval, intervalOf}
 use Rattle.polynomial.specs.Audit.{boundsWith}
 use Rattle.polynomial.specs.Placed.{Laid, breaksAt, coefficientsAt, parametersAt, pointsAt, boundsAt, witnessAt, intervalAt, withBounds}
-use Rattle.polynomial.proofs.Parts.{Apart, both-length, both-before, both-after, both-first, both-second, both-again}
+use Rattle.window.proofs.TwoParts.{Apart, both-length, both-before, both-after, both-first, both-second, both-again}
 
 -- bounds written leave their number
 pub bounds-length : (row d : ℕ) (cells bounds : List Float) → length (boundsWith row d cells bounds) ≡ length bounds

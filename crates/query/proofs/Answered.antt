@@ -7,7 +7,7 @@ use borrow.Author.Tests.{lt-ltb, le-ltb}
 use lib.Dec.{eqb}
 use lib.ListN.{length}
 use lib.Ieee.{Float}
-use Rattle.bspline.specs.Rows.{join}
+use Rattle.window.specs.Rows.{join}
 use Rattle.curve.specs.declared.Curve.{Curve}
 use Rattle.curve.specs.Form.{Slices, wellFormed}
 use Rattle.query.specs.declared.entry.Answer.{Answer}

@@ -5,7 +5,7 @@ use Prim.Native.Nat.{ℕ, _+_, _-_, _≤_, _<_}
 use native.Mathlib.Omega.{arith}
 use lib.ListN.{length, getD}
 use lib.Ieee.{Float, binary64, sub, div}
-use Rattle.bspline.proofs.Joined.{join-ap, list-length}
+use Rattle.window.proofs.Joined.{join-ap, list-length}
 use Rattle.curve.specs.declared.Curve.{Curve}
 use Rattle.curve.specs.Form.{Slices}
 use Rattle.curve.specs.Places.{placeOf}

@@ -9,9 +9,9 @@ use lib.Dec.{leb}
 use lib.ListN.{length, set, length-append}
 use lib.Ieee.{Float}
 use Rattle.arith.proofs.Rows.{row-end}
-use Rattle.bspline.specs.Rows.{join}
-use Rattle.bspline.proofs.Joined.{join-length}
-use Rattle.bspline.proofs.Written.{written-next, set-written}
+use Rattle.window.specs.Rows.{join}
+use Rattle.window.proofs.Joined.{join-length}
+use Rattle.window.proofs.Written.{written-next, set-written}
 use Rattle.curve.specs.Put.{putAt}
 use Rattle.curve.proofs.Putting.{put-none, put-length}
 use Rattle.query.specs.declared.segment.Derivatives.{Derivatives}

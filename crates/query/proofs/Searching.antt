@@ -11,10 +11,10 @@ use lib.Ieee.{Float, nan, lt, le}
 use Rattle.window.specs.Cells.{+0, at}
 use Rattle.bspline.specs.Search.{partitionPoint}
 use Rattle.bspline.proofs.PartitionPoint.{all-before, none-from}
-use Rattle.bspline.proofs.FloatOrder.{le-trans}
+use Rattle.arith.proofs.FloatOrder.{le-trans, lt-le, le-lt-trans, lt-le-trans}
 use Rattle.polynomial.specs.Span.{spanOf}
 use Rattle.query.specs.Search.{Rising, Found}
-use Rattle.curve.proofs.Order.{clash, lt-le, le-lt-trans, lt-le-trans}
+use Rattle.curve.proofs.Order.{clash}
 
 module _ (breaks : List Float) (rising : Rising breaks) where
   -- no break is below 0

@@ -6,7 +6,7 @@ use lib.Dec.{leb, ltb}
 use lib.ListN.{length}
 use lib.Ieee.{Float, binary64, ofBits, sub, div}
 use Rattle.window.specs.Cells.{at}
-use Rattle.bspline.specs.Rows.{join, listOf}
+use Rattle.window.specs.Rows.{join, listOf}
 use Rattle.curve.specs.declared.Curve.{Curve}
 use Rattle.query.specs.declared.segment.Derivatives.{Derivatives}
 use Rattle.query.specs.declared.entry.Answer.{Answer}

@@ -16,13 +16,13 @@ use Rattle.window.proofs.Windows.{window-cell}
 use Rattle.window.proofs.Seams.{same-window}
 use Rattle.bspline.specs.declared.Spline as placed
 use Rattle.bspline.specs.Search.{spanOf}
-use Rattle.bspline.specs.Rows.{written}
+use Rattle.window.specs.Rows.{written}
 use Rattle.bspline.specs.Insertion.{knotsWith, controlsWith}
 use Rattle.bspline.specs.Segments.{Polynomial, polynomialOf}
 use Rattle.bspline.specs.Placed.{insertedAt, polynomialAt}
 use Rattle.bspline.proofs.InsertPlaced.{span-within}
 use Rattle.bspline.proofs.WideSpans.{wide-breaks-length, wide-coefficients-length}
-use Rattle.polynomial.proofs.Parts.{Apart, splice-swap, both-before, both-after, both-first, both-second}
+use Rattle.window.proofs.TwoParts.{Apart, splice-swap, both-before, both-after, both-first, both-second}
 use Rattle.smoothing.specs.Answer.{Answer, unless}
 use Rattle.smoothing.specs.Answer.Answer.{refused}
 use Rattle.smoothing.specs.State.{Spline, spline, polynomialIn}

@@ -15,8 +15,8 @@ use Rattle.window.specs.Window.{window, splice}
 use Rattle.window.specs.Cells.{at}
 use Rattle.window.proofs.Windows.{window-same, window-cell}
 use Rattle.bspline.specs.Search.{spanOf}
-use Rattle.bspline.specs.Rows.{join}
-use Rattle.bspline.proofs.Written.{set-written}
+use Rattle.window.specs.Rows.{join}
+use Rattle.window.proofs.Written.{set-written}
 use Rattle.sorting.specs.Sort.{sortOf}
 use Rattle.sorting.specs.Thin.{dedupOf, distinct}
 use Rattle.sorting.proofs.Sorted.{sort-count}

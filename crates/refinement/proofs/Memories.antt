@@ -13,7 +13,7 @@ use Rattle.window.proofs.Seams.{same-window}
 use Rattle.bspline.specs.Segments.{Polynomial}
 use Rattle.bspline.specs.Placed.{knotsAt}
 use Rattle.polynomial.specs.Placed as audits
-use Rattle.polynomial.proofs.Parts.{Apart, both-before, both-between, both-after, both-first, both-second}
+use Rattle.window.proofs.TwoParts.{Apart, both-before, both-between, both-after, both-first, both-second}
 use Rattle.refinement.specs.declared.plan.Plan.{Plan}
 use Rattle.refinement.specs.Memory.{block, pointsPlace, knotsPlace, controlsPlace, boundsPlace, witnessPlace, locationsPlace}
 use Rattle.refinement.specs.Memory.{systemPlace, breaksPlace, coefficientsPlace, splineOf, partsOf, Roomy, sized, Memory, memory}

@@ -10,10 +10,10 @@ use lib.Ieee.{Float, nan}
 use Rattle.arith.specs.Operations.{floats}
 use Rattle.window.proofs.Windows.{window-cell}
 use Rattle.bspline.specs.declared.Spline.{Spline}
-use Rattle.bspline.specs.Rows.{listOf}
+use Rattle.window.specs.Rows.{listOf}
 use Rattle.bspline.specs.Segments.{spanSegments}
 use Rattle.bspline.specs.Placed.{knotsAt, spansPut}
-use Rattle.bspline.proofs.Joined.{list-at, list-length}
+use Rattle.window.proofs.Joined.{list-at, list-length}
 use Rattle.bspline.proofs.JoinedParts.{rows-join, row-of}
 use Rattle.bspline.proofs.Lengths.{segments-length}
 use Rattle.bspline.proofs.WideSpans.{segments-local, wide-breaks, wide-coefficients}

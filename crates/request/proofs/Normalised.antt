@@ -17,7 +17,7 @@ use Rattle.window.specs.Cells.{+0, at}
 use Rattle.fraction.proofs.Comparison.{number-self}
 use Rattle.fraction.proofs.Rounding.{of-positive, quotient-number, rounded-not-nan, sub-rounded}
 use Rattle.fraction.proofs.Value.{finite-not-nan}
-use Rattle.bspline.proofs.FloatOrder.{le-trans, lt-of-not-le}
+use Rattle.arith.proofs.FloatOrder.{le-trans, lt-le, lt-of-not-le}
 use Rattle.request.specs.declared.parameters.Spacing.{Spacing}
 use Rattle.request.specs.declared.parameters.Spacing.the-variants.{Listed, Even}
 use Rattle.request.specs.Any.{any}
@@ -28,10 +28,6 @@ use Rattle.request.proofs.Difference.{difference-above}
 -- ---- floats
 holds : {b : Bool} → b ≡ true → T b
 holds e = subst T (sym e) tt
-
-le-of-lt : (x y : Float) → lt x y ≡ true → le x y ≡ true
-unfolding le
-le-of-lt x y h = rw h
 
 above-finite : (x : Float) → T (above x) → T (finite x) → T (positive x)
 above-finite nan a F = absurd F
@@ -119,7 +115,7 @@ module _ (spacing : Spacing) (list : List Float) (n : ℕ) (two : 2 ≤ n) (doub
       let e : i + suc d ≡ i + d + 1 = omega arith in
       rw e
       (le-trans (p i) (p (i + d)) (p (i + d + 1)) (upto i d (omega arith))
-      (le-of-lt (p (i + d)) (p (i + d + 1)) (lt-of-not-le (p (i + d + 1)) (p (i + d)) (self (i + d + 1) (omega arith)) (self (i + d) (omega arith)) (no-fall (i + d) (omega arith)))))
+      (lt-le (p (i + d)) (p (i + d + 1)) (lt-of-not-le (p (i + d + 1)) (p (i + d)) (self (i + d + 1) (omega arith)) (self (i + d) (omega arith)) (no-fall (i + d) (omega arith)))))
 
   first-below : lt (p 0) (p (n - 1)) ≡ true
   first-below = lt-of-not-le (p (n - 1)) (p 0) (self (n - 1) (omega arith)) (self 0 (omega arith)) (go (le (p (n - 1)) (p 0)) refl)

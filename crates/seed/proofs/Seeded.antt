@@ -9,7 +9,7 @@ use lib.Ieee.{Float, lt}
 use Rattle.window.specs.Cells.{at}
 use Rattle.window.specs.Window.{window, splice}
 use Rattle.window.proofs.Windows.{window-same, splice-splice}
-use Rattle.bspline.specs.Rows.{written}
+use Rattle.window.specs.Rows.{written}
 use Rattle.sorting.specs.Sort.{sortOf}
 use Rattle.sorting.specs.Thin.{keptOf, thinned}
 use Rattle.sorting.proofs.Sorted.{sort-count}

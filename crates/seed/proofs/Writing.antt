@@ -8,8 +8,8 @@ use lib.ListN.{length, set, length-append}
 use lib.Ieee.{Float}
 use Rattle.arith.specs.Loop.{whilst}
 use Rattle.window.proofs.Windows.{length-window, window-before}
-use Rattle.bspline.specs.Rows.{written}
-use Rattle.bspline.proofs.Written.{written-none, set-next}
+use Rattle.window.specs.Rows.{written}
+use Rattle.window.proofs.Written.{written-none, set-next}
 use Rattle.seed.specs.declared.Waypoints.{Waypoints}
 use Rattle.seed.specs.Anchors.{anchorsOf, nextAnchor}
 use Rattle.seed.specs.Knots.{around, knotsAt, rawKnots}

@@ -5,7 +5,7 @@ ghost use Prim.Native.Nat.{_+_, _*_, _≤_, _<_};
 ghost use lib.ListN.{length, drop};
 ghost use Rattle.sorting.specs.Sort.{sortOf};
 ghost use Rattle.sorting.specs.Thin.{keptOf};
-ghost use Rattle.bspline.specs.Rows.{written};
+ghost use Rattle.window.specs.Rows.{written};
 ghost use Rattle.seed.specs.Anchors.{nextAnchor};
 ghost use Rattle.seed.specs.Knots.{jumpOf, widthOf, around, rawKnots, seedOf};
 ghost use Rattle.seed.specs.Placed.{Laid, parametersAt, pointsAt, seededCells};

@@ -10,8 +10,8 @@ use lib.Seq.{getD-take}
 use lib.Ieee.{Float, nan}
 use Rattle.window.specs.Window.{window}
 use Rattle.window.specs.Cells.{at}
-use Rattle.bspline.specs.Rows.{listOf, table}
-use Rattle.bspline.proofs.Joined.{table-ap}
+use Rattle.window.specs.Rows.{listOf, table}
+use Rattle.window.proofs.Joined.{table-ap}
 use Rattle.polynomial.specs.declared.interval.Outcome.{Outcome}
 use Rattle.polynomial.specs.Outcome as audits
 use Rattle.polynomial.specs.Audit.{Audit}

@@ -11,11 +11,11 @@ use Rattle.arith.proofs.Rows.{row-end}
 use Rattle.window.specs.Window.{window, splice}
 use Rattle.window.specs.Cells.{at, zeros}
 use Rattle.window.proofs.Windows.{length-window, length-splice, window-cell, window-same, window-before, window-after}
-use Rattle.bspline.specs.Rows.{table, written}
+use Rattle.window.specs.Rows.{table, written}
 use Rattle.bspline.specs.declared.Spline.{Spline}
-use Rattle.bspline.proofs.Joined.{table-length, table-ap}
-use Rattle.bspline.proofs.Written.{written-none}
-use Rattle.polynomial.proofs.Parts.{Apart, both-before, both-first, both-second}
+use Rattle.window.proofs.Joined.{table-length, table-ap}
+use Rattle.window.proofs.Written.{written-none}
+use Rattle.window.proofs.TwoParts.{Apart, both-before, both-first, both-second}
 use Rattle.smoothing.specs.Start.{curved, grevilleOf, openKnots, chordControls}
 use Rattle.refinement.specs.declared.plan.Plan.{Plan}
 use Rattle.refinement.specs.Memory.{block, knotsPlace, controlsPlace, boundsPlace, witnessPlace, locationsPlace, systemPlace, breaksPlace, coefficientsPlace, splineOf, Roomy, Memory, memoryAt, withControls, withBounds, taskIn}

@@ -13,8 +13,8 @@ use Rattle.window.specs.Window.{window}
 use Rattle.window.specs.Cells.{zeros}
 use Rattle.window.proofs.Windows.{length-window, window-before}
 use Rattle.window.proofs.Parts.{read-seam}
-use Rattle.bspline.specs.Rows.{written}
-use Rattle.bspline.proofs.Written.{written-plain}
+use Rattle.window.specs.Rows.{written}
+use Rattle.window.proofs.Written.{written-plain}
 use Rattle.fit.specs.Fit.{Fit, Answer}
 use Rattle.polynomial.specs.declared.interval.Outcome.{Outcome}
 use Rattle.polynomial.specs.Outcome as audits

@@ -6,9 +6,9 @@ use native.Mathlib.Omega.{arith}
 use native.Mathlib.Numerals.{add-one}
 use lib.ListN.{length, getD, set}
 use Rattle.arith.proofs.Rows.{row-end}
-use Rattle.bspline.specs.Rows.{join, listOf, table, written}
-use Rattle.bspline.proofs.Joined.{join-ap, table-length}
-use Rattle.bspline.proofs.Written.{fill-next, written-next, splice-before, splice-after}
+use Rattle.window.specs.Rows.{join, listOf, table, written}
+use Rattle.window.proofs.Joined.{join-ap, table-length}
+use Rattle.window.proofs.Written.{fill-next, written-next, splice-before, splice-after}
 
 -- a row lies within
 pub row-within : (i m d to cells : ℕ) → i < m → to + m * d ≤ cells → to + i * d + d ≤ cells

@@ -5,7 +5,7 @@ ghost use lib.ListN.{length, replicate};
 ghost use lib.Ieee.{binary64, mul};
 ghost use Rattle.window.specs.Cells.{at, zeros};
 ghost use Rattle.window.specs.Window.{window};
-ghost use Rattle.bspline.specs.Rows.{listOf, table, written};
+ghost use Rattle.window.specs.Rows.{listOf, table, written};
 ghost use Rattle.smoothing.specs.State.{counts};
 ghost use Rattle.smoothing.specs.Start.{grevilleOf, openKnots, chordControls, chordState};
 ghost use Rattle.refinement.specs.Memory.{Roomy, memoryAt, taskIn, stateIn, withControls, withBounds};

@@ -3,7 +3,7 @@ ghost use mathlib.Core.Path.{_≡_};
 ghost use Prim.Native.Nat.{_+_, _*_, _≤_, _<_};
 ghost use lib.ListN.{length, take};
 ghost use Rattle.window.specs.Cells.{at};
-ghost use Rattle.bspline.specs.Rows.{listOf, table, written};
+ghost use Rattle.window.specs.Rows.{listOf, table, written};
 ghost use Rattle.smoothing.specs.Finish.{errorOf, excessive};
 ghost use Rattle.refinement.specs.Memory.{Roomy, memoryAt, withControls};
 ghost use Rattle.selected_axes.specs.Physical.{scaled};

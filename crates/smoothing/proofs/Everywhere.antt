@@ -15,7 +15,7 @@ use Rattle.arith.specs.Operations.{floats}
 use Rattle.window.specs.Cells.{at}
 use Rattle.fraction.proofs.Rounding.{add-rounded, quotient-number, rounded-not-nan}
 use Rattle.float.specs.Order.{totalLe}
-use Rattle.bspline.specs.Rows.{join}
+use Rattle.window.specs.Rows.{join}
 use Rattle.bspline.proofs.InsertPlaced.{span-within}
 use Rattle.sorting.specs.Sort.{placed, sortOf}
 use Rattle.sorting.specs.Thin.{thinned, dedupOf, keptOf}

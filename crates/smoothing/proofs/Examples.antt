@@ -12,7 +12,7 @@ use Rattle.float.specs.Samples.{Line, floatLines}
 use Rattle.bspline.specs.Choose.{factorials, chooseOf}
 use Rattle.bspline.specs.Insertion.{newControl}
 use Rattle.bspline.specs.Powers.{previousOf, expansionTurn, expand, putTurn, putRow, rowTurn, degreeTurn, powersOf}
-use Rattle.bspline.specs.Rows.{join, table}
+use Rattle.window.specs.Rows.{join, table}
 use Rattle.bspline.specs.Search.{pickOf, halve, partitionPoint}
 use Rattle.bspline.specs.Segments.{addTurn, addRow, scaleTurn, segmentOf, spanTurn, polynomialOf}
 use Rattle.bspline.specs.Values.{innerTurn, innerLoop, outerTurn, valuesOf}

@@ -17,7 +17,7 @@ use Rattle.window.proofs.Windows.{length-window, window-cell}
 use Rattle.fraction.proofs.Comparison.{between-finite, number-self}
 use Rattle.fraction.proofs.Value.{finite-not-nan}
 use Rattle.bspline.specs.Insertion.{knotsWith}
-use Rattle.bspline.proofs.FloatOrder.{lt-of-not-le}
+use Rattle.arith.proofs.FloatOrder.{lt-of-not-le}
 use Rattle.bspline.proofs.Inserted.{knots-low, knots-at, knots-high, knots-length}
 use Rattle.bspline.proofs.InsertPlaced.{span-within}
 use Rattle.sorting.proofs.Kept.{Between}

@@ -14,7 +14,7 @@ use lib.Ieee.Scale.{finite}
 use Rattle.arith.specs.Operations.{floats}
 use Rattle.arith.proofs.Rows.{row-end}
 use Rattle.window.specs.Cells.{at}
-use Rattle.bspline.proofs.Joined.{list-at, list-length, table-length}
+use Rattle.window.proofs.Joined.{list-at, list-length, table-length}
 use Rattle.curve.specs.Form.{axesFormed}
 use Rattle.curve.specs.Places.{positionOf, othersBelow}
 use Rattle.curve.proofs.Formed.{axes-good}

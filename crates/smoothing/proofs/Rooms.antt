@@ -9,7 +9,7 @@ use lib.Dec.{eqb}
 use lib.ListN.{length}
 use Rattle.bspline.specs.Segments.{Polynomial}
 use Rattle.bspline.proofs.Breaks.{polynomial-room}
-use Rattle.bspline.proofs.Joined.{list-length}
+use Rattle.window.proofs.Joined.{list-length}
 use Rattle.arith.specs.Operations.{floats}
 use Rattle.normal.specs.Solve.{solveOf}
 use Rattle.polynomial.specs.Audit.{Audit}

@@ -15,10 +15,10 @@ use Rattle.arith.specs.Loop.{each}
 use Rattle.arith.proofs.Loops.{each-runs}
 use Rattle.window.specs.Cells.{+0, at}
 use Rattle.fraction.proofs.Comparison.{above-not-le}
-use Rattle.bspline.specs.Rows.{join, listOf}
+use Rattle.window.specs.Rows.{join, listOf}
 use Rattle.bspline.specs.Segments.{Polynomial, spanWidth, polynomialOf}
 use Rattle.bspline.proofs.Breaks.{breakTurn, breaks-are, polynomial-room}
-use Rattle.bspline.proofs.Joined.{list-at, list-length}
+use Rattle.window.proofs.Joined.{list-at, list-length}
 use Rattle.request.proofs.Difference.{difference-above}
 use Rattle.curve.specs.Form.{rises, setFormed}
 use Rattle.curve.proofs.Firsts.{first-all, every-all}

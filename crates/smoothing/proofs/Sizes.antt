@@ -14,7 +14,7 @@ use Rattle.window.specs.Cells.{at, zeros}
 use Rattle.bspline.specs.Insertion.{newControl, alphaOf}
 use Rattle.bspline.proofs.Inserted.{knots-length}
 use Rattle.bspline.proofs.InsertPlaced.{span-within}
-use Rattle.bspline.proofs.Joined.{join-most, table-length}
+use Rattle.window.proofs.Joined.{join-most, table-length}
 use Rattle.sorting.specs.Sort.{sortOf}
 use Rattle.sorting.specs.Thin.{dedupOf, distinct}
 use Rattle.sorting.proofs.Sorted.{sort-count}

@@ -12,9 +12,9 @@ use lib.Ieee.Positive.{positive-finite}
 use lib.Ieee.Scale.{finite}
 use Rattle.arith.specs.Operations.{floats}
 use Rattle.fraction.proofs.Comparison.{positive-above}
-use Rattle.bspline.specs.Rows.{listOf}
+use Rattle.window.specs.Rows.{listOf}
 use Rattle.bspline.specs.Segments.{Polynomial, polynomialOf}
-use Rattle.bspline.proofs.Joined.{list-at}
+use Rattle.window.proofs.Joined.{list-at}
 use Rattle.normal.specs.Solve.{solveOf}
 use Rattle.curve.specs.declared.Mode.{Mode}
 use Rattle.curve.specs.Form.{axesFormed, setFormed, othersFormed, rangeFormed, wellFormed}

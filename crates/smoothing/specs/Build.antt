@@ -5,7 +5,7 @@ use mathlib.Core.List.{List, []}
 use lib.Dec.{eqb}
 use lib.ListN.{length, getD}
 use lib.Ieee.{Float}
-use Rattle.bspline.specs.Rows.{listOf}
+use Rattle.window.specs.Rows.{listOf}
 use Rattle.bspline.specs.Segments.{Polynomial}
 use Rattle.curve.specs.declared.Curve.{Curve}
 use Rattle.curve.specs.declared.Mode.{Mode}

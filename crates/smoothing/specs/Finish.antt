@@ -7,7 +7,7 @@ use Rattle.arith.specs.Loop.{each}
 use Rattle.arith.specs.Operations.{floats}
 use Rattle.window.specs.Cells.{+0, at}
 use Rattle.float.specs.Order.{maxOf}
-use Rattle.bspline.specs.Rows.{listOf, table}
+use Rattle.window.specs.Rows.{listOf, table}
 use Rattle.bspline.specs.Segments.{Polynomial, polynomialOf}
 use Rattle.polynomial.specs.Audit.{Audit, auditOf}
 use Rattle.polynomial.specs.Outcome as audits

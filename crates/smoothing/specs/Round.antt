@@ -12,7 +12,7 @@ use Rattle.window.specs.Cells.{+0, at}
 use Rattle.float.specs.Order.{maxOf}
 use Rattle.float.specs.Power.{powerOf}
 use Rattle.bspline.specs.Search.{spanOf}
-use Rattle.bspline.specs.Rows.{join}
+use Rattle.window.specs.Rows.{join}
 use Rattle.bspline.specs.Insertion.{knotsWith, controlsWith}
 use Rattle.sorting.specs.Sort.{sortOf}
 use Rattle.sorting.specs.Thin.{dedupOf}

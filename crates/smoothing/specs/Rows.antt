@@ -7,7 +7,7 @@ use lib.Dec.{ltb}
 use lib.ListN.{length, getD}
 use lib.Ieee.{Float, binary64, sub, div}
 use Rattle.window.specs.Cells.{at}
-use Rattle.bspline.specs.Rows.{listOf, table}
+use Rattle.window.specs.Rows.{listOf, table}
 use Rattle.request.specs.Parameters.{normalisedOf}
 use Rattle.curve.specs.Places.{positionOf}
 use Rattle.smoothing.specs.Request.{Lane, smoothedAxes, axisCount, toleranceList}

@@ -2,3 +2,4 @@
 pub mod Cells
 pub mod Window
 pub mod Parts
+pub mod Rows

@@ -11,9 +11,9 @@ use lib.Ieee.Scale.{finite}
 use Rattle.window.specs.Cells.{at}
 use Rattle.window.specs.Window.{window, splice}
 use Rattle.window.proofs.Windows.{length-window, length-splice, window-same}
-use Rattle.bspline.specs.Rows.{listOf}
-use Rattle.bspline.proofs.Joined.{list-length, list-at, table-length}
-use Rattle.polynomial.proofs.Parts.{Apart, both-first}
+use Rattle.window.specs.Rows.{listOf}
+use Rattle.window.proofs.Joined.{list-length, list-at, table-length}
+use Rattle.window.proofs.TwoParts.{Apart, both-first}
 use Rattle.request.specs.declared.parameters.Spacing.{Spacing}
 use Rattle.request.specs.Any.{any}
 use Rattle.request.specs.Parameters.{normalisedOf, lengthOf, anyFall, unreliable}

@@ -5,7 +5,7 @@ use mathlib.Core.List.{List, [], _++_}
 use lib.Dec.{eqb}
 use lib.ListN.{length, drop, take}
 use lib.Ieee.{Float}
-use Rattle.bspline.specs.Rows.{listOf}
+use Rattle.window.specs.Rows.{listOf}
 use Rattle.bspline.specs.Segments.{Polynomial}
 use Rattle.request.specs.declared.parameters.Spacing.{Spacing}
 use Rattle.request.specs.Parameters.{normalisedOf}

@@ -18,7 +18,7 @@ returns-2 c =
     let g = c .before .before .before .before in
     let l = g .before .before .before .before .args .bytes .now in (
       unread2 l _ _ (sym (g .d .given .1) ∙ g .before .before .number-at .ensures)
-      (sym (c .enum-told2 .given .1) ∙ c .before .before .number-at2 .ensures),
+          (sym (c .enum-told2 .given .1) ∙ c .before .before .number-at2 .ensures),
       omega arith,
     )
 
@@ -28,8 +28,8 @@ returns-3 c =
     let g = h .before .before .before .before in
     let l = g .before .before .before .before .args .bytes .now in (
       unread3 l _ _ (sym (g .d .given .1) ∙ g .before .before .number-at .ensures) _ _
-      (sym (h .n .given .1) ∙ h .before .before .number-at2 .ensures)
-      (sym (c .enum-told3 .given .1) ∙ c .before .before .number-at3 .ensures),
+          (sym (h .n .given .1) ∙ h .before .before .number-at2 .ensures)
+          (sym (c .enum-told3 .given .1) ∙ c .before .before .number-at3 .ensures),
       omega arith,
     )
 
@@ -40,9 +40,9 @@ returns-4 c =
     let g = h .before .before .before .before in
     let l = g .before .before .before .before .args .bytes .now in (
       unread4 l _ _ (sym (g .d .given .1) ∙ g .before .before .number-at .ensures) _ _
-      (sym (h .n .given .1) ∙ h .before .before .number-at2 .ensures) _ _
-      (sym (k .refinements .given .1) ∙ k .before .before .number-at3 .ensures)
-      (sym (c .enum-told4 .given .1) ∙ c .before .before .number-at4 .ensures),
+          (sym (h .n .given .1) ∙ h .before .before .number-at2 .ensures) _ _
+          (sym (k .refinements .given .1) ∙ k .before .before .number-at3 .ensures)
+          (sym (c .enum-told4 .given .1) ∙ c .before .before .number-at4 .ensures),
       omega arith,
     )
 

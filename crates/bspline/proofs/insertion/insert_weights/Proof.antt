@@ -7,10 +7,10 @@ use Rattle.window.specs.Cells.{zeros}
 use native.Mathlib.Omega.{arith}
 use lib.ListN.{length}
 use Rattle.arith.specs.Operations.{floats}
-use Rattle.bspline.specs.Rows.{join, listOf, written}
+use Rattle.window.specs.Rows.{join, listOf, written}
 use Rattle.bspline.specs.Insertion.{alphaOf}
-use Rattle.bspline.proofs.Written.{fill-next, written-all}
-use Rattle.bspline.proofs.Joined.{list-length}
+use Rattle.window.proofs.Written.{fill-next, written-all}
+use Rattle.window.proofs.Joined.{list-length}
 use Rattle.bspline.proofs.insertion.insert_weights.Statement.{statement}
 use Rattle.bspline.proofs.insertion.insert_weights.Tie as tie
 

@@ -6,10 +6,10 @@ use mathlib.Core.List.{List}
 use lib.ListN.{length, getD, set, length-set}
 use lib.Ieee.{Float, nan}
 use Rattle.arith.specs.Operations.{floats}
-use Rattle.bspline.specs.Rows.{join, listOf, written}
+use Rattle.window.specs.Rows.{join, listOf, written}
 use Rattle.bspline.specs.Insertion.{mixed}
-use Rattle.bspline.proofs.Written.{fill-next, written-none, splice-before, splice-after}
-use Rattle.bspline.proofs.Joined.{list-length}
+use Rattle.window.proofs.Written.{fill-next, written-none, splice-before, splice-after}
+use Rattle.window.proofs.Joined.{list-length}
 use Rattle.bspline.proofs.insertion.mix_row.Statement.{statement}
 use Rattle.bspline.proofs.insertion.mix_row.Tie as tie
 

@@ -4,7 +4,7 @@ use Prim.Native.Nat.{_+_, _-_, _≤_}
 use native.Mathlib.Omega.{arith}
 use lib.ListN.{length, length-set}
 use lib.Ieee.{nan}
-use Rattle.bspline.proofs.Written.{moved, moved-none, moved-read, moved-next, moved-all}
+use Rattle.window.proofs.Written.{moved, moved-none, moved-read, moved-next, moved-all}
 use Rattle.bspline.proofs.insertion.shift.Statement.{statement}
 use Rattle.bspline.proofs.insertion.shift.Tie as tie
 

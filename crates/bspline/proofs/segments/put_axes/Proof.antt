@@ -9,11 +9,11 @@ use Rattle.arith.specs.Operations.{floats}
 use Rattle.window.specs.Window.{window, splice, copied}
 use Rattle.window.proofs.Windows.{length-window, window-before}
 use Rattle.window.proofs.Filling.{copied-all}
-use Rattle.bspline.specs.Rows.{join, written}
+use Rattle.window.specs.Rows.{join, written}
 use Rattle.bspline.specs.Segments.{segmentOf}
 use Rattle.bspline.proofs.Lengths.{segment-length}
-use Rattle.bspline.proofs.Joined.{join-length}
-use Rattle.bspline.proofs.Written.{written-none, written-length, row-next}
+use Rattle.window.proofs.Joined.{join-length}
+use Rattle.window.proofs.Written.{written-none, written-length, row-next}
 use Rattle.bspline.proofs.segments.put_axes.Statement.{statement}
 use Rattle.bspline.proofs.segments.put_axes.Tie as tie
 

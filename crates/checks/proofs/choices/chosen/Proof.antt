@@ -6,7 +6,7 @@ use native.Mathlib.Omega.{arith}
 use borrow.Author.Needs.{needs}
 use lib.ListN.{length, take, set}
 use lib.Seq.{take-length}
-use Rattle.bspline.specs.Rows.{join}
+use Rattle.window.specs.Rows.{join}
 use Rattle.checks.specs.Request.{axesIn, padded}
 use Rattle.checks.proofs.Padded.{padded-length, padded-more}
 use Rattle.checks.proofs.Selected.{count-within, listed-count}

@@ -6,7 +6,7 @@ use Prim.Native.Nat.{_+_, _-_, _≤_}
 use native.Mathlib.Omega.{arith}
 use borrow.Author.Needs.{needs}
 use lib.ListN.{length, take, length-append}
-use Rattle.bspline.specs.Rows.{join}
+use Rattle.window.specs.Rows.{join}
 use Rattle.smoothing.specs.Rows.{leftOver}
 use Rattle.checks.specs.Request.{padded}
 use Rattle.checks.proofs.Padded.{padded-length, padded-next}

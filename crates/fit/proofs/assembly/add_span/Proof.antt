@@ -12,7 +12,7 @@ use lib.Ieee.{nan, lt}
 use Rattle.window.specs.Cells.{at}
 use Rattle.window.proofs.Windows.{length-window}
 use Rattle.fitting_rows.specs.declared.pieces.Mesh.{Mesh}
-use Rattle.fitting_rows.proofs.Point.{point-within}
+use Rattle.bspline.proofs.PointWithin.{point-within}
 use Rattle.fit.proofs.Placing.{placed}
 use Rattle.fit.proofs.Turns.{span-passed, span-counted}
 use Rattle.fit.proofs.assembly.add_span.Statement.{statement}

@@ -10,7 +10,7 @@ use Rattle.window.proofs.Windows.{length-window, window-cell}
 use Rattle.fit.specs.Region.{before}
 use Rattle.fitting_rows.specs.Samples.{below}
 use Rattle.fitting_rows.specs.Pieces.{atOrBelow}
-use Rattle.fitting_rows.proofs.Point.{point-within}
+use Rattle.bspline.proofs.PointWithin.{point-within}
 use Rattle.fit.proofs.window_fit.reach_of.Statement.{statement}
 use Rattle.fit.proofs.window_fit.reach_of.Tie as tie
 

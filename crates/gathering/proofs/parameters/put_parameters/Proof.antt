@@ -6,9 +6,9 @@ use native.Mathlib.Omega.{arith}
 use borrow.Author.Needs.{needs}
 use lib.Ieee.{binary64, sub, div}
 use lib.ListN.{length, set}
-use Rattle.bspline.specs.Rows.{join, listOf}
-use Rattle.bspline.proofs.Joined.{list-length}
-use Rattle.bspline.proofs.Written.{written-all}
+use Rattle.window.specs.Rows.{join, listOf}
+use Rattle.window.proofs.Joined.{list-length}
+use Rattle.window.proofs.Written.{written-all}
 use Rattle.curve.proofs.Putting.{Put, put-none, put-step}
 use Rattle.request.specs.Parameters.{normalisedOf}
 use Rattle.gathering.proofs.parameters.put_parameters.Statement.{statement}

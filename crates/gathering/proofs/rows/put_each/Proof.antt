@@ -6,8 +6,8 @@ use native.Mathlib.Omega.{arith}
 use lib.ListN.{length}
 use lib.Ieee.{Float}
 use Rattle.arith.proofs.Rows.{row-end}
-use Rattle.bspline.specs.Rows.{join, listOf}
-use Rattle.bspline.proofs.Joined.{list-length}
+use Rattle.window.specs.Rows.{join, listOf}
+use Rattle.window.proofs.Joined.{list-length}
 use Rattle.curve.proofs.Putting.{Rows, put-none, put-rows}
 use Rattle.gathering.specs.Rows.{cellOf}
 use Rattle.gathering.proofs.Gathered.{rows-written, gathered-rows}

@@ -7,7 +7,7 @@ use lib.ListN.{length, getD}
 use lib.Ieee.{Float}
 use Rattle.arith.proofs.Rows.{row-end}
 use Rattle.window.specs.Cells.{at}
-use Rattle.bspline.specs.Rows.{join}
+use Rattle.window.specs.Rows.{join}
 use Rattle.curve.specs.declared.Curve.{Curve}
 use Rattle.curve.specs.Form.{Slices, slices}
 use Rattle.curve.proofs.Placing.{place-below}

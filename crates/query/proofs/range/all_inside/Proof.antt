@@ -8,10 +8,10 @@ use native.Mathlib.Omega.{arith}
 use lib.ListN.{length}
 use lib.Ieee.{Float, le}
 use Rattle.window.specs.Cells.{at}
-use Rattle.bspline.proofs.FloatOrder.{le-self}
+use Rattle.arith.proofs.FloatOrder.{le-self, le-not-lt}
 use Rattle.curve.specs.declared.Curve.{Curve}
 use Rattle.query.specs.Range.{within, rangedOf}
-use Rattle.curve.proofs.Order.{and-parts, le-not-lt, le-number}
+use Rattle.curve.proofs.Order.{and-parts, le-number}
 use Rattle.curve.proofs.Firsts.{every-at}
 use Rattle.curve.proofs.Counting.{Counted, counted-none, counted-next, both}
 use Rattle.query.proofs.range.all_inside.Statement.{statement}

@@ -5,7 +5,7 @@ use Prim.Native.Nat.{ℕ, _+_, _-_, _*_, _≤_}
 use native.Mathlib.Omega.{arith}
 use lib.ListN.{getD}
 use lib.Ieee.{Float}
-use Rattle.bspline.specs.Rows.{join, listOf}
+use Rattle.window.specs.Rows.{join, listOf}
 use Rattle.query.specs.declared.segment.Local.{Local}
 use Rattle.query.specs.declared.segment.Derivatives.{Derivatives}
 use Rattle.query.specs.Segment.{axisAt}

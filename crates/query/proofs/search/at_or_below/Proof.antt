@@ -3,8 +3,8 @@ use mathlib.Core.Path.{sym, subst}
 use native.Mathlib.Omega.{arith}
 use lib.Dec.{T}
 use lib.Ieee.{binary64, fits}
+use Rattle.arith.proofs.FloatOrder.{lt-le}
 use Rattle.query.proofs.BitOrder.{order-le, order-lt, clear-room, above-room, at-least-number}
-use Rattle.curve.proofs.Order.{lt-le}
 use Rattle.query.proofs.search.at_or_below.Statement.{statement}
 use Rattle.query.proofs.search.at_or_below.Tie as tie
 use Rattle.query.proofs.search.at_or_below.Reads as reads

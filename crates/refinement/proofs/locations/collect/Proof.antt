@@ -3,7 +3,7 @@ use mathlib.Core.Path.{_≡_, refl}
 use Prim.Native.Nat.{_-_, _≤_}
 use native.Mathlib.Omega.{arith}
 use lib.ListN.{length}
-use Rattle.bspline.specs.Rows.{join}
+use Rattle.window.specs.Rows.{join}
 use Rattle.refinement.specs.Memory.{memoryAt, locationsAt}
 use Rattle.refinement.specs.Kept.{Relocated}
 use Rattle.refinement.specs.Round.{locationOf}

@@ -4,7 +4,7 @@ use Prim.Native.Nat.{ℕ, _+_, _≤_, _<_}
 use native.Mathlib.Omega.{arith}
 use borrow.Author.Needs.{needs}
 use lib.ListN.{length, length-take}
-use Rattle.bspline.proofs.Written.{written-none}
+use Rattle.window.proofs.Written.{written-none}
 use Rattle.seed.specs.Knots.{rawKnots}
 use Rattle.seed.specs.Placed.{parametersAt, pointsAt}
 use Rattle.seed.proofs.Writing.{parameters-length, raw-count}

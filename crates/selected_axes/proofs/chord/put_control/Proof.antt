@@ -6,8 +6,8 @@ use native.Mathlib.Omega.{arith}
 use lib.ListN.{length, length-set}
 use lib.Ieee.{Float, nan, binary64, mul}
 use Rattle.window.specs.Cells.{at}
-use Rattle.bspline.specs.Rows.{listOf, written}
-use Rattle.bspline.proofs.Written.{written-none}
+use Rattle.window.specs.Rows.{listOf, written}
+use Rattle.window.proofs.Written.{written-none}
 use Rattle.selected_axes.proofs.Tables.{before-written, list-none, cell-next}
 use Rattle.selected_axes.proofs.chord.put_control.Statement.{statement}
 use Rattle.selected_axes.proofs.chord.put_control.Tie as tie

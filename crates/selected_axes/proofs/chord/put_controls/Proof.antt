@@ -8,9 +8,9 @@ use lib.Ieee.{Float, nan, binary64, mul}
 use Rattle.window.specs.Cells.{at}
 use Rattle.window.specs.Window.{window}
 use Rattle.window.proofs.Windows.{length-window, window-before}
-use Rattle.bspline.specs.Rows.{table, written}
-use Rattle.bspline.proofs.Joined.{table-length}
-use Rattle.bspline.proofs.Written.{written-none}
+use Rattle.window.specs.Rows.{table, written}
+use Rattle.window.proofs.Joined.{table-length}
+use Rattle.window.proofs.Written.{written-none}
 use Rattle.smoothing.specs.Start.{grevilleOf}
 use Rattle.selected_axes.proofs.Tables.{before-written, table-none, row-within, row-next}
 use Rattle.selected_axes.proofs.chord.put_controls.Statement.{statement}

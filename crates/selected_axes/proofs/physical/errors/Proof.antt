@@ -7,7 +7,7 @@ use native.Mathlib.Numerals.{add-one}
 use lib.ListN.{length, take, length-set}
 use lib.Seq.{take-suc-set}
 use lib.Ieee.{Float}
-use Rattle.bspline.specs.Rows.{listOf}
+use Rattle.window.specs.Rows.{listOf}
 use Rattle.smoothing.specs.Finish.{errorOf}
 use Rattle.selected_axes.proofs.Tables.{list-none, list-more}
 use Rattle.selected_axes.proofs.physical.errors.Statement.{statement}

@@ -6,9 +6,9 @@ use native.Mathlib.Omega.{arith}
 use lib.ListN.{length, length-set}
 use lib.Ieee.{Float, nan}
 use Rattle.window.specs.Cells.{at}
-use Rattle.bspline.specs.Rows.{listOf, written}
-use Rattle.bspline.proofs.Joined.{list-length}
-use Rattle.bspline.proofs.Written.{written-none}
+use Rattle.window.specs.Rows.{listOf, written}
+use Rattle.window.proofs.Joined.{list-length}
+use Rattle.window.proofs.Written.{written-none}
 use Rattle.selected_axes.specs.Physical.{scaled}
 use Rattle.selected_axes.proofs.Tables.{before-written, behind-written, list-none, cell-next}
 use Rattle.selected_axes.proofs.physical.scale_control.Statement.{statement}

@@ -6,9 +6,9 @@ use native.Mathlib.Omega.{arith}
 use lib.ListN.{length}
 use lib.Ieee.{Float, nan}
 use Rattle.window.specs.Cells.{at}
-use Rattle.bspline.specs.Rows.{table, written}
-use Rattle.bspline.proofs.Joined.{table-length}
-use Rattle.bspline.proofs.Written.{written-none}
+use Rattle.window.specs.Rows.{table, written}
+use Rattle.window.proofs.Joined.{table-length}
+use Rattle.window.proofs.Written.{written-none}
 use Rattle.selected_axes.specs.Physical.{scaled}
 use Rattle.selected_axes.proofs.Tables.{before-written, behind-written, table-none, row-within, row-next}
 use Rattle.selected_axes.proofs.physical.scale_controls.Statement.{statement}

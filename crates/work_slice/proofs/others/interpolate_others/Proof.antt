@@ -9,7 +9,7 @@ use borrow.Author.Needs.{needs}
 use borrow.Author.Tests.{ne-eqb}
 use lib.ListN.{length, take}
 use lib.Ieee.{Float}
-use Rattle.polynomial.proofs.Parts.{Apart, both-length, both-second}
+use Rattle.window.proofs.TwoParts.{Apart, both-length, both-second}
 use Rattle.smoothing.specs.Answer.{unless}
 use Rattle.smoothing.specs.Interpolate.{interpolateOf}
 use Rattle.work_slice.proofs.Preparing.{cells-few, front-long, Put, put-count, put-long, rows-long, put-stays}

@@ -8,7 +8,7 @@ use native.Mathlib.Nat.{mul-le-mul-right}
 use borrow.Author.Needs.{needs}
 use lib.ListN.{length}
 use lib.Ieee.{Float}
-use Rattle.polynomial.proofs.Parts.{Apart, both-length, both-second}
+use Rattle.window.proofs.TwoParts.{Apart, both-length, both-second}
 use Rattle.request.specs.Parameters.{unreliable}
 use Rattle.smoothing.specs.Rows.{Task, Units, taskOf}
 use Rattle.smoothing.specs.Checks.{overflows}

@@ -8,7 +8,7 @@ use native.Mathlib.Decide.{decLt}
 use lib.ListN.{length, getD, length-append, List·getD-append}
 use lib.Seq.{getD-append-add}
 use Rattle.arith.proofs.Rows.{row-end}
-use Rattle.bspline.specs.Rows.{join, listOf, table}
+use Rattle.window.specs.Rows.{join, listOf, table}
 
 module _ {A : Type 0} where
   -- rows of one length d

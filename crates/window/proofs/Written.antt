@@ -6,11 +6,11 @@ use native.Mathlib.Omega.{arith}
 use native.Mathlib.Numerals.{add-one}
 use lib.ListN.{length, take, drop, getD, set, length-append, take-append-drop, List·getD-append}
 use lib.Seq.{take-at, drop-at, take-take, drop-drop, length-take-le, set-split, drop-length, getD-append-add, getD-take, getD-drop, take-append-le, drop-append-le, take-append-add, drop-append-add, drop-cons, take-suc, set-at}
 use Rattle.window.specs.Window.{window, splice}
 use Rattle.window.proofs.Windows.{length-splice}
 use Rattle.window.proofs.Seams.{drop-take, splice-plain}
-use Rattle.bspline.specs.Rows.{join, listOf, written}
-use Rattle.bspline.proofs.Joined.{join-length, list-length}
+use Rattle.window.specs.Rows.{join, listOf, written}
+use Rattle.window.proofs.Joined.{join-length, list-length}
 
 module _ {A : Type 0} where
   module _ (a : ℕ) (v l : List A) where

@@ -7,9 +7,9 @@ use native.Mathlib.Omega.{arith}
 use native.Mathlib.Decide.{decLt}
 use borrow.Author.Tests.{ltb-true, lt-ltb, le-ltb}
 use lib.ListN.{length}
 use Rattle.bspline.specs.Search.{Bisection, several, halve, partitionPoint}
 use Rattle.bspline.proofs.PartitionPoint.{pick-le}
-use Rattle.bspline.proofs.Runs.{whilst-ends}
+use Rattle.arith.proofs.Runs.{whilst-ends}
 
 module _ {A : Type 0} (outside : A) (test : A → Bool) (list : List A) where
   -- the part that is still searched lies in the list
