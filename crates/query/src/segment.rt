@@ -4,10 +4,8 @@ ghost use Prim.Native.Nat.{_+_, _-_, _*_, _≤_, _<_};
 ghost use lib.ListN.{length};
 ghost use Rattle.query.specs.Search.{Rising};
 ghost use Rattle.query.specs.Segment.{hornerOf, atOf, localOn, located, coefficientsOf, scaledOf, axisAt};
+use bspline::choose::FACT;
 use crate::search;
-
-// 0! to 5!
-const FACT: [f64; 6] = [1., 1., 2., 6., 24., 120.];
 
 // The value of an axis with its three derivatives.
 pub struct Derivatives {
