@@ -1,5 +1,5 @@
--- The order of `f64` numbers. `<=` is transitive: a NaN is at or below nothing, so that a chain of `<=` has none. Of two numbers that are no NaN, where
--- the first is not at or below the second, the second is below the first.
+-- The order of `f64` numbers. `<=` is transitive: a NaN is at or below nothing, so that a chain of `<=` has none. Of two numbers that are
+-- no NaN, where the first is not at or below the second, the second is below the first.
 use mathlib.Core.Path.{_≡_, refl, sym, _∙_}
 use mathlib.Core.Bool.{Bool, true, false, _&&_, _||_, cond}
 use mathlib.Core.Logic.{_⊎_, inl, inr, ⊎-elim}
@@ -69,7 +69,8 @@ level-of true true a b h = rw (eq-eqb a b (omega arith))
 
 at-most-true : (s t : Bool) (a b : ℕ) → (below s a t b || level s a t b) ≡ true → high s a + low t b ≤ high t b + low s a
 at-most-true s t a b h =
-    ⊎-elim (λ (g : below s a t b ≡ true). omega (arith, below-true s t a b g)) (λ (g : level s a t b ≡ true). omega (arith, level-true s t a b g)) (or-true (below s a t b) (level s a t b) h)
+    ⊎-elim (λ (g : below s a t b ≡ true). omega (arith, below-true s t a b g)) (λ (g : level s a t b ≡ true). omega
+    (arith, level-true s t a b g)) (or-true (below s a t b) (level s a t b) h)
 
 at-most-of : (s t : Bool) (a b : ℕ) → high s a + low t b ≤ high t b + low s a → (below s a t b || level s a t b) ≡ true
 at-most-of s t a b h = elim (decLt (high s a + low t b) (high t b + low s a)) [
@@ -92,7 +93,8 @@ low-mul true a k = refl
 low-mul false a k = omega arith
 
 -- fractions over three denominators
-chain : (x x′ y y′ z z′ d e f : ℕ) → 0 < e → x * e + y′ * d ≤ y * d + x′ * e → y * f + z′ * e ≤ z * e + y′ * f → x * f + z′ * d ≤ z * d + x′ * f
+chain : (x x′ y y′ z z′ d e f : ℕ) → 0 < e → x * e + y′ * d ≤ y * d + x′ * e → y * f + z′ * e ≤ z * e + y′ * f → x * f + z′ * d
+    ≤ z * d + x′ * f
 chain x x′ y y′ z z′ d e f h g k =
     let u : (x * e + y′ * d) * f ≤ (y * d + x′ * e) * f = mul-le-mul-right f g in
     let v : (y * f + z′ * e) * d ≤ (z * e + y′ * f) * d = mul-le-mul-right d k in
@@ -103,14 +105,17 @@ down-pos : (e : ℤ) → 0 < down e
 down-pos (pos k) = omega arith
 down-pos (negsuc k) = pow-pos (suc k)
 
-scaled : (s t : Bool) (a b d e : ℕ) → (below s (a * e) t (b * d) || level s (a * e) t (b * d)) ≡ true → high s a * e + low t b * d ≤ high t b * d + low s a * e
+scaled : (s t : Bool) (a b d e : ℕ) → (below s (a * e) t (b * d) || level s (a * e) t (b * d)) ≡ true → high s a * e + low t b * d
+    ≤ high t b * d + low s a * e
 scaled s t a b d e h = rw (high-mul s a e, low-mul t b d, high-mul t b d, low-mul s a e) at (at-most-true s t (a * e) (b * d) h)
 
-fin-trans : (s t r : Bool) (a b c d e f : ℕ) → 0 < e → (below s (a * e) t (b * d) || level s (a * e) t (b * d)) ≡ true → (below t (b * f) r (c * e) || level t (b * f) r (c * e)) ≡ true
+fin-trans : (s t r : Bool) (a b c d e f : ℕ) → 0 < e → (below s (a * e) t (b * d) || level s (a * e) t (b * d)) ≡ true
+    → (below t (b * f) r (c * e) || level t (b * f) r (c * e)) ≡ true
     → (below s (a * f) r (c * d) || level s (a * f) r (c * d)) ≡ true
 fin-trans s t r a b c d e f p h g =
     at-most-of s r (a * f) (c * d)
-    (rw (high-mul s a f, low-mul r c d, high-mul r c d, low-mul s a f) (chain (high s a) (low s a) (high t b) (low t b) (high r c) (low r c) d e f p (scaled s t a b d e h) (scaled t r b c e f g)))
+    (rw (high-mul s a f, low-mul r c d, high-mul r c d, low-mul s a f) (chain (high s a) (low s a) (high t b) (low t b) (high r c) (low r c)
+    d e f p (scaled s t a b d e h) (scaled t r b c e f g)))
 
 pub le-trans : (x y z : Float) → le x y ≡ true → le y z ≡ true → le x z ≡ true
 unfolding le lt eq
@@ -139,7 +144,8 @@ le-trans (fin s m e) (inf true) (fin r p f) h g = false-true h
 le-trans (fin s m e) (inf false) (fin r p f) h g = false-true g
 le-trans (fin s m e) (fin t n d) nan h g = false-true g
 le-trans (fin s m e) (fin t n d) (inf r) h g = g
-le-trans (fin s m e) (fin t n d) (fin r p f) h g = fin-trans s t r (m * up e) (n * up d) (p * up f) (down e) (down d) (down f) (down-pos d) h g
+le-trans (fin s m e) (fin t n d) (fin r p f) h g = fin-trans s t r (m * up e) (n * up d) (p * up f) (down e) (down d) (down f) (down-pos d)
+    h g
 
 -- x is no NaN where it is at or below itself
 pub lt-of-not-le : (x y : Float) → le x x ≡ true → le y y ≡ true → le x y ≡ false → lt y x ≡ true

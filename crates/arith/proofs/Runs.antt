@@ -6,7 +6,8 @@ use native.Mathlib.Omega.{arith}
 use Rattle.arith.specs.Loop.{turns, each, whilst}
 
 -- an invariant that holds with the turns that are left ends where no turn is left to take
-pub whilst-ends : {S : Type 0} (P : ℕ → S → Type 0) (p : S → Bool) (f : S → S) → ((n : ℕ) (s : S) → p s ≡ true → P (suc n) s → P n (f s)) → ((s : S) → P 0 s → p s ≡ false)
+pub whilst-ends : {S : Type 0} (P : ℕ → S → Type 0) (p : S → Bool) (f : S → S) → ((n : ℕ) (s : S) → p s ≡ true → P (suc n) s → P n (f s))
+    → ((s : S) → P 0 s → p s ≡ false)
     → (n : ℕ) (s : S) → P n s → (m : ℕ) × P m (whilst p f n s) × (p (whilst p f n s) ≡ false)
 unfolding whilst
 whilst-ends P p f step none zero s h = (0, h, none s h)
@@ -21,7 +22,8 @@ whilst-ends {S} P p f step none (suc n) s h = go (p s) refl (λ (e : p s ≡ tru
 turns-last : {S : Type 0} (f : ℕ → S → S) (n a : ℕ) (s : S) → turns f (suc n) a s ≡ f (a + n) (turns f n a s)
 unfolding turns
 turns-last f zero a s = let e : a + 0 ≡ a = omega arith in rw e
-turns-last f (suc n) a s = turns-last f n (a + 1) (f a s) ∙ ap (λ (i : ℕ). f i (turns f n (a + 1) (f a s))) {x = a + 1 + n} {y = a + suc n} (omega arith)
+turns-last f (suc n) a s = turns-last f n (a + 1) (f a s) ∙ ap (λ (i : ℕ). f i (turns f n (a + 1) (f a s))) {x = a + 1 + n} {y = a + suc n}
+    (omega arith)
 
 pub each-last : {S : Type 0} (f : ℕ → S → S) (a b : ℕ) (s : S) → a ≤ b → each f a (b + 1) s ≡ f b (each f a b s)
 unfolding each

@@ -1,5 +1,6 @@
--- The audit's step over exact fractions: on a piece of a segment its six Bernstein coefficients are those of curve minus line, so that their largest
--- absolute value bounds the distance there. The loops are tied to the sums of crate `fraction`, whose laws hold for every degree.
+-- The audit's step over exact fractions: on a piece of a segment its six Bernstein coefficients are those of curve minus line, so that
+-- their largest absolute value bounds the distance there. The loops are tied to the sums of crate `fraction`, whose laws hold for every
+-- degree.
 use mathlib.Core.Path.{_≡_, sym, ap, _∙_, subst}
 use mathlib.Core.List.{List, [], _∷_}
 use Prim.Native.Nat.{ℕ, zero, suc, _+_, _-_, _^_, _≤_, _<_}
@@ -45,7 +46,8 @@ module _ (f : ℕ → ℚ) where
   total-same i zero h = let e : i + 0 ≡ i = omega arith in rw e
   total-same i (suc d) h =
       let e : i + suc d ≡ suc (i + d) = omega arith in
-      rw e (ap (λ (z : ℚ). total (i + d) +q z) (h (i + d) (omega arith) (omega arith)) ∙ solve rationalRing (total (i + d) ∷ []) (v0 ⊕ n0) v0 tt
+      rw e (ap (λ (z : ℚ). total (i + d) +q z) (h (i + d) (omega arith) (omega arith)) ∙ solve rationalRing (total (i + d) ∷ []) (v0 ⊕
+      n0) v0 tt
       ∙ total-same i d (λ j l g. h j l (omega arith)))
 
   loop-sum : (step : ℕ → ℚ → ℚ) (a b n : ℕ) → a ≤ b → b ≤ n + 1 → ((i : ℕ) (v : ℚ) → a ≤ i → i < b → step i v ≡ v +q f i)
@@ -64,15 +66,20 @@ module _ (f : ℕ → ℚ) where
 bernstein-is : (p : List ℚ) (k : ℕ) → k ≤ 5 → bernsteinOf fractions p k ≡ bernsteinCoefficient 5 (λ j. getD p j 𝟘) k
 unfolding bernsteinOf addShare
 bernstein-is p k h =
-    loop-sum (λ j. getD p j 𝟘 *q wholeq (pos (choose k j)) /q wholeq (pos (choose 5 j))) (addShare fractions p k) 0 (k + 1) 5 (omega arith) (omega arith)
+    loop-sum (λ j. getD p j 𝟘 *q wholeq (pos (choose k j)) /q wholeq (pos (choose 5 j))) (addShare fractions p k) 0 (k + 1) 5 (omega arith)
+    (omega arith)
     (λ j v l g. rw (choose-is k j (omega arith) (omega arith), choose-is 5 j (omega arith) (omega arith)))
     (λ j l. absurd (omega arith))
-    (λ j l g. rw (choose-above k j (omega arith)) (solve rationalRing (getD p j 𝟘 ∷ inverse (wholeq (pos (choose 5 j))) ∷ []) (v0 ⊗ n0 ⊗ v1) n0 tt))
+    (λ j l g. rw (choose-above k j (omega arith)) (solve rationalRing (getD p j 𝟘 ∷ inverse (wholeq (pos (choose 5 j))) ∷ []) (v0 ⊗ n0 ⊗ v1)
+    n0 tt))
 
--- The code's coefficients are the Bernstein coefficients of the polynomial with powers p: their sum over B_{k,5}(y) (eq. 1.8) is its value at y.
-pub bernstein-form : (p : List ℚ) (y : ℚ) → bernsteinForm rationalRing 5 (bernsteinOf fractions p) y ≡ polynomial rationalRing 5 (λ j. getD p j 𝟘) y
+-- The code's coefficients are the Bernstein coefficients of the polynomial with powers p: their sum over B_{k,5}(y) (eq. 1.8) is its value
+-- at y.
+pub bernstein-form : (p : List ℚ) (y : ℚ) → bernsteinForm rationalRing 5 (bernsteinOf fractions p) y
+    ≡ polynomial rationalRing 5 (λ j. getD p j 𝟘) y
 bernstein-form p y =
-    sum-equal rationalRing 5 (λ k. bernsteinOf fractions p k *q bernstein rationalRing 5 k y) (λ k. bernsteinCoefficient 5 (λ j. getD p j 𝟘) k *q bernstein rationalRing 5 k y)
+    sum-equal rationalRing 5 (λ k. bernsteinOf fractions p k *q bernstein rationalRing 5 k y)
+    (λ k. bernsteinCoefficient 5 (λ j. getD p j 𝟘) k *q bernstein rationalRing 5 k y)
     (λ k l. ap (λ (z : ℚ). z *q bernstein rationalRing 5 k y) (bernstein-is p k l))
     ∙ powers-to-bernstein 5 (λ j. getD p j 𝟘) y
 
@@ -94,7 +101,8 @@ fraction-high left right x piece h =
 small : (n : ℕ) → n < 6 → n < 2 ^ 32
 small n h = omega arith
 
-power-is : (p : List ℚ) (u w : ℚ) (j : ℕ) → j < 6 → piecePower fractions (powerOf fractions) p u w j ≡ expandedCoefficient rationalRing 5 (λ k. getD p k 𝟘) u w j
+power-is : (p : List ℚ) (u w : ℚ) (j : ℕ) → j < 6 → piecePower fractions (powerOf fractions) p u w j
+    ≡ expandedCoefficient rationalRing 5 (λ k. getD p k 𝟘) u w j
 unfolding piecePower addTerm
 power-is p u w j h =
     let f : ℕ → ℚ = λ k. wholeq (pos (choose k j)) *q getD p k 𝟘 *q power rationalRing u (k - j) in
@@ -106,30 +114,44 @@ power-is p u w j h =
     ∙ ap (λ (z : ℚ). sum rationalRing 5 f *q z) (power-of-is w j (small j h))
     ∙ rationalRing .mul-comm (sum rationalRing 5 f) (power rationalRing w j)
     ∙ sym (sum-scale rationalRing 5 (power rationalRing w j) f)
-    ∙ sum-equal rationalRing 5 (λ k. power rationalRing w j *q f k) (λ k. wholeq (pos (choose k j)) *q (getD p k 𝟘 *q (power rationalRing u (k - j) *q power rationalRing w j)))
-    (λ k l. solve rationalRing (wholeq (pos (choose k j)) ∷ getD p k 𝟘 ∷ power rationalRing u (k - j) ∷ power rationalRing w j ∷ []) (v3 ⊗ (v0 ⊗ v1 ⊗ v2)) (v0 ⊗ (v1 ⊗ (v2 ⊗ v3))) tt)
+    ∙ sum-equal rationalRing 5 (λ k. power rationalRing w j *q f k) (λ k. wholeq (pos (choose k j)) *q
+    (getD p k 𝟘 *q (power rationalRing u (k - j) *q power rationalRing w j)))
+    (λ k l. solve rationalRing (wholeq (pos (choose k j)) ∷ getD p k 𝟘 ∷ power rationalRing u (k - j) ∷ power rationalRing w j ∷ [])
+    (v3 ⊗ (v0 ⊗ v1 ⊗ v2)) (v0 ⊗ (v1 ⊗ (v2 ⊗ v3))) tt)
 
 -- The powers less the line are those of the segment's polynomial at u + w y, less a + b y.
 pub piece-powers : (p : List ℚ) (u w a b y : ℚ)
-    → polynomial rationalRing 5 (λ j. getD (errorOf fractions (powerOf fractions) p u w a b) j 𝟘) y ≡ polynomial rationalRing 5 (λ k. getD p k 𝟘) (u +q w *q y) -q (a +q b *q y)
+    → polynomial rationalRing 5 (λ j. getD (errorOf fractions (powerOf fractions) p u w a b) j 𝟘) y
+    ≡ polynomial rationalRing 5 (λ k. getD p k 𝟘) (u +q w *q y) -q (a +q b *q y)
 unfolding errorOf
 piece-powers p u w a b y =
     let e : ℕ → ℚ = λ j. expandedCoefficient rationalRing 5 (λ k. getD p k 𝟘) u w j in
-    rw (power-is p u w 0 (omega arith), power-is p u w 1 (omega arith), power-is p u w 2 (omega arith), power-is p u w 3 (omega arith), power-is p u w 4 (omega arith), power-is p u w 5 (omega arith))
+    rw (
+      power-is p u w 0 (omega arith),
+      power-is p u w 1 (omega arith),
+      power-is p u w 2 (omega arith),
+      power-is p u w 3 (omega arith),
+      power-is p u w 4 (omega arith),
+      power-is p u w 5 (omega arith),
+    )
     (solve rationalRing (e 0 ∷ e 1 ∷ e 2 ∷ e 3 ∷ e 4 ∷ e 5 ∷ y ∷ a ∷ b ∷ [])
-    ((v0 ⊖ v7) ⊗ powerTerm v6 0 ⊕ ((v1 ⊖ v8) ⊗ powerTerm v6 1 ⊕ (v2 ⊗ powerTerm v6 2 ⊕ (v3 ⊗ powerTerm v6 3 ⊕ (v4 ⊗ powerTerm v6 4 ⊕ v5 ⊗ powerTerm v6 5)))))
-    (v0 ⊗ powerTerm v6 0 ⊕ (v1 ⊗ powerTerm v6 1 ⊕ (v2 ⊗ powerTerm v6 2 ⊕ (v3 ⊗ powerTerm v6 3 ⊕ (v4 ⊗ powerTerm v6 4 ⊕ v5 ⊗ powerTerm v6 5)))) ⊖ (v7 ⊕ v8 ⊗ v6)) tt
+    ((v0 ⊖ v7) ⊗ powerTerm v6 0 ⊕ ((v1 ⊖ v8) ⊗ powerTerm v6 1 ⊕
+    (v2 ⊗ powerTerm v6 2 ⊕ (v3 ⊗ powerTerm v6 3 ⊕ (v4 ⊗ powerTerm v6 4 ⊕ v5 ⊗ powerTerm v6 5)))))
+    (v0 ⊗ powerTerm v6 0 ⊕ (v1 ⊗ powerTerm v6 1 ⊕ (v2 ⊗ powerTerm v6 2 ⊕
+    (v3 ⊗ powerTerm v6 3 ⊕ (v4 ⊗ powerTerm v6 4 ⊕ v5 ⊗ powerTerm v6 5)))) ⊖ (v7 ⊕ v8 ⊗ v6)) tt
     ∙ ap (λ (z : ℚ). z -q (a +q b *q y)) (sym (expand rationalRing 5 (λ k. getD p k 𝟘) u w y)))
 
 -- Their Bernstein coefficients, summed over B_{k,5}(y), are that too: curve minus line on the piece.
 pub piece-is : (p : List ℚ) (u w a b y : ℚ)
-    → bernsteinForm rationalRing 5 (bernsteinOf fractions (errorOf fractions (powerOf fractions) p u w a b)) y ≡ polynomial rationalRing 5 (λ k. getD p k 𝟘) (u +q w *q y) -q (a +q b *q y)
+    → bernsteinForm rationalRing 5 (bernsteinOf fractions (errorOf fractions (powerOf fractions) p u w a b)) y
+    ≡ polynomial rationalRing 5 (λ k. getD p k 𝟘) (u +q w *q y) -q (a +q b *q y)
 piece-is p u w a b y = bernstein-form (errorOf fractions (powerOf fractions) p u w a b) y ∙ piece-powers p u w a b y
 
--- The piece from left to right: where all six Bernstein coefficients lie from -M to M, so does the segment's value at x less the line's, for every x of
--- the piece.
+-- The piece from left to right: where all six Bernstein coefficients lie from -M to M, so does the segment's value at x less the line's,
+-- for every x of the piece.
 pub piece-bound : (p : List ℚ) (a b s₀ s₁ y₀ y₁ left right M : ℚ) → left <q right
-    → ((k : ℕ) → k ≤ 5 → (negq M ≤q bernsteinOf fractions (pieceErrors p a b s₀ s₁ y₀ y₁ left right) k) × (bernsteinOf fractions (pieceErrors p a b s₀ s₁ y₀ y₁ left right) k ≤q M))
+    → ((k : ℕ) → k ≤ 5 → (negq M ≤q bernsteinOf fractions (pieceErrors p a b s₀ s₁ y₀ y₁ left right) k)
+    × (bernsteinOf fractions (pieceErrors p a b s₀ s₁ y₀ y₁ left right) k ≤q M))
     → (x : ℚ) → left ≤q x → x ≤q right
     → (negq M ≤q polynomial rationalRing 5 (λ k. getD p k 𝟘) ((x -q a) /q (b -q a)) -q lineAt s₀ s₁ y₀ y₁ x)
     × (polynomial rationalRing 5 (λ k. getD p k 𝟘) ((x -q a) /q (b -q a)) -q lineAt s₀ s₁ y₀ y₁ x ≤q M)
@@ -142,7 +164,8 @@ piece-bound p a b s₀ s₁ y₀ y₁ left right M piece h x low high =
     let y : ℚ = (x -q left) /q r in
     let i = inverse-is r (difference-above left right piece) in
     let local : u +q w *q y ≡ (x -q a) /q (b -q a) =
-    combine rationalRing (x ∷ left ∷ a ∷ r ∷ inverse r ∷ inverse (b -q a) ∷ []) ((v1 ⊖ v2) ⊗ v5 ⊕ v3 ⊗ v5 ⊗ ((v0 ⊖ v1) ⊗ v4)) ((v0 ⊖ v2) ⊗ v5) ((v0 ⊖ v1) ⊗ v5) (v3 ⊗ v4) n1 tt i in
+    combine rationalRing (x ∷ left ∷ a ∷ r ∷ inverse r ∷ inverse (b -q a) ∷ []) ((v1 ⊖ v2) ⊗ v5 ⊕ v3 ⊗ v5 ⊗ ((v0 ⊖ v1) ⊗ v4))
+    ((v0 ⊖ v2) ⊗ v5) ((v0 ⊖ v1) ⊗ v5) (v3 ⊗ v4) n1 tt i in
     let line : lineAt s₀ s₁ y₀ y₁ left +q slope *q y ≡ lineAt s₀ s₁ y₀ y₁ x =
     combine rationalRing (x ∷ left ∷ s₀ ∷ r ∷ inverse r ∷ inverse (s₁ -q s₀) ∷ y₀ ∷ (y₁ -q y₀) ∷ [])
     (v6 ⊕ (v1 ⊖ v2) ⊗ v5 ⊗ v7 ⊕ v3 ⊗ v5 ⊗ v7 ⊗ ((v0 ⊖ v1) ⊗ v4)) (v6 ⊕ (v0 ⊖ v2) ⊗ v5 ⊗ v7) ((v0 ⊖ v1) ⊗ v5 ⊗ v7) (v3 ⊗ v4) n1 tt i in
@@ -150,4 +173,5 @@ piece-bound p a b s₀ s₁ y₀ y₁ left right M piece h x low high =
     (piece-powers p u w (lineAt s₀ s₁ y₀ y₁ left) slope y
     ∙ ap (λ (z : ℚ). polynomial rationalRing 5 (λ k. getD p k 𝟘) z -q (lineAt s₀ s₁ y₀ y₁ left +q slope *q y)) local
     ∙ ap (λ (z : ℚ). polynomial rationalRing 5 (λ k. getD p k 𝟘) ((x -q a) /q (b -q a)) -q z) line)
-    (within 5 (λ j. getD q j 𝟘) M y (λ k l. rw (← (bernstein-is q k l)) (h k l)) (fraction-low left right x piece low) (fraction-high left right x piece high))
+    (within 5 (λ j. getD q j 𝟘) M y (λ k l. rw (← (bernstein-is q k l)) (h k l)) (fraction-low left right x piece low)
+    (fraction-high left right x piece high))

@@ -29,7 +29,8 @@ choose-factorials n zero h = let e : n - 0 ≡ n = omega arith in rw e (omega ar
 choose-factorials zero (suc k) h = absurd (omega arith)
 choose-factorials (suc n) (suc k) h =
     let e : suc n - suc k ≡ n - k = omega arith in
-    rw e (go (choose (suc n) (suc k)) (choose n k) (factorial k) (factorial (n - k)) (factorial n) (choose-absorb n k) (choose-factorials n k (omega arith)))
+    rw e (go (choose (suc n) (suc k)) (choose n k) (factorial k) (factorial (n - k)) (factorial n) (choose-absorb n k)
+    (choose-factorials n k (omega arith)))
   where
     go : (b c f g r : ℕ) → suc k * b ≡ suc n * c → c * (f * g) ≡ r → b * (suc k * f * g) ≡ suc n * r
     go b c f g r p q =
@@ -64,6 +65,12 @@ unfolding chooseOf
 choose-is n k h l =
     let f : ℕ → ℕ = factorial in
     rw (factorial-is n h, factorial-is k (omega arith), factorial-is (n - k) (omega arith))
-    (sym (quotient-is (wholeq (pos (factorial n))) (wholeq (pos (factorial k)) *q wholeq (pos (factorial (n - k)))) (wholeq (pos (choose n k)))
-    (rw (← (rationalRing .of-mul (pos (factorial k)) (pos (factorial (n - k))))) (above (factorial k * factorial (n - k)) (mul-pos {m = factorial k} (factorial-positive k) (factorial-positive (n - k)))))
-    (rw (← (rationalRing .of-mul (pos (factorial k)) (pos (factorial (n - k)))), ← (rationalRing .of-mul (pos (choose n k)) (pos (factorial k * factorial (n - k))))) (ap (λ (z : ℕ). wholeq (pos z)) (choose-factorials n k l)))))
+    (sym (quotient-is (wholeq (pos (factorial n))) (wholeq (pos (factorial k)) *q wholeq (pos (factorial (n - k))))
+    (wholeq (pos (choose n k)))
+    (rw (← (rationalRing .of-mul (pos (factorial k)) (pos (factorial (n - k))))) (above (factorial k * factorial (n - k))
+    (mul-pos {m = factorial k} (factorial-positive k) (factorial-positive (n - k)))))
+    (rw (
+      ← (rationalRing .of-mul (pos (factorial k)) (pos (factorial (n - k)))),
+      ← (rationalRing .of-mul (pos (choose n k))
+          (pos (factorial k * factorial (n - k)))),
+    ) (ap (λ (z : ℕ). wholeq (pos z)) (choose-factorials n k l)))))

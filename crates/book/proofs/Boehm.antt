@@ -1,5 +1,6 @@
--- A basis function over the old knots by two over the new (Boehm's identity): N_{i,p} is α_i N'_{i,p} + (1 - α_(i+1)) N'_{i+1,p}, on every span of
--- the new knots whose stretches have an inverse. By induction on p: the factors of the new functions are compared where those are not 0.
+-- A basis function over the old knots by two over the new (Boehm's identity): N_{i,p} is α_i N'_{i,p} + (1 - α_(i+1)) N'_{i+1,p}, on every
+-- span of the new knots whose stretches have an inverse. By induction on p: the factors of the new functions are compared where those are
+-- not 0.
 use mathlib.Core.Path.{_≡_, refl, sym, ap, _∙_}
 use mathlib.Core.List.{[], _∷_}
 use mathlib.Core.Logic.{_⊎_, inl, inr, ⊎-elim}
@@ -23,16 +24,20 @@ Inverse w = w *q inverse w ≡ 𝟙
 -- ---- the identities of the factors: a, b, c, d, e are knots, u the new one, x the point
 rise-up-to-u : (x u a c : ℚ) → Inverse (u -q a) → (x -q a) /q (c -q a) *q 𝟙 ≡ (u -q a) /q (c -q a) *q ((x -q a) /q (u -q a))
 rise-up-to-u x u a c h =
-    combine rationalRing (x ∷ u ∷ a ∷ inverse (c -q a) ∷ inverse (u -q a) ∷ []) ((v0 ⊖ v2) ⊗ v3 ⊗ n1) ((v1 ⊖ v2) ⊗ v3 ⊗ ((v0 ⊖ v2) ⊗ v4)) (n0 ⊖ (v0 ⊖ v2) ⊗ v3) ((v1 ⊖ v2) ⊗ v4) n1 tt h
+    combine rationalRing (x ∷ u ∷ a ∷ inverse (c -q a) ∷ inverse (u -q a) ∷ []) ((v0 ⊖ v2) ⊗ v3 ⊗ n1) ((v1 ⊖ v2) ⊗ v3 ⊗ ((v0 ⊖ v2) ⊗ v4))
+    (n0 ⊖ (v0 ⊖ v2) ⊗ v3) ((v1 ⊖ v2) ⊗ v4) n1 tt h
 
 rise-across-u : (x u a c d : ℚ) → (x -q a) /q (d -q a) *q ((u -q a) /q (c -q a)) ≡ (u -q a) /q (d -q a) *q ((x -q a) /q (c -q a))
-rise-across-u x u a c d = solve rationalRing (x ∷ u ∷ a ∷ inverse (c -q a) ∷ inverse (d -q a) ∷ []) ((v0 ⊖ v2) ⊗ v4 ⊗ ((v1 ⊖ v2) ⊗ v3)) ((v1 ⊖ v2) ⊗ v4 ⊗ ((v0 ⊖ v2) ⊗ v3)) tt
+rise-across-u x u a c d = solve rationalRing (x ∷ u ∷ a ∷ inverse (c -q a) ∷ inverse (d -q a) ∷ []) ((v0 ⊖ v2) ⊗ v4 ⊗ ((v1 ⊖ v2) ⊗ v3))
+    ((v1 ⊖ v2) ⊗ v4 ⊗ ((v0 ⊖ v2) ⊗ v3)) tt
 
 middle-up-to-u : (x u a b c d : ℚ) → Inverse (d -q b) → Inverse (u -q b)
-    → (x -q a) /q (c -q a) *q (𝟙 -q 𝟙) +q (d -q x) /q (d -q b) *q 𝟙 ≡ 𝟙 *q ((u -q x) /q (u -q b)) +q (𝟙 -q (u -q b) /q (d -q b)) *q ((x -q b) /q (u -q b))
+    → (x -q a) /q (c -q a) *q (𝟙 -q 𝟙) +q (d -q x) /q (d -q b) *q 𝟙 ≡ 𝟙 *q ((u -q x) /q (u -q b)) +q (𝟙 -q (u -q b) /q (d -q b)) *q
+    ((x -q b) /q (u -q b))
 middle-up-to-u x u a b c d h g =
     combine2 rationalRing (x ∷ u ∷ b ∷ d ∷ inverse (d -q b) ∷ inverse (u -q b) ∷ ((x -q a) /q (c -q a)) ∷ [])
-    (v6 ⊗ (n1 ⊖ n1) ⊕ (v3 ⊖ v0) ⊗ v4 ⊗ n1) (n1 ⊗ ((v1 ⊖ v0) ⊗ v5) ⊕ (n1 ⊖ (v1 ⊖ v2) ⊗ v4) ⊗ ((v0 ⊖ v2) ⊗ v5)) n1 ((v3 ⊖ v2) ⊗ v4) n1 ((v0 ⊖ v2) ⊗ v4 ⊖ n1) ((v1 ⊖ v2) ⊗ v5) n1 tt h g
+    (v6 ⊗ (n1 ⊖ n1) ⊕ (v3 ⊖ v0) ⊗ v4 ⊗ n1) (n1 ⊗ ((v1 ⊖ v0) ⊗ v5) ⊕ (n1 ⊖ (v1 ⊖ v2) ⊗ v4) ⊗ ((v0 ⊖ v2) ⊗ v5)) n1 ((v3 ⊖ v2) ⊗ v4) n1
+    ((v0 ⊖ v2) ⊗ v4 ⊖ n1) ((v1 ⊖ v2) ⊗ v5) n1 tt h g
 
 middle-across-u : (x u a b c d : ℚ) → Inverse (c -q a) → Inverse (d -q b) → Inverse (c -q b)
     → (x -q a) /q (c -q a) *q (𝟙 -q (u -q b) /q (c -q b)) +q (d -q x) /q (d -q b) *q ((u -q b) /q (c -q b))
@@ -102,7 +107,8 @@ module _ (t : ℕ → ℚ) (u : ℚ) (k : ℕ) where
     -- so two factors of it need to agree only there
     where-not-zero : (p i : ℕ) (a b : ℚ) → ((i ≤ s) × (s ≤ i + p) → a ≡ b) → a *q M p i ≡ b *q M p i
     where-not-zero p i a b h =
-        ⊎-elim (λ (z : M p i ≡ 𝟘). rw z (solve rationalRing (a ∷ b ∷ []) (v0 ⊗ n0) (v1 ⊗ n0) tt)) (λ (g : (i ≤ s) × (s ≤ i + p)). ap (λ (z : ℚ). z *q M p i) (h g)) (held p i)
+        ⊎-elim (λ (z : M p i ≡ 𝟘). rw z (solve rationalRing (a ∷ b ∷ []) (v0 ⊗ n0) (v1 ⊗ n0) tt))
+        (λ (g : (i ≤ s) × (s ≤ i + p)). ap (λ (z : ℚ). z *q M p i) (h g)) (held p i)
 
     -- N_{i,q} by two of the new functions
     abbrev Blends : ℕ → ℕ → Type 0
@@ -130,44 +136,109 @@ module _ (t : ℕ → ℚ) (u : ℚ) (k : ℕ) where
       rise-factor i g = elim (decLt k i) [
         | yes h ↦ rw (alpha-zero t u k p i h, alpha-zero t u k P i h) (solve rationalRing (r i ∷ r′ i ∷ []) (v0 ⊗ n0) (n0 ⊗ v1) tt)
         | no h ↦ elim (decLt k (i + P)) [
-          | no l ↦ rw (alpha-one t u k p i (omega arith), alpha-one t u k P i (omega arith), knot-before t u k (i + P) (omega arith), knot-before t u k i (omega arith)) (solve rationalRing (r i ∷ []) (v0 ⊗ n1) (n1 ⊗ v0) tt)
+          | no l ↦ rw (
+            alpha-one t u k p i (omega arith),
+            alpha-one t u k P i (omega arith),
+            knot-before t u k (i + P) (omega arith),
+            knot-before t u k i (omega arith),
+          ) (solve rationalRing (r i ∷ []) (v0 ⊗ n1) (n1 ⊗ v0) tt)
           | yes l ↦ elim (decLt k (i + p)) [
             | no m ↦
                 let w = wide i (i + P) (g .0) (omega arith) (omega arith) in
                 let w′ : Inverse (u -q t i) = rw (knot-new t u k (i + P) (omega arith), knot-before t u k i (omega arith)) at w in
-                rw (alpha-one t u k p i (omega arith), alpha-between t u k P i l (omega arith), knot-new t u k (i + P) (omega arith), knot-before t u k i (omega arith)) (rise-up-to-u x u (t i) (t (i + P)) w′)
-            | yes m ↦ rw (alpha-between t u k p i m (omega arith), alpha-between t u k P i l (omega arith), knot-after t u k (i + P) (i + p) (omega arith) m, knot-before t u k i (omega arith)) (rise-across-u x u (t i) (t (i + p)) (t (i + P)))
+                rw (
+                  alpha-one t u k p i (omega arith),
+                  alpha-between t u k P i l (omega arith),
+                  knot-new t u k (i + P) (omega arith),
+                  knot-before t u k i (omega arith),
+                ) (rise-up-to-u x u (t i) (t (i + P)) w′)
+            | yes m ↦ rw (
+              alpha-between t u k p i m (omega arith),
+              alpha-between t u k P i l (omega arith),
+              knot-after t u k (i + P) (i + p)
+                  (omega arith) m,
+              knot-before t u k i (omega arith),
+            ) (rise-across-u x u (t i) (t (i + p)) (t (i + P)))
           ]
         ]
       ]
 
-      middle-factor : (i : ℕ) → (i + 1 ≤ s) × (s ≤ i + 1 + p) → r i *q (𝟙 -q ω p (i + 1)) +q f (i + 1) *q ω p (i + 1) ≡ ω P i *q f′ (i + 1) +q (𝟙 -q ω P (i + 1)) *q r′ (i + 1)
+      middle-factor : (i : ℕ) → (i + 1 ≤ s) × (s ≤ i + 1 + p) → r i *q (𝟙 -q ω p (i + 1)) +q f (i + 1) *q ω p (i + 1)
+          ≡ ω P i *q f′ (i + 1) +q (𝟙 -q ω P (i + 1)) *q r′ (i + 1)
       middle-factor i g = elim (decLt k i) [
         | yes h ↦
-            rw (alpha-zero t u k p (i + 1) (omega arith), alpha-zero t u k P i h, alpha-zero t u k P (i + 1) (omega arith), knot-after t u k (i + 1 + P) (i + P) (omega arith) (omega arith), knot-after t u k (i + 1) i refl h)
-            (solve rationalRing (r i ∷ f (i + 1) ∷ ((t (i + P) -q x) /q (t (i + P) -q t i)) ∷ []) (v0 ⊗ (n1 ⊖ n0) ⊕ v1 ⊗ n0) (n0 ⊗ v2 ⊕ (n1 ⊖ n0) ⊗ v0) tt)
+            rw (
+              alpha-zero t u k p (i + 1) (omega arith),
+              alpha-zero t u k P i h,
+              alpha-zero t u k P (i + 1) (omega arith),
+              knot-after t u k
+                  (i + 1 + P) (i + P) (omega arith) (omega arith),
+              knot-after t u k (i + 1) i refl h,
+            )
+            (solve rationalRing (r i ∷ f (i + 1) ∷ ((t (i + P) -q x) /q (t (i + P) -q t i)) ∷ []) (v0 ⊗ (n1 ⊖ n0) ⊕ v1 ⊗ n0)
+            (n0 ⊗ v2 ⊕ (n1 ⊖ n0) ⊗ v0) tt)
         | no h ↦ elim (decLt i k) [
           | no l ↦
-              let w = rw (knot-after t u k (i + 1 + P) (i + P) (omega arith) (omega arith), knot-before t u k i (omega arith)) at (wide i (i + 1 + P) (omega arith) (omega arith) (omega arith)) in
-              let w′ = rw (knot-after t u k (i + 1 + P) (i + P) (omega arith) (omega arith), knot-new t u k (i + 1) (omega arith)) at (wide (i + 1) (i + 1 + P) (omega arith) (omega arith) (omega arith)) in
-              rw (alpha-zero t u k p (i + 1) (omega arith), alpha-between t u k P i (omega arith) (omega arith), alpha-zero t u k P (i + 1) (omega arith), knot-after t u k (i + 1 + P) (i + P) (omega arith) (omega arith), knot-new t u k (i + 1) (omega arith))
+              let w = rw (knot-after t u k (i + 1 + P) (i + P) (omega arith) (omega arith), knot-before t u k i (omega arith))
+              at (wide i (i + 1 + P) (omega arith) (omega arith) (omega arith)) in
+              let w′ = rw (knot-after t u k (i + 1 + P) (i + P) (omega arith) (omega arith), knot-new t u k (i + 1) (omega arith))
+              at (wide (i + 1) (i + 1 + P) (omega arith) (omega arith) (omega arith)) in
+              rw (
+                alpha-zero t u k p (i + 1) (omega arith),
+                alpha-between t u k P i (omega arith) (omega arith),
+                alpha-zero t u k P (i + 1)
+                    (omega arith),
+                knot-after t u k (i + 1 + P) (i + P) (omega arith) (omega arith),
+                knot-new t u k (i + 1) (omega arith),
+              )
               (middle-from-u x u (t i) (t (i + P)) (f (i + 1)) w w′)
           | yes l ↦ elim (decLt k (i + P)) [
             | yes m ↦
                 let e : i + 1 + p ≡ i + suc p = omega arith in
-                let w = rw (knot-after t u k (i + 1 + P) (i + P) (omega arith) (omega arith), knot-before t u k i (omega arith)) at (wide i (i + 1 + P) (omega arith) (omega arith) (omega arith)) in
-                let w′ = rw (knot-after t u k (i + 1 + P + 1) (i + 1 + P) (omega arith) (omega arith), knot-before t u k (i + 1) (omega arith)) at (wide (i + 1) (i + 1 + P + 1) (omega arith) (omega arith) (omega arith)) in
-                let w″ = rw (knot-after t u k (i + 1 + P) (i + P) (omega arith) (omega arith), knot-before t u k (i + 1) (omega arith)) at (wide (i + 1) (i + 1 + P) (omega arith) (omega arith) (omega arith)) in
-                rw (alpha-between t u k p (i + 1) (omega arith) (omega arith), alpha-between t u k P i (omega arith) (omega arith), alpha-between t u k P (i + 1) (omega arith) (omega arith), knot-after t u k (i + 1 + P) (i + P) (omega arith) (omega arith), knot-before t u k (i + 1) (omega arith), e)
+                let w = rw (knot-after t u k (i + 1 + P) (i + P) (omega arith) (omega arith), knot-before t u k i (omega arith))
+                at (wide i (i + 1 + P) (omega arith) (omega arith) (omega arith)) in
+                let w′ = rw (
+                  knot-after t u k (i + 1 + P + 1) (i + 1 + P) (omega arith) (omega arith),
+                  knot-before t u k (i + 1)
+                      (omega arith),
+                ) at (wide (i + 1) (i + 1 + P + 1) (omega arith) (omega arith) (omega arith)) in
+                let w″ = rw (knot-after t u k (i + 1 + P) (i + P) (omega arith) (omega arith), knot-before t u k (i + 1) (omega arith))
+                at (wide (i + 1) (i + 1 + P) (omega arith) (omega arith) (omega arith)) in
+                rw (
+                  alpha-between t u k p (i + 1) (omega arith) (omega arith),
+                  alpha-between t u k P i (omega arith) (omega arith),
+                  alpha-between t u k P (i + 1) (omega arith) (omega arith),
+                  knot-after t u k (i + 1 + P) (i + P) (omega arith) (omega arith),
+                  knot-before t u k (i + 1) (omega arith),
+                  e,
+                )
                 (middle-across-u x u (t i) (t (i + 1)) (t (i + P)) (t (i + 1 + P)) w w′ w″)
             | no m ↦ elim (decLt k (i + 1 + P)) [
               | yes n ↦
-                  let w = rw (knot-after t u k (i + 1 + P + 1) (i + 1 + P) (omega arith) (omega arith), knot-before t u k (i + 1) (omega arith)) at (wide (i + 1) (i + 1 + P + 1) (omega arith) (omega arith) (omega arith)) in
-                  let w′ = rw (knot-new t u k (i + 1 + P) (omega arith), knot-before t u k (i + 1) (omega arith)) at (wide (i + 1) (i + 1 + P) (omega arith) (omega arith) (omega arith)) in
-                  rw (alpha-one t u k p (i + 1) (omega arith), alpha-one t u k P i (omega arith), alpha-between t u k P (i + 1) n (omega arith), knot-new t u k (i + 1 + P) (omega arith), knot-before t u k (i + 1) (omega arith))
+                  let w = rw (
+                    knot-after t u k (i + 1 + P + 1) (i + 1 + P) (omega arith) (omega arith),
+                    knot-before t u k (i + 1)
+                        (omega arith),
+                  ) at (wide (i + 1) (i + 1 + P + 1) (omega arith) (omega arith) (omega arith)) in
+                  let w′ = rw (knot-new t u k (i + 1 + P) (omega arith), knot-before t u k (i + 1) (omega arith))
+                  at (wide (i + 1) (i + 1 + P) (omega arith) (omega arith) (omega arith)) in
+                  rw (
+                    alpha-one t u k p (i + 1) (omega arith),
+                    alpha-one t u k P i (omega arith),
+                    alpha-between t u k P (i + 1) n
+                        (omega arith),
+                    knot-new t u k (i + 1 + P) (omega arith),
+                    knot-before t u k (i + 1) (omega arith),
+                  )
                   (middle-up-to-u x u (t i) (t (i + 1)) (t (i + P)) (t (i + 1 + P)) w w′)
               | no n ↦
-                  rw (alpha-one t u k p (i + 1) (omega arith), alpha-one t u k P i (omega arith), alpha-one t u k P (i + 1) (omega arith), knot-before t u k (i + 1 + P) (omega arith), knot-before t u k (i + 1) (omega arith))
+                  rw (
+                    alpha-one t u k p (i + 1) (omega arith),
+                    alpha-one t u k P i (omega arith),
+                    alpha-one t u k P (i + 1) (omega arith),
+                    knot-before t u k (i + 1 + P) (omega arith),
+                    knot-before t u k (i + 1) (omega arith),
+                  )
                   (solve rationalRing (r i ∷ f (i + 1) ∷ r (i + 1) ∷ []) (v0 ⊗ (n1 ⊖ n1) ⊕ v1 ⊗ n1) (n1 ⊗ v1 ⊕ (n1 ⊖ n1) ⊗ v2) tt)
             ]
           ]
@@ -177,22 +248,45 @@ module _ (t : ℕ → ℚ) (u : ℚ) (k : ℕ) where
       fall-factor : (j : ℕ) → (j + 1 ≤ s) × (s ≤ j + 1 + p) → f j *q (𝟙 -q ω p (j + 1)) ≡ (𝟙 -q ω P j) *q f′ (j + 1)
       fall-factor j g = elim (decLt k j) [
         | yes h ↦
-            rw (alpha-zero t u k p (j + 1) (omega arith), alpha-zero t u k P j h, knot-after t u k (j + 1 + P) (j + P) (omega arith) (omega arith), knot-after t u k (j + 1) j refl h)
+            rw (
+              alpha-zero t u k p (j + 1) (omega arith),
+              alpha-zero t u k P j h,
+              knot-after t u k (j + 1 + P) (j + P) (omega arith)
+                  (omega arith),
+              knot-after t u k (j + 1) j refl h,
+            )
             (solve rationalRing (f j ∷ []) (v0 ⊗ (n1 ⊖ n0)) ((n1 ⊖ n0) ⊗ v0) tt)
         | no h ↦ elim (decLt j k) [
           | no l ↦
-              let w = rw (knot-after t u k (j + 1 + P) (j + P) (omega arith) (omega arith), knot-before t u k j (omega arith)) at (wide j (j + 1 + P) (omega arith) (omega arith) (omega arith)) in
-              let w′ = rw (knot-after t u k (j + 1 + P) (j + P) (omega arith) (omega arith), knot-new t u k (j + 1) (omega arith)) at (wide (j + 1) (j + 1 + P) (omega arith) (omega arith) (omega arith)) in
-              rw (alpha-zero t u k p (j + 1) (omega arith), alpha-between t u k P j (omega arith) (omega arith), knot-after t u k (j + 1 + P) (j + P) (omega arith) (omega arith), knot-new t u k (j + 1) (omega arith))
+              let w = rw (knot-after t u k (j + 1 + P) (j + P) (omega arith) (omega arith), knot-before t u k j (omega arith))
+              at (wide j (j + 1 + P) (omega arith) (omega arith) (omega arith)) in
+              let w′ = rw (knot-after t u k (j + 1 + P) (j + P) (omega arith) (omega arith), knot-new t u k (j + 1) (omega arith))
+              at (wide (j + 1) (j + 1 + P) (omega arith) (omega arith) (omega arith)) in
+              rw (
+                alpha-zero t u k p (j + 1) (omega arith),
+                alpha-between t u k P j (omega arith) (omega arith),
+                knot-after t u k
+                    (j + 1 + P) (j + P) (omega arith) (omega arith),
+                knot-new t u k (j + 1) (omega arith),
+              )
               (fall-from-u x u (t j) (t (j + P)) w w′)
           | yes l ↦ elim (decLt k (j + P)) [
             | yes m ↦
                 let e : j + 1 + p ≡ j + suc p = omega arith in
-                let w = rw (knot-after t u k (j + 1 + P) (j + P) (omega arith) (omega arith), knot-before t u k j (omega arith)) at (wide j (j + 1 + P) (omega arith) (omega arith) (omega arith)) in
-                let w′ = rw (knot-after t u k (j + 1 + P) (j + P) (omega arith) (omega arith), knot-before t u k (j + 1) (omega arith)) at (wide (j + 1) (j + 1 + P) (omega arith) (omega arith) (omega arith)) in
-                rw (alpha-between t u k p (j + 1) (omega arith) (omega arith), alpha-between t u k P j (omega arith) (omega arith), knot-after t u k (j + 1 + P) (j + P) (omega arith) (omega arith), knot-before t u k (j + 1) (omega arith), e)
+                let w = rw (knot-after t u k (j + 1 + P) (j + P) (omega arith) (omega arith), knot-before t u k j (omega arith))
+                at (wide j (j + 1 + P) (omega arith) (omega arith) (omega arith)) in
+                let w′ = rw (knot-after t u k (j + 1 + P) (j + P) (omega arith) (omega arith), knot-before t u k (j + 1) (omega arith))
+                at (wide (j + 1) (j + 1 + P) (omega arith) (omega arith) (omega arith)) in
+                rw (
+                  alpha-between t u k p (j + 1) (omega arith) (omega arith),
+                  alpha-between t u k P j (omega arith) (omega arith),
+                  knot-after t u k (j + 1 + P) (j + P) (omega arith) (omega arith),
+                  knot-before t u k (j + 1) (omega arith),
+                  e,
+                )
                 (fall-across-u x u (t j) (t (j + 1)) (t (j + P)) w w′)
-            | no m ↦ rw (alpha-one t u k p (j + 1) (omega arith), alpha-one t u k P j (omega arith)) (solve rationalRing (f j ∷ f′ (j + 1) ∷ []) (v0 ⊗ (n1 ⊖ n1)) ((n1 ⊖ n1) ⊗ v1) tt)
+            | no m ↦ rw (alpha-one t u k p (j + 1) (omega arith), alpha-one t u k P j (omega arith))
+                (solve rationalRing (f j ∷ f′ (j + 1) ∷ []) (v0 ⊗ (n1 ⊖ n1)) ((n1 ⊖ n1) ⊗ v1) tt)
           ]
         ]
       ]
@@ -201,17 +295,23 @@ module _ (t : ℕ → ℚ) (u : ℚ) (k : ℕ) where
       raise : ((i : ℕ) → Blends p i) → (i : ℕ) → Blends P i
       raise ih i =
           let A = where-not-zero p i (r i *q ω p i) (ω P i *q r′ i) (rise-factor i) in
-          let B = where-not-zero p (i + 1) (r i *q (𝟙 -q ω p (i + 1)) +q f (i + 1) *q ω p (i + 1)) (ω P i *q f′ (i + 1) +q (𝟙 -q ω P (i + 1)) *q r′ (i + 1)) (middle-factor i) in
-          let C = where-not-zero p (i + 1 + 1) (f (i + 1) *q (𝟙 -q ω p (i + 1 + 1))) ((𝟙 -q ω P (i + 1)) *q f′ (i + 1 + 1)) (fall-factor (i + 1)) in
+          let B = where-not-zero p (i + 1) (r i *q (𝟙 -q ω p (i + 1)) +q f (i + 1) *q ω p (i + 1))
+          (ω P i *q f′ (i + 1) +q (𝟙 -q ω P (i + 1)) *q r′ (i + 1)) (middle-factor i) in
+          let C = where-not-zero p (i + 1 + 1) (f (i + 1) *q (𝟙 -q ω p (i + 1 + 1))) ((𝟙 -q ω P (i + 1)) *q f′ (i + 1 + 1))
+          (fall-factor (i + 1)) in
           basis-step t (onSpan (oldSpan k s)) x p i
           ∙ ap (λ (z : ℚ). r i *q z +q f (i + 1) *q N p (i + 1)) (ih i)
           ∙ ap (λ (z : ℚ). r i *q (ω p i *q M p i +q (𝟙 -q ω p (i + 1)) *q M p (i + 1)) +q f (i + 1) *q z) (ih (i + 1))
           ∙ solve rationalRing (r i ∷ f (i + 1) ∷ ω p i ∷ ω p (i + 1) ∷ ω p (i + 1 + 1) ∷ M p i ∷ M p (i + 1) ∷ M p (i + 1 + 1) ∷ [])
-          (v0 ⊗ (v2 ⊗ v5 ⊕ (n1 ⊖ v3) ⊗ v6) ⊕ v1 ⊗ (v3 ⊗ v6 ⊕ (n1 ⊖ v4) ⊗ v7)) (v0 ⊗ v2 ⊗ v5 ⊕ (v0 ⊗ (n1 ⊖ v3) ⊕ v1 ⊗ v3) ⊗ v6 ⊕ v1 ⊗ (n1 ⊖ v4) ⊗ v7) tt
+          (v0 ⊗ (v2 ⊗ v5 ⊕ (n1 ⊖ v3) ⊗ v6) ⊕ v1 ⊗ (v3 ⊗ v6 ⊕ (n1 ⊖ v4) ⊗ v7)) (v0 ⊗ v2 ⊗ v5 ⊕ (v0 ⊗ (n1 ⊖ v3) ⊕ v1 ⊗ v3) ⊗ v6 ⊕ v1 ⊗
+          (n1 ⊖ v4) ⊗ v7) tt
           ∙ rw (A, B, C)
-          (solve rationalRing (ω P i ∷ ω P (i + 1) ∷ r′ i ∷ f′ (i + 1) ∷ r′ (i + 1) ∷ f′ (i + 1 + 1) ∷ M p i ∷ M p (i + 1) ∷ M p (i + 1 + 1) ∷ [])
-          (v0 ⊗ v2 ⊗ v6 ⊕ (v0 ⊗ v3 ⊕ (n1 ⊖ v1) ⊗ v4) ⊗ v7 ⊕ (n1 ⊖ v1) ⊗ v5 ⊗ v8) (v0 ⊗ (v2 ⊗ v6 ⊕ v3 ⊗ v7) ⊕ (n1 ⊖ v1) ⊗ (v4 ⊗ v7 ⊕ v5 ⊗ v8)) tt
-          ∙ ap (λ (z : ℚ). ω P i *q z +q (𝟙 -q ω P (i + 1)) *q (r′ (i + 1) *q M p (i + 1) +q f′ (i + 1 + 1) *q M p (i + 1 + 1))) (sym (basis-step t′ (onSpan s) x p i))
+          (solve rationalRing (ω P i ∷ ω P (i + 1) ∷ r′ i ∷ f′ (i + 1) ∷ r′ (i + 1) ∷ f′ (i + 1 + 1) ∷ M p i ∷ M p (i + 1) ∷ M p (i + 1 + 1)
+          ∷ [])
+          (v0 ⊗ v2 ⊗ v6 ⊕ (v0 ⊗ v3 ⊕ (n1 ⊖ v1) ⊗ v4) ⊗ v7 ⊕ (n1 ⊖ v1) ⊗ v5 ⊗ v8) (v0 ⊗ (v2 ⊗ v6 ⊕ v3 ⊗ v7) ⊕ (n1 ⊖ v1) ⊗
+          (v4 ⊗ v7 ⊕ v5 ⊗ v8)) tt
+          ∙ ap (λ (z : ℚ). ω P i *q z +q (𝟙 -q ω P (i + 1)) *q (r′ (i + 1) *q M p (i + 1) +q f′ (i + 1 + 1) *q M p (i + 1 + 1)))
+          (sym (basis-step t′ (onSpan s) x p i))
           ∙ ap (λ (z : ℚ). ω P i *q M P i +q (𝟙 -q ω P (i + 1)) *q z) (sym (basis-step t′ (onSpan s) x p (i + 1))))
 
     old-low : s ≤ k → oldSpan k s ≡ s
@@ -227,17 +327,23 @@ module _ (t : ℕ → ℚ) (u : ℚ) (k : ℕ) where
     unfolding basis
     start i = elim (decLt k s) [
       | no h ↦ rw (old-low (omega arith)) (elim (decLt k i) [
-        | yes l ↦ rw (alpha-zero t u k 0 i l, on-other s i (λ e. omega arith), on-other s (i + 1) (λ e. omega arith)) (solve rationalRing (ω 0 (i + 1) ∷ []) n0 (n0 ⊗ n0 ⊕ (n1 ⊖ v0) ⊗ n0) tt)
+        | yes l ↦ rw (alpha-zero t u k 0 i l, on-other s i (λ e. omega arith), on-other s (i + 1) (λ e. omega arith))
+            (solve rationalRing (ω 0 (i + 1) ∷ []) n0 (n0 ⊗ n0 ⊕ (n1 ⊖ v0) ⊗ n0) tt)
         | no l ↦ elim (decLt i k) [
-          | yes g ↦ rw (alpha-one t u k 0 i (omega arith), alpha-one t u k 0 (i + 1) (omega arith)) (solve rationalRing (onSpan s i ∷ onSpan s (i + 1) ∷ []) v0 (n1 ⊗ v0 ⊕ (n1 ⊖ n1) ⊗ v1) tt)
-          | no g ↦ rw (alpha-one t u k 0 i (omega arith), on-other s (i + 1) (λ e. omega arith)) (solve rationalRing (onSpan s i ∷ ω 0 (i + 1) ∷ []) v0 (n1 ⊗ v0 ⊕ (n1 ⊖ v1) ⊗ n0) tt)
+          | yes g ↦ rw (alpha-one t u k 0 i (omega arith), alpha-one t u k 0 (i + 1) (omega arith))
+              (solve rationalRing (onSpan s i ∷ onSpan s (i + 1) ∷ []) v0 (n1 ⊗ v0 ⊕ (n1 ⊖ n1) ⊗ v1) tt)
+          | no g ↦ rw (alpha-one t u k 0 i (omega arith), on-other s (i + 1) (λ e. omega arith))
+              (solve rationalRing (onSpan s i ∷ ω 0 (i + 1) ∷ []) v0 (n1 ⊗ v0 ⊕ (n1 ⊖ v1) ⊗ n0) tt)
         ]
       ])
       | yes h ↦ rw (old-high h) (elim (decLt i k) [
-        | yes l ↦ rw (on-other (s - 1) i (λ e. omega arith), alpha-one t u k 0 (i + 1) (omega arith), on-other s i (λ e. omega arith)) (solve rationalRing (ω 0 i ∷ onSpan s (i + 1) ∷ []) n0 (v0 ⊗ n0 ⊕ (n1 ⊖ n1) ⊗ v1) tt)
+        | yes l ↦ rw (on-other (s - 1) i (λ e. omega arith), alpha-one t u k 0 (i + 1) (omega arith), on-other s i (λ e. omega arith))
+            (solve rationalRing (ω 0 i ∷ onSpan s (i + 1) ∷ []) n0 (v0 ⊗ n0 ⊕ (n1 ⊖ n1) ⊗ v1) tt)
         | no l ↦ elim (decLt k i) [
-          | yes g ↦ rw (on-shift s i (omega arith), alpha-zero t u k 0 i g, alpha-zero t u k 0 (i + 1) (omega arith)) (solve rationalRing (onSpan s i ∷ onSpan s (i + 1) ∷ []) v1 (n0 ⊗ v0 ⊕ (n1 ⊖ n0) ⊗ v1) tt)
-          | no g ↦ rw (on-shift s i (omega arith), alpha-zero t u k 0 (i + 1) (omega arith), on-other s i (λ e. omega arith)) (solve rationalRing (ω 0 i ∷ onSpan s (i + 1) ∷ []) v1 (v0 ⊗ n0 ⊕ (n1 ⊖ n0) ⊗ v1) tt)
+          | yes g ↦ rw (on-shift s i (omega arith), alpha-zero t u k 0 i g, alpha-zero t u k 0 (i + 1) (omega arith))
+              (solve rationalRing (onSpan s i ∷ onSpan s (i + 1) ∷ []) v1 (n0 ⊗ v0 ⊕ (n1 ⊖ n0) ⊗ v1) tt)
+          | no g ↦ rw (on-shift s i (omega arith), alpha-zero t u k 0 (i + 1) (omega arith), on-other s i (λ e. omega arith))
+              (solve rationalRing (ω 0 i ∷ onSpan s (i + 1) ∷ []) v1 (v0 ⊗ n0 ⊕ (n1 ⊖ n0) ⊗ v1) tt)
         ]
       ])
     ]

@@ -43,7 +43,8 @@ outside-book : bookAt (wholeq (pos 2)) ≡ replicate 6 𝟘
 unfolding basis halfOpen atMostq _+q_ _*q_ negq inverse
 outside-book = equal-lists _ _ tt
 
-outside-code : valuesOf fractions ends (spanOf fractions ends 6 (wholeq (pos 2))) (wholeq (pos 2)) ≡ wholeq (negsuc 0) ∷ wholeq (pos 10) ∷ wholeq (negsuc 39) ∷ wholeq (pos 80) ∷ wholeq (negsuc 79) ∷ wholeq (pos 32) ∷ []
+outside-code : valuesOf fractions ends (spanOf fractions ends 6 (wholeq (pos 2))) (wholeq (pos 2))
+    ≡ wholeq (negsuc 0) ∷ wholeq (pos 10) ∷ wholeq (negsuc 39) ∷ wholeq (pos 80) ∷ wholeq (negsuc 79) ∷ wholeq (pos 32) ∷ []
 unfolding partitionPoint halve pickOf whilst valuesOf outerTurn innerLoop innerTurn each turns atMostq _+q_ _*q_ negq inverse
 outside-code = equal-lists _ _ tt
 

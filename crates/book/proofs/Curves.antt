@@ -15,18 +15,23 @@ use Rattle.book.proofs.Recurrence.{before-support, after-support}
 use Rattle.book.proofs.Readings.{half-open-basis}
 
 -- two readings with the same functions of degree 5 give the same curve
-pub curve-reading : (t first first′ : ℕ → ℚ) (m : ℕ) (c : ℕ → ℚ) (u : ℚ) → 0 < m → ((i : ℕ) → i < m → basis t first u 5 i ≡ basis t first′ u 5 i) → curve t first m c u ≡ curve t first′ m c u
+pub curve-reading : (t first first′ : ℕ → ℚ) (m : ℕ) (c : ℕ → ℚ) (u : ℚ) → 0 < m → ((i : ℕ) → i < m → basis t first u 5 i ≡ basis t first′ u
+    5 i) → curve t first m c u ≡ curve t first′ m c u
 curve-reading t first first′ m c u some h =
-    sum-equal rationalRing (m - 1) (λ i. basis t first u 5 i *q c i) (λ i. basis t first′ u 5 i *q c i) (λ i l. ap (λ (z : ℚ). z *q c i) (h i (omega arith)))
+    sum-equal rationalRing (m - 1) (λ i. basis t first u 5 i *q c i) (λ i. basis t first′ u 5 i *q c i)
+    (λ i l. ap (λ (z : ℚ). z *q c i) (h i (omega arith)))
 
 -- where u_span ≤ x < u_(span+1) the book's curve is that of the span
-pub half-open-curve : (t : ℕ → ℚ) (m : ℕ) → Nondecreasing (m + 6) t → (span : ℕ) → span < m → (x : ℚ) → t span ≤q x → x <q t (span + 1) → (c : ℕ → ℚ)
+pub half-open-curve : (t : ℕ → ℚ) (m : ℕ) → Nondecreasing (m + 6) t → (span : ℕ) → span < m → (x : ℚ) → t span ≤q x → x <q t (span + 1)
+    → (c : ℕ → ℚ)
     → curve t (halfOpen t x) m c x ≡ curve t (onSpan span) m c x
 half-open-curve t m sorted span h x low high c =
-    curve-reading t (halfOpen t x) (onSpan span) m c x (omega arith) (λ i l. half-open-basis t (m + 6) sorted span x low high (omega arith) 5 i (omega arith))
+    curve-reading t (halfOpen t x) (onSpan span) m c x (omega arith) (λ i l. half-open-basis t (m + 6) sorted span x low high (omega arith)
+    5 i (omega arith))
 
 -- ---- a sum whose terms are 0 but for six in a row
-sum-six : (n a : ℕ) (f : ℕ → ℚ) → a + 5 ≤ n → ((i : ℕ) → i < a → f i ≡ 𝟘) → ((i : ℕ) → a + 5 < i → f i ≡ 𝟘) → sum rationalRing n f ≡ sum rationalRing 5 (λ r. f (a + r))
+sum-six : (n a : ℕ) (f : ℕ → ℚ) → a + 5 ≤ n → ((i : ℕ) → i < a → f i ≡ 𝟘) → ((i : ℕ) → a + 5 < i → f i ≡ 𝟘) → sum rationalRing n f
+    ≡ sum rationalRing 5 (λ r. f (a + r))
 sum-six (suc (suc (suc (suc (suc zero))))) zero f h lo hi = refl
 sum-six (suc (suc (suc (suc (suc (suc n)))))) zero f h lo hi =
     ap (λ (z : ℚ). f 0 +q (f 1 +q (f 2 +q (f 3 +q (f 4 +q (f 5 +q z))))))

@@ -1,5 +1,5 @@
--- On a span wider than 0 every divisor of the steps is above 0. So it does not matter what a quotient by 0 is: with any division that is the
--- quotient for divisors above 0 the steps give the same.
+-- On a span wider than 0 every divisor of the steps is above 0. So it does not matter what a quotient by 0 is: with any division that is
+-- the quotient for divisors above 0 the steps give the same.
 use mathlib.Core.Path.{_≡_, refl, ap, _∙_, subst}
 use mathlib.Core.List.{List, [], _∷_}
 use Prim.Native.Nat.{ℕ, suc, _+_, _-_, _*_, _≤_, _<_}
@@ -25,29 +25,36 @@ module _ (divide : ℚ → ℚ → ℚ) (agree : (a b : ℚ) → Above b → div
   any = fractionsBy divide
 
   -- ---- the steps, where their divisors are above 0
-  turn-any : (l r : List ℚ) (j i : ℕ) (k : Inner ℚ) → Above (getD r (i + 1) 𝟘 +q getD l (j - i) 𝟘) → innerTurn any l r j i k ≡ innerTurn fractions l r j i k
+  turn-any : (l r : List ℚ) (j i : ℕ) (k : Inner ℚ) → Above (getD r (i + 1) 𝟘 +q getD l (j - i) 𝟘) → innerTurn any l r j i k
+      ≡ innerTurn fractions l r j i k
   unfolding innerTurn
   turn-any l r j i k h = rw (agree (getD (k .row) i 𝟘) (getD r (i + 1) 𝟘 +q getD l (j - i) 𝟘) h)
 
-  row-any : (l r : List ℚ) (j : ℕ) (b : List ℚ) → ((i : ℕ) → i < j → Above (getD r (i + 1) 𝟘 +q getD l (j - i) 𝟘)) → innerLoop any l r j b ≡ innerLoop fractions l r j b
+  row-any : (l r : List ℚ) (j : ℕ) (b : List ℚ) → ((i : ℕ) → i < j → Above (getD r (i + 1) 𝟘 +q getD l (j - i) 𝟘)) → innerLoop any l r j b
+      ≡ innerLoop fractions l r j b
   unfolding innerLoop
   row-any l r j b h =
-      rw (each-same (innerTurn any l r j) (innerTurn fractions l r j) 0 j (record { row = b; saved = 𝟘 }) (λ i k l′ a. turn-any l r j i k (h i a)))
+      rw (each-same (innerTurn any l r j) (innerTurn fractions l r j) 0 j (record { row = b; saved = 𝟘 })
+      (λ i k l′ a. turn-any l r j i k (h i a)))
 
-  coef-any : (b : List ℚ) (at : ℕ) (saved : List ℚ) (left right : ℚ) (k : ℕ) (s : Expansion ℚ) → Above (left +q right) → expansionTurn any b at saved left right k s ≡ expansionTurn fractions b at saved left right k s
+  coef-any : (b : List ℚ) (at : ℕ) (saved : List ℚ) (left right : ℚ) (k : ℕ) (s : Expansion ℚ) → Above (left +q right)
+      → expansionTurn any b at saved left right k s ≡ expansionTurn fractions b at saved left right k s
   unfolding expansionTurn previousOf
   coef-any b at saved left right k s h = rw (agree (getD b (at + k) 𝟘) (left +q right) h, agree (getD b (at + k - 1) 𝟘) (left +q right) h)
 
-  blend-any : (b : List ℚ) (at : ℕ) (saved : List ℚ) (left right : ℚ) (j : ℕ) → Above (left +q right) → expand any b at saved left right j ≡ expand fractions b at saved left right j
+  blend-any : (b : List ℚ) (at : ℕ) (saved : List ℚ) (left right : ℚ) (j : ℕ) → Above (left +q right) → expand any b at saved left right j
+      ≡ expand fractions b at saved left right j
   unfolding expand
   blend-any b at saved left right j h =
-      each-same (expansionTurn any b at saved left right) (expansionTurn fractions b at saved left right) 0 (j + 1) _ (λ k s l a. coef-any b at saved left right k s h)
+      each-same (expansionTurn any b at saved left right) (expansionTurn fractions b at saved left right) 0 (j + 1) _
+      (λ k s l a. coef-any b at saved left right k s h)
 
   put-any : (b : List ℚ) (at : ℕ) (next : List ℚ) → putRow any b at next ≡ putRow fractions b at next
   unfolding putRow putTurn
   put-any b at next = refl
 
-  module _ (t : List ℚ) (sorted : Nondecreasing (length t) (knot t)) (span : ℕ) (five : 5 ≤ span) (room : span + 5 < length t) (ok : knot t span <q knot t (span + 1)) (x : ℚ) where
+  module _ (t : List ℚ) (sorted : Nondecreasing (length t) (knot t)) (span : ℕ) (five : 5 ≤ span) (room : span + 5 < length t)
+      (ok : knot t span <q knot t (span + 1)) (x : ℚ) where
     -- ---- the steps on the span: their divisors are widths of stretches of knots that hold it
 
     -- the width of a stretch of knots that holds the span
@@ -61,8 +68,13 @@ module _ (divide : ℚ → ℚ → ℚ) (agree : (a b : ℚ) → Above b → div
           each-same (rowTurn any t span x j) (rowTurn fractions t span x j) 0 j (record { rows = b; saved = replicate 6 𝟘 })
               (λ r s l a.
               let i = span + 1 - j + r in
-              let e : knot t (span + r + 1) -q knot t i ≡ x -q knot t i +q (knot t (span + r + 1) -q x) = solve rationalRing (knot t i ∷ x ∷ knot t (span + r + 1) ∷ []) (v2 ⊖ v0) (v1 ⊖ v0 ⊕ (v2 ⊖ v1)) tt in
-              rw (blend-any (s .rows) (6 * r) (s .saved) (x -q knot t i) (knot t (span + r + 1) -q x) j (subst Above e (width i (span + r + 1) (omega arith) (omega arith) (omega arith))), put-any)),
+              let e : knot t (span + r + 1) -q knot t i ≡ x -q knot t i +q (knot t (span + r + 1) -q x) = solve rationalRing
+              (knot t i ∷ x ∷ knot t (span + r + 1) ∷ []) (v2 ⊖ v0) (v1 ⊖ v0 ⊕ (v2 ⊖ v1)) tt in
+              rw (
+                blend-any (s .rows) (6 * r) (s .saved) (x -q knot t i) (knot t (span + r + 1) -q x) j
+                    (subst Above e (width i (span + r + 1) (omega arith) (omega arith) (omega arith))),
+                put-any,
+              )),
           put-any,
         )
 
@@ -93,7 +105,8 @@ module _ (divide : ℚ → ℚ → ℚ) (agree : (a b : ℚ) → Above b → div
         let m = span + i - p in
         let el : getD l (suc p - i) 𝟘 ≡ x -q knot t m = n .left (suc p - i) m (omega arith) (omega arith) (omega arith) in
         let er : getD r (i + 1) 𝟘 ≡ knot t (span + (i + 1)) -q x = n .right (i + 1) (omega arith) (omega arith) in
-        let e : knot t (span + (i + 1)) -q knot t m ≡ knot t (span + (i + 1)) -q x +q (x -q knot t m) = solve rationalRing (knot t m ∷ x ∷ knot t (span + (i + 1)) ∷ []) (v2 ⊖ v0) (v2 ⊖ v1 ⊕ (v1 ⊖ v0)) tt in
+        let e : knot t (span + (i + 1)) -q knot t m ≡ knot t (span + (i + 1)) -q x +q (x -q knot t m) = solve rationalRing
+        (knot t m ∷ x ∷ knot t (span + (i + 1)) ∷ []) (v2 ⊖ v0) (v2 ⊖ v1 ⊕ (v1 ⊖ v0)) tt in
         rw (el, er) (subst Above e (width m (span + (i + 1)) (omega arith) (omega arith) (omega arith)))))
 
     pub values-any : valuesOf any t span x ≡ valuesOf fractions t span x

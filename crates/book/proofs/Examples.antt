@@ -30,7 +30,8 @@ equal-lists [] (y ∷ k) h = absurd h
 equal-lists (x ∷ l) [] h = absurd h
 equal-lists (x ∷ l) (y ∷ k) h = go (equal-lists l k) (atMostq x y) refl (atMostq y x) refl h
   where
-    go : (T (allEqual l k) → l ≡ k) → (a : Bool) → atMostq x y ≡ a → (b : Bool) → atMostq y x ≡ b → T (a && (b && allEqual l k)) → (x ∷ l) ≡ (y ∷ k)
+    go : (T (allEqual l k) → l ≡ k) → (a : Bool) → atMostq x y ≡ a → (b : Bool) → atMostq y x ≡ b → T (a && (b && allEqual l k)) → (x ∷ l)
+        ≡ (y ∷ k)
     go rest true d true e h = rw (antisymmetric x y (rw d tt) (rw e tt), rest h)
     go rest true d false e h = absurd h
     go rest false d b e h = absurd h
@@ -46,19 +47,23 @@ bezier-basis = equal-lists _ _ tt
 
 -- section 2.5: p = 2, U = {0, 0, 0, 1, 2, 3, 4, 4, 5, 5, 5}, u = 5/2: N_{2,2}, N_{3,2}, N_{4,2} are 1/8, 6/8, 1/8
 abbrev quadraticKnots : ℕ → ℚ
-quadraticKnots = knot (𝟘 ∷ 𝟘 ∷ 𝟘 ∷ 𝟙 ∷ wholeq (pos 2) ∷ wholeq (pos 3) ∷ wholeq (pos 4) ∷ wholeq (pos 4) ∷ wholeq (pos 5) ∷ wholeq (pos 5) ∷ wholeq (pos 5) ∷ [])
+quadraticKnots = knot (𝟘 ∷ 𝟘 ∷ 𝟘 ∷ 𝟙 ∷ wholeq (pos 2) ∷ wholeq (pos 3) ∷ wholeq (pos 4) ∷ wholeq (pos 4) ∷ wholeq (pos 5) ∷ wholeq (pos 5) ∷
+    wholeq (pos 5) ∷ [])
 
 abbrev quadratic : ℕ → ℚ
 quadratic i = basis quadraticKnots (halfOpen quadraticKnots (ratio 5 1)) (ratio 5 1) 2 i
 
-quadratic-basis : (quadratic 1 ∷ quadratic 2 ∷ quadratic 3 ∷ quadratic 4 ∷ quadratic 5 ∷ []) ≡ (𝟘 ∷ ratio 1 7 ∷ ratio 6 7 ∷ ratio 1 7 ∷ 𝟘 ∷ [])
+quadratic-basis : (quadratic 1 ∷ quadratic 2 ∷ quadratic 3 ∷ quadratic 4 ∷ quadratic 5 ∷ [])
+    ≡ (𝟘 ∷ ratio 1 7 ∷ ratio 6 7 ∷ ratio 1 7 ∷ 𝟘 ∷ [])
 unfolding basis halfOpen atMostq _+q_ _*q_ negq inverse
 quadratic-basis = equal-lists _ _ tt
 
 -- section 5.2: p = 3, U = {0, 0, 0, 0, 1, 2, 3, 4, 5, 5, 5, 5}, 5/2 goes into the span 5: α_2 to α_6 are 1, 5/6, 1/2, 1/6, 0
 abbrev cubicAlpha : ℕ → ℚ
-cubicAlpha i = alpha (knot (𝟘 ∷ 𝟘 ∷ 𝟘 ∷ 𝟘 ∷ 𝟙 ∷ wholeq (pos 2) ∷ wholeq (pos 3) ∷ wholeq (pos 4) ∷ wholeq (pos 5) ∷ wholeq (pos 5) ∷ wholeq (pos 5) ∷ wholeq (pos 5) ∷ [])) (ratio 5 1) 5 3 i
+cubicAlpha i = alpha (knot (𝟘 ∷ 𝟘 ∷ 𝟘 ∷ 𝟘 ∷ 𝟙 ∷ wholeq (pos 2) ∷ wholeq (pos 3) ∷ wholeq (pos 4) ∷ wholeq (pos 5) ∷ wholeq (pos 5) ∷ wholeq
+    (pos 5) ∷ wholeq (pos 5) ∷ [])) (ratio 5 1) 5 3 i
 
-cubic-alphas : (cubicAlpha 2 ∷ cubicAlpha 3 ∷ cubicAlpha 4 ∷ cubicAlpha 5 ∷ cubicAlpha 6 ∷ []) ≡ (𝟙 ∷ ratio 5 5 ∷ ratio 1 1 ∷ ratio 1 5 ∷ 𝟘 ∷ [])
+cubic-alphas : (cubicAlpha 2 ∷ cubicAlpha 3 ∷ cubicAlpha 4 ∷ cubicAlpha 5 ∷ cubicAlpha 6 ∷ [])
+    ≡ (𝟙 ∷ ratio 5 5 ∷ ratio 1 1 ∷ ratio 1 5 ∷ 𝟘 ∷ [])
 unfolding alpha atMostq _+q_ _*q_ negq inverse
 cubic-alphas = equal-lists _ _ tt

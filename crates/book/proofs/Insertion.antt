@@ -40,7 +40,8 @@ knots-are t u k h i = elim (decLt k i) [
   | yes a ↦ elim (decLt (k + 1) i) [
     | yes b ↦
         let e : i ≡ i - 1 + 1 = omega arith in
-        ap (λ (z : ℕ). knot (knotsWith u k t) z) e ∙ knots-high u k t 𝟘 h (i - 1) (omega arith) ∙ sym (knot-after (knot t) u k i (i - 1) e (omega arith))
+        ap (λ (z : ℕ). knot (knotsWith u k t) z) e ∙ knots-high u k t 𝟘 h (i - 1) (omega arith)
+        ∙ sym (knot-after (knot t) u k i (i - 1) e (omega arith))
     | no b ↦
         let e : i ≡ k + 1 = omega arith in
         ap (λ (z : ℕ). knot (knotsWith u k t) z) e ∙ knots-at u k t 𝟘 h ∙ sym (knot-new (knot t) u k i e)
@@ -53,21 +54,28 @@ pub controls-are : (t : List ℚ) (u : ℚ) (d m k : ℕ) (c : List ℚ) (axis i
 unfolding newControl insertedControl alpha
 controls-are t u d m k c axis i z h = control-is fractions (alphaOf fractions t u) d m k c i axis h z ∙ cases (leb (i + 5) k) (leb i k)
   where
-    cases : (low mid : Bool) → cond low (axisOf c d axis i) (cond mid ((𝟙 -q alphaOf fractions t u i) *q axisOf c d axis (i - 1) +q alphaOf fractions t u i *q axisOf c d axis i) (axisOf c d axis (i - 1)))
-        ≡ cond low 𝟙 (cond mid (alphaOf fractions t u i) 𝟘) *q axisOf c d axis i +q (𝟙 -q cond low 𝟙 (cond mid (alphaOf fractions t u i) 𝟘)) *q axisOf c d axis (i - 1)
+    cases : (low mid : Bool) → cond low (axisOf c d axis i)
+        (cond mid ((𝟙 -q alphaOf fractions t u i) *q axisOf c d axis (i - 1) +q alphaOf fractions t u i *q axisOf c d axis i)
+        (axisOf c d axis (i - 1)))
+        ≡ cond low 𝟙 (cond mid (alphaOf fractions t u i) 𝟘) *q axisOf c d axis i +q (𝟙 -q cond low 𝟙 (cond mid (alphaOf fractions t u i) 𝟘))
+        *q axisOf c d axis (i - 1)
     cases true mid = solve rationalRing (axisOf c d axis i ∷ axisOf c d axis (i - 1) ∷ []) v0 (n1 ⊗ v0 ⊕ (n1 ⊖ n1) ⊗ v1) tt
     cases false true =
-        solve rationalRing (alphaOf fractions t u i ∷ axisOf c d axis (i - 1) ∷ axisOf c d axis i ∷ []) ((n1 ⊖ v0) ⊗ v1 ⊕ v0 ⊗ v2) (v0 ⊗ v2 ⊕ (n1 ⊖ v0) ⊗ v1) tt
+        solve rationalRing (alphaOf fractions t u i ∷ axisOf c d axis (i - 1) ∷ axisOf c d axis i ∷ []) ((n1 ⊖ v0) ⊗ v1 ⊕ v0 ⊗ v2)
+        (v0 ⊗ v2 ⊕ (n1 ⊖ v0) ⊗ v1) tt
     cases false false = solve rationalRing (axisOf c d axis i ∷ axisOf c d axis (i - 1) ∷ []) v1 (n0 ⊗ v0 ⊕ (n1 ⊖ n0) ⊗ v1) tt
 
 -- ---- the curve by the new controls and the new knots, on a span s of those
-sum-shift : (n : ℕ) (a b : ℕ → ℚ) → sum rationalRing (suc n) (λ i. a i +q b i) ≡ b 0 +q sum rationalRing n (λ i. a i +q b (suc i)) +q a (suc n)
+sum-shift : (n : ℕ) (a b : ℕ → ℚ) → sum rationalRing (suc n) (λ i. a i +q b i) ≡ b 0 +q sum rationalRing n (λ i. a i +q b (suc i)) +q a (suc
+    n)
 sum-shift zero a b = solve rationalRing (a 0 ∷ a 1 ∷ b 0 ∷ b 1 ∷ []) (v0 ⊕ v2 ⊕ (v1 ⊕ v3)) (v2 ⊕ (v0 ⊕ v3) ⊕ v1) tt
 sum-shift (suc n) a b =
     ap (λ (z : ℚ). a 0 +q b 0 +q z) (sum-shift n (λ i. a (suc i)) (λ i. b (suc i)))
-    ∙ solve rationalRing (a 0 ∷ b 0 ∷ b 1 ∷ sum rationalRing n (λ i. a (suc i) +q b (suc (suc i))) ∷ a (suc (suc n)) ∷ []) (v0 ⊕ v1 ⊕ (v2 ⊕ v3 ⊕ v4)) (v1 ⊕ (v0 ⊕ v2 ⊕ v3) ⊕ v4) tt
+    ∙ solve rationalRing (a 0 ∷ b 0 ∷ b 1 ∷ sum rationalRing n (λ i. a (suc i) +q b (suc (suc i))) ∷ a (suc (suc n)) ∷ [])
+    (v0 ⊕ v1 ⊕ (v2 ⊕ v3 ⊕ v4)) (v1 ⊕ (v0 ⊕ v2 ⊕ v3) ⊕ v4) tt
 
-module _ (t : ℕ → ℚ) (u : ℚ) (k : ℕ) (five : 5 ≤ k) (s : ℕ) (divides : (i j : ℕ) → i ≤ s → s < j → j ≤ s + 6 → Inverse (insertedKnot t u k j -q insertedKnot t u k i)) (x : ℚ) where
+module _ (t : ℕ → ℚ) (u : ℚ) (k : ℕ) (five : 5 ≤ k) (s : ℕ) (divides : (i j : ℕ) → i ≤ s → s < j → j ≤ s + 6 → Inverse
+    (insertedKnot t u k j -q insertedKnot t u k i)) (x : ℚ) where
   abbrev M : ℕ → ℚ
   M i = basis (insertedKnot t u k) (onSpan s) x 5 i
 
@@ -78,14 +86,16 @@ module _ (t : ℕ → ℚ) (u : ℚ) (k : ℕ) (five : 5 ≤ k) (s : ℕ) (divid
   ω i = alpha t u k 5 i
 
   -- the terms α_i P_i N'_i and (1 - α_i) P_(i-1) N'_i, summed by the control
-  curve-terms : (c : ℕ → ℚ) (n : ℕ) → k ≤ n → sum rationalRing (suc n) (λ i. M i *q insertedControl t u k 5 c i) ≡ sum rationalRing n (λ i. N i *q c i)
+  curve-terms : (c : ℕ → ℚ) (n : ℕ) → k ≤ n → sum rationalRing (suc n) (λ i. M i *q insertedControl t u k 5 c i)
+      ≡ sum rationalRing n (λ i. N i *q c i)
   unfolding insertedControl
   curve-terms c n h =
       let a : ℕ → ℚ = λ i. ω i *q c i *q M i in
       let b : ℕ → ℚ = λ i. (𝟙 -q ω i) *q c (i - 1) *q M i in
       let S = sum rationalRing n (λ i. a i +q b (suc i)) in
       sum-equal rationalRing (suc n) (λ i. M i *q (ω i *q c i +q (𝟙 -q ω i) *q c (i - 1))) (λ i. a i +q b i)
-      (λ i l. solve rationalRing (ω i ∷ c i ∷ c (i - 1) ∷ M i ∷ []) (v3 ⊗ (v0 ⊗ v1 ⊕ (n1 ⊖ v0) ⊗ v2)) (v0 ⊗ v1 ⊗ v3 ⊕ (n1 ⊖ v0) ⊗ v2 ⊗ v3) tt)
+      (λ i l. solve rationalRing (ω i ∷ c i ∷ c (i - 1) ∷ M i ∷ []) (v3 ⊗ (v0 ⊗ v1 ⊕ (n1 ⊖ v0) ⊗ v2)) (v0 ⊗ v1 ⊗ v3 ⊕ (n1 ⊖ v0) ⊗ v2 ⊗ v3)
+      tt)
       ∙ sum-shift n a b
       ∙ ap (λ (z : ℚ). (𝟙 -q z) *q c (0 - 1) *q M 0 +q S +q a (suc n)) (alpha-one t u k 5 0 (omega arith))
       ∙ ap (λ (z : ℚ). (𝟙 -q 𝟙) *q c (0 - 1) *q M 0 +q S +q z *q c (suc n) *q M (suc n)) (alpha-zero t u k 5 (suc n) (omega arith))
@@ -94,16 +104,19 @@ module _ (t : ℕ → ℚ) (u : ℚ) (k : ℕ) (five : 5 ≤ k) (s : ℕ) (divid
       (λ i l.
       let e : suc i - 1 ≡ i = omega arith in
       let f : suc i ≡ i + 1 = omega arith in
-      rw (e, f) (solve rationalRing (ω i ∷ ω (i + 1) ∷ c i ∷ M i ∷ M (i + 1) ∷ []) (v0 ⊗ v2 ⊗ v3 ⊕ (n1 ⊖ v1) ⊗ v2 ⊗ v4) ((v0 ⊗ v3 ⊕ (n1 ⊖ v1) ⊗ v4) ⊗ v2) tt
+      rw (e, f) (solve rationalRing (ω i ∷ ω (i + 1) ∷ c i ∷ M i ∷ M (i + 1) ∷ []) (v0 ⊗ v2 ⊗ v3 ⊕ (n1 ⊖ v1) ⊗ v2 ⊗ v4)
+      ((v0 ⊗ v3 ⊕ (n1 ⊖ v1) ⊗ v4) ⊗ v2) tt
       ∙ ap (λ (z : ℚ). z *q c i) (sym (boehm t u k s divides x 5 (omega arith) i))))
 
-  curve-inserted : (c : ℕ → ℚ) (m : ℕ) → k < m → curve (insertedKnot t u k) (onSpan s) (m + 1) (insertedControl t u k 5 c) x ≡ curve t (onSpan (oldSpan k s)) m c x
+  curve-inserted : (c : ℕ → ℚ) (m : ℕ) → k < m → curve (insertedKnot t u k) (onSpan s) (m + 1) (insertedControl t u k 5 c) x
+      ≡ curve t (onSpan (oldSpan k s)) m c x
   curve-inserted c m h =
       let e : m + 1 - 1 ≡ suc (m - 1) = omega arith in
       rw e (curve-terms c (m - 1) (omega arith))
 
 -- ---- m + 6 knots that never fall, and u in the span k
-module _ (t : List ℚ) (u : ℚ) (m k : ℕ) (five : 5 ≤ k) (km : k < m) (long : length t ≡ m + 6) (sorted : Nondecreasing (m + 6) (knot t)) (low : knot t k ≤q u) (high : u ≤q knot t (k + 1)) where
+module _ (t : List ℚ) (u : ℚ) (m k : ℕ) (five : 5 ≤ k) (km : k < m) (long : length t ≡ m + 6) (sorted : Nondecreasing (m + 6) (knot t))
+    (low : knot t k ≤q u) (high : u ≤q knot t (k + 1)) where
   abbrev t′ : ℕ → ℚ
   t′ = knot (knotsWith u k t)
 
@@ -137,14 +150,20 @@ module _ (t : List ℚ) (u : ℚ) (m k : ℕ) (five : 5 ≤ k) (km : k < m) (lon
 
   -- on each span of the new knots that is wider than 0, at every x
   pub curve-kept : (s : ℕ) → s ≤ m → t′ s <q t′ (s + 1) → (d axis : ℕ) → axis < d → (c : List ℚ) (x : ℚ)
-      → curve t′ (onSpan s) (m + 1) (axisOf (controlsWith fractions t u d m k c) d axis) x ≡ curve (knot t) (onSpan (oldSpan k s)) m (axisOf c d axis) x
+      → curve t′ (onSpan s) (m + 1) (axisOf (controlsWith fractions t u d m k c) d axis) x
+      ≡ curve (knot t) (onSpan (oldSpan k s)) m (axisOf c d axis) x
   curve-kept s h w d axis z c x =
       let divides : (i j : ℕ) → i ≤ s → s < j → j ≤ s + 6 → Inverse (insertedKnot (knot t) u k j -q insertedKnot (knot t) u k i) =
       λ i j a b g. inverse-is (insertedKnot (knot t) u k j -q insertedKnot (knot t) u k i)
       (difference-above (insertedKnot (knot t) u k i) (insertedKnot (knot t) u k j)
       (rw (is-new i, is-new j) at (wider t′ (m + 7) new-nondecreasing s i j a b (omega arith) w))) in
-      sum-equal rationalRing (m + 1 - 1) (λ i. basis t′ (onSpan s) x 5 i *q axisOf (controlsWith fractions t u d m k c) d axis i) (λ i. basis (insertedKnot (knot t) u k) (onSpan s) x 5 i *q insertedControl (knot t) u k 5 (axisOf c d axis) i)
-      (λ i l. rw (controls-are t u d m k c axis i z (omega arith), basis-knots t′ (insertedKnot (knot t) u k) (onSpan s) x 5 i (λ j a b. is-new j)))
+      sum-equal rationalRing (m + 1 - 1) (λ i. basis t′ (onSpan s) x 5 i *q axisOf (controlsWith fractions t u d m k c) d axis i)
+      (λ i. basis (insertedKnot (knot t) u k) (onSpan s) x 5 i *q insertedControl (knot t) u k 5 (axisOf c d axis) i)
+      (λ i l. rw (
+        controls-are t u d m k c axis i z (omega arith),
+        basis-knots t′ (insertedKnot (knot t) u k) (onSpan s) x 5 i
+            (λ j a b. is-new j),
+      ))
       ∙ curve-inserted (knot t) u k five s divides x (axisOf c d axis) m km
 
   -- ---- a new span lies in its old one
@@ -189,18 +208,22 @@ module _ (t : List ℚ) (u : ℚ) (m k : ℕ) (five : 5 ≤ k) (km : k < m) (lon
 
   -- the book's curve, from the knot 5 to before the knot m
   pub half-open-kept : (d axis : ℕ) → axis < d → (c : List ℚ) (x : ℚ) → knot t 5 ≤q x → x <q knot t m
-      → curve t′ (halfOpen t′ x) (m + 1) (axisOf (controlsWith fractions t u d m k c) d axis) x ≡ curve (knot t) (halfOpen (knot t) x) m (axisOf c d axis) x
+      → curve t′ (halfOpen t′ x) (m + 1) (axisOf (controlsWith fractions t u d m k c) d axis) x
+      ≡ curve (knot t) (halfOpen (knot t) x) m (axisOf c d axis) x
   half-open-kept d axis z c x a b =
       let s = spanOf fractions (knotsWith u k t) (m + 1) x in
       let rising : Nondecreasing (m + 1 + 6) t′ = λ i l. new-nondecreasing i (omega arith) in
       let f = found-holds (knotsWith u k t) (m + 1) new-length rising x (rw new-start a) (rw new-end b) in
       half-open-curve t′ (m + 1) rising s (f .1) x (f .2) (f .3) (axisOf (controlsWith fractions t u d m k c) d axis)
       ∙ curve-kept s (omega (arith, f .1)) (≤q-<q-trans (t′ s) x (t′ (s + 1)) (f .2) (f .3)) d axis z c x
-      ∙ sym (half-open-curve (knot t) m sorted (oldSpan k s) (old-span-below s (omega (arith, f .1))) x (old-span-low s x (f .2)) (old-span-high s x (f .3)) (axisOf c d axis))
+      ∙ sym (half-open-curve (knot t) m sorted (oldSpan k s) (old-span-below s (omega (arith, f .1))) x (old-span-low s x (f .2))
+      (old-span-high s x (f .3)) (axisOf c d axis))
 
   -- with the right end of the domain, where the last span is wider than 0 and u before its end
-  pub closed-kept : u <q knot t (k + 1) → knot t (m - 1) <q knot t m → (d axis : ℕ) → axis < d → (c : List ℚ) (x : ℚ) → knot t 5 ≤q x → x ≤q knot t m
-      → curve t′ (closedAtEnd (m + 1) t′ x) (m + 1) (axisOf (controlsWith fractions t u d m k c) d axis) x ≡ curve (knot t) (closedAtEnd m (knot t) x) m (axisOf c d axis) x
+  pub closed-kept : u <q knot t (k + 1) → knot t (m - 1) <q knot t m → (d axis : ℕ) → axis < d → (c : List ℚ) (x : ℚ) → knot t 5 ≤q x
+      → x ≤q knot t m
+      → curve t′ (closedAtEnd (m + 1) t′ x) (m + 1) (axisOf (controlsWith fractions t u d m k c) d axis) x
+      ≡ curve (knot t) (closedAtEnd m (knot t) x) m (axisOf c d axis) x
   unfolding oldSpan
   closed-kept before last d axis z c x a b = go (atMostq (knot t m) x) refl
     where
@@ -217,17 +240,21 @@ module _ (t : List ℚ) (u : ℚ) (m k : ℕ) (five : 5 ≤ k) (km : k < m) (lon
       one : m + 1 - 1 ≡ m
       one = omega arith
 
-      go : (b : Bool) → atMostq (knot t m) x ≡ b → curve t′ (closedAtEnd (m + 1) t′ x) (m + 1) c′ x ≡ curve (knot t) (closedAtEnd m (knot t) x) m (axisOf c d axis) x
+      go : (b : Bool) → atMostq (knot t m) x ≡ b → curve t′ (closedAtEnd (m + 1) t′ x) (m + 1) c′ x
+          ≡ curve (knot t) (closedAtEnd m (knot t) x) m (axisOf c d axis) x
       go true e =
           let e′ : atMostq (t′ (m + 1)) x ≡ true = rw new-end e in
           let o : oldSpan k m ≡ m - 1 = rw (lt-leb m k km) in
-          curve-reading t′ (closedAtEnd (m + 1) t′ x) (onSpan (m + 1 - 1)) (m + 1) c′ x (omega arith) (λ i l. closed-last (m + 1) t′ x e′ (rw new-end b) 5 i)
+          curve-reading t′ (closedAtEnd (m + 1) t′ x) (onSpan (m + 1 - 1)) (m + 1) c′ x (omega arith)
+          (λ i l. closed-last (m + 1) t′ x e′ (rw new-end b) 5 i)
           ∙ ap (λ (n : ℕ). curve t′ (onSpan n) (m + 1) c′ x) one
           ∙ curve-kept m (omega arith) wide d axis z c x
           ∙ ap (λ (n : ℕ). curve (knot t) (onSpan n) m (axisOf c d axis) x) o
-          ∙ sym (curve-reading (knot t) (closedAtEnd m (knot t) x) (onSpan (m - 1)) m (axisOf c d axis) x (omega arith) (λ i l. closed-last m (knot t) x e b 5 i))
+          ∙ sym (curve-reading (knot t) (closedAtEnd m (knot t) x) (onSpan (m - 1)) m (axisOf c d axis) x (omega arith)
+          (λ i l. closed-last m (knot t) x e b 5 i))
       go false e =
           let e′ : atMostq (t′ (m + 1)) x ≡ false = rw new-end e in
           curve-reading t′ (closedAtEnd (m + 1) t′ x) (halfOpen t′ x) (m + 1) c′ x (omega arith) (λ i l. closed-before (m + 1) t′ x e′ 5 i)
           ∙ half-open-kept d axis z c x a (rw e tt)
-          ∙ sym (curve-reading (knot t) (closedAtEnd m (knot t) x) (halfOpen (knot t) x) m (axisOf c d axis) x (omega arith) (λ i l. closed-before m (knot t) x e 5 i))
+          ∙ sym (curve-reading (knot t) (closedAtEnd m (knot t) x) (halfOpen (knot t) x) m (axisOf c d axis) x (omega arith)
+          (λ i l. closed-before m (knot t) x e 5 i))

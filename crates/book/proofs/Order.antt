@@ -34,4 +34,5 @@ module _ (t : ℕ → ℚ) (n : ℕ) (sorted : Nondecreasing n t) where
 
   -- a stretch of knots that holds a span wider than 0 is wider than 0
   pub wider : (s i j : ℕ) → i ≤ s → s < j → j < n → t s <q t (s + 1) → t i <q t j
-  wider s i j l m g w = ≤q-<q-trans (t i) (t s) (t j) (rises i s l (omega arith)) (<q-≤q-trans (t s) (t (s + 1)) (t j) w (rises (s + 1) j (omega arith) g))
+  wider s i j l m g w = ≤q-<q-trans (t i) (t s) (t j) (rises i s l (omega arith)) (<q-≤q-trans (t s) (t (s + 1)) (t j) w
+      (rises (s + 1) j (omega arith) g))

@@ -52,10 +52,12 @@ row-index i n w q h g = let e = row-end i n w (n * w) h (omega arith) in omega a
 module _ (t c : List ℚ) (d : ℕ) where
   -- the six coefficients of an axis on a span
   abbrev segment : ℕ → ℕ → List ℚ
-  segment span axis = segmentOf fractions (powersOf fractions t span (knot t span)) (knot t (span + 1) -q knot t span) c ((span - 5) * d + axis) d
+  segment span axis = segmentOf fractions (powersOf fractions t span (knot t span)) (knot t (span + 1) -q knot t span) c
+      ((span - 5) * d + axis) d
 
   six : (span axis : ℕ) → length (segment span axis) ≡ 6
-  six span axis = segment-length fractions (powersOf fractions t span (knot t span)) (knot t (span + 1) -q knot t span) c ((span - 5) * d + axis) d
+  six span axis = segment-length fractions (powersOf fractions t span (knot t span)) (knot t (span + 1) -q knot t span) c
+      ((span - 5) * d + axis) d
 
   -- segment ℓ is that of a span before s, and ends where the next one starts; the last one where the knot s lies
   record OfSpan (s : ℕ) (p : Polynomial ℚ) (ℓ : ℕ) : Type 0 where
@@ -102,7 +104,8 @@ module _ (t c : List ℚ) (d : ℕ) where
                 let i = row-index axis d 6 k y z in
                 let j = row-index ℓ (length (p .breaks)) (d * 6) (axis * 6 + k) h i in
                 let e : (ℓ * d + axis) * 6 + k ≡ ℓ * (d * 6) + (axis * 6 + k) = omega arith in
-                List·getD-append (p .coefficients) (spanSegments fractions t c d s) 𝟘 ((ℓ * d + axis) * 6 + k) (rw (q .long, e) j) ∙ a .cells axis k y z;
+                List·getD-append (p .coefficients) (spanSegments fractions t c d s) 𝟘 ((ℓ * d + axis) * 6 + k) (rw (q .long, e) j)
+                ∙ a .cells axis k y z;
           }
 
       -- the segment of the span s
@@ -118,17 +121,28 @@ module _ (t c : List ℚ) (d : ℕ) where
             last = λ g. refl;
             cells = λ axis k y z.
                 let e : (length (p .breaks) * d + axis) * 6 + k ≡ length (p .coefficients) + (axis * 6 + k) = rw (q .long) (omega arith) in
-                ap (λ (i : ℕ). getD (p .coefficients ++ spanSegments fractions t c d s) i 𝟘) e ∙ getD-append-add (p .coefficients) (spanSegments fractions t c d s) (axis * 6 + k) 𝟘
+                ap (λ (i : ℕ). getD (p .coefficients ++ spanSegments fractions t c d s) i 𝟘) e
+                ∙ getD-append-add (p .coefficients) (spanSegments fractions t c d s) (axis * 6 + k) 𝟘
                 ∙ join-at d 6 (segment s) 𝟘 (λ i l. six s i) axis k y z;
           }
 
       go : (b : Bool) → atMostq (knot t (s + 1) -q knot t s) 𝟘 ≡ b → Made (s + 1) (cond b p (more s p))
       go true e =
-          let flat : knot t (s + 1) ≡ knot t s = antisymmetric (knot t (s + 1)) (knot t s) (not-wide (knot t s) (knot t (s + 1)) (rw e tt)) rise in
+          let flat : knot t (s + 1) ≡ knot t s = antisymmetric (knot t (s + 1)) (knot t s) (not-wide (knot t s) (knot t (s + 1)) (rw e tt))
+          rise in
           record {
             long = q .long;
             all = λ ℓ h. let a = q .all ℓ h in
-                record { span = a .span; five = a .five; below = omega (arith, a .below); wide = a .wide; start = a .start; next = a .next; last = λ g. flat ∙ a .last g; cells = a .cells };
+                record {
+                  span = a .span;
+                  five = a .five;
+                  below = omega (arith, a .below);
+                  wide = a .wide;
+                  start = a .start;
+                  next = a .next;
+                  last = λ g. flat ∙ a .last g;
+                  cells = a .cells;
+                };
           }
       go false e =
           record {
@@ -144,7 +158,8 @@ module _ (t c : List ℚ) (d : ℕ) where
           }
 
   -- every segment of the spline's polynomial
-  segments-are : (m : ℕ) → Nondecreasing (m + 6) (knot t) → knot t m ≡ 𝟙 → (ℓ : ℕ) → ℓ + 1 < length (polynomialOf fractions t c d m .breaks) → OfSpan m (polynomialOf fractions t c d m) ℓ
+  segments-are : (m : ℕ) → Nondecreasing (m + 6) (knot t) → knot t m ≡ 𝟙 → (ℓ : ℕ) → ℓ + 1 < length (polynomialOf fractions t c d m .breaks)
+      → OfSpan m (polynomialOf fractions t c d m) ℓ
   unfolding polynomialOf
   segments-are m sorted end ℓ h =
       let p = each (spanTurn fractions t c d) 5 m (record { breaks = []; coefficients = [] }) in
@@ -166,9 +181,15 @@ module _ (t c : List ℚ) (d : ℕ) where
         cells = a .cells;
       }
     where
-      made : (ℓ : ℕ) → ℓ < length (each (spanTurn fractions t c d) 5 m (record { breaks = []; coefficients = [] }) .breaks) → OfSpan m (each (spanTurn fractions t c d) 5 m (record { breaks = []; coefficients = [] })) ℓ
+      made : (ℓ : ℕ) → ℓ < length (each (spanTurn fractions t c d) 5 m (record { breaks = []; coefficients = [] }) .breaks)
+          → OfSpan m (each (spanTurn fractions t c d) 5 m (record { breaks = []; coefficients = [] })) ℓ
       made ℓ h = elim (decLt m 5) [
-        | yes l ↦ absurd (omega (arith, h, ap (λ (p : Polynomial ℚ). length (p .breaks)) (each-done (spanTurn fractions t c d) 5 m (record { breaks = []; coefficients = [] }) (omega arith))))
+        | yes l ↦ absurd (omega (
+          arith,
+          h,
+          ap (λ (p : Polynomial ℚ). length (p .breaks)) (each-done (spanTurn fractions t c d) 5 m
+              (record { breaks = []; coefficients = [] }) (omega arith)),
+        ))
         | no l ↦
             each-runs Made (spanTurn fractions t c d) 5 m (record { breaks = []; coefficients = [] }) (omega arith)
             (λ i p y z q. turn-keeps i p y (sorted i (omega arith)) q)
@@ -176,7 +197,8 @@ module _ (t c : List ℚ) (d : ℕ) where
       ]
 
 -- the last break
-last-break : (t c : List ℚ) (d m ℓ : ℕ) → ℓ + 2 ≡ length (polynomialOf fractions t c d m .breaks) → breakOf (polynomialOf fractions t c d m) (ℓ + 1) ≡ 𝟙
+last-break : (t c : List ℚ) (d m ℓ : ℕ) → ℓ + 2 ≡ length (polynomialOf fractions t c d m .breaks)
+    → breakOf (polynomialOf fractions t c d m) (ℓ + 1) ≡ 𝟙
 unfolding polynomialOf
 last-break t c d m ℓ h =
     let p = each (spanTurn fractions t c d) 5 m (record { breaks = []; coefficients = [] }) in
@@ -184,32 +206,38 @@ last-break t c d m ℓ h =
     ap (λ (z : ℕ). getD (p .breaks ++ (𝟙 ∷ [])) z 𝟘) e ∙ getD-append-seam (p .breaks) 𝟙 [] 𝟘
 
 -- ---- the value of a segment, at every x
-module _ (t : List ℚ) (m : ℕ) (sorted : Nondecreasing (m + 6) (knot t)) (end : knot t m ≡ 𝟙) (c : List ℚ) (d axis ℓ : ℕ) (z : axis < d) (h : ℓ + 1 < length (polynomialOf fractions t c d m .breaks)) where
+module _ (t : List ℚ) (m : ℕ) (sorted : Nondecreasing (m + 6) (knot t)) (end : knot t m ≡ 𝟙) (c : List ℚ) (d axis ℓ : ℕ) (z : axis < d)
+    (h : ℓ + 1 < length (polynomialOf fractions t c d m .breaks)) where
   own : OfSpan t c d m (polynomialOf fractions t c d m) ℓ
   own = segments-are t c d m sorted end ℓ h
 
   -- it is the curve of its span
-  value-on-span : (x : ℚ) → segmentValue (polynomialOf fractions t c d m) d axis ℓ x ≡ curve (knot t) (onSpan (own .span)) m (axisOf c d axis) x
+  value-on-span : (x : ℚ) → segmentValue (polynomialOf fractions t c d m) d axis ℓ x ≡ curve (knot t) (onSpan (own .span)) m (axisOf c d
+      axis) x
   value-on-span x =
       let s = own .span in
       let w = knot t (s + 1) -q knot t s in
       let y : ℚ = (x -q knot t s) /q w in
       rw (own .start, own .next h)
-      (sum-equal rationalRing 5 (λ k. getD (polynomialOf fractions t c d m .coefficients) ((ℓ * d + axis) * 6 + k) 𝟘 *q power rationalRing y k)
+      (sum-equal rationalRing 5 (λ k. getD (polynomialOf fractions t c d m .coefficients) ((ℓ * d + axis) * 6 + k) 𝟘 *q power rationalRing y
+      k)
       (λ k. getD (segmentOf fractions (powersOf fractions t s (knot t s)) w c ((s - 5) * d + axis) d) k 𝟘 *q power rationalRing y k)
       (λ k l. ap (λ (q : ℚ). q *q power rationalRing y k) (own .cells axis k z (omega arith)))
       ∙ segment-curve t m s (own .five) (own .below) c d axis y
       ∙ ap (curve (knot t) (onSpan s) m (axisOf c d axis))
-      (combine rationalRing (x ∷ knot t s ∷ w ∷ inverse w ∷ []) (v1 ⊕ v2 ⊗ ((v0 ⊖ v1) ⊗ v3)) v0 (v0 ⊖ v1) (v2 ⊗ v3) n1 tt (inverse-is w (difference-above (knot t s) (knot t (s + 1)) (own .wide)))))
+      (combine rationalRing (x ∷ knot t s ∷ w ∷ inverse w ∷ []) (v1 ⊕ v2 ⊗ ((v0 ⊖ v1) ⊗ v3)) v0 (v0 ⊖ v1) (v2 ⊗ v3) n1 tt
+      (inverse-is w (difference-above (knot t s) (knot t (s + 1)) (own .wide)))))
 
   -- the book's curve, from its break to the next
   pub value-half-open : (x : ℚ) → breakOf (polynomialOf fractions t c d m) ℓ ≤q x → x <q breakOf (polynomialOf fractions t c d m) (ℓ + 1)
       → segmentValue (polynomialOf fractions t c d m) d axis ℓ x ≡ curve (knot t) (halfOpen (knot t) x) m (axisOf c d axis) x
   value-half-open x low high =
-      value-on-span x ∙ sym (half-open-curve (knot t) m sorted (own .span) (own .below) x (rw (own .start) at low) (rw (own .next h) at high) (axisOf c d axis))
+      value-on-span x ∙ sym (half-open-curve (knot t) m sorted (own .span) (own .below) x (rw (own .start) at low)
+      (rw (own .next h) at high) (axisOf c d axis))
 
   -- the last segment: from its break to the right end
-  pub value-last : knot t (m - 1) <q knot t m → ℓ + 2 ≡ length (polynomialOf fractions t c d m .breaks) → (x : ℚ) → breakOf (polynomialOf fractions t c d m) ℓ ≤q x → x ≤q knot t m
+  pub value-last : knot t (m - 1) <q knot t m → ℓ + 2 ≡ length (polynomialOf fractions t c d m .breaks) → (x : ℚ)
+      → breakOf (polynomialOf fractions t c d m) ℓ ≤q x → x ≤q knot t m
       → segmentValue (polynomialOf fractions t c d m) d axis ℓ x ≡ curve (knot t) (closedAtEnd m (knot t) x) m (axisOf c d axis) x
   value-last wide e x low high = go (atMostq (knot t m) x) refl
     where
@@ -218,14 +246,18 @@ module _ (t : List ℚ) (m : ℕ) (sorted : Nondecreasing (m + 6) (knot t)) (end
 
       last : own .span ≡ m - 1
       last = elim (decLt (own .span) (m - 1)) [
-        | yes l ↦ absurd (not-both (knot t m) (knot t (m - 1)) (subst (λ (q : ℚ). q ≤q knot t (m - 1)) ends (rises (knot t) (m + 6) sorted (own .span + 1) (m - 1) (omega arith) (omega arith))) wide)
+        | yes l ↦ absurd (not-both (knot t m) (knot t (m - 1)) (subst (λ (q : ℚ). q ≤q knot t (m - 1)) ends
+            (rises (knot t) (m + 6) sorted (own .span + 1) (m - 1) (omega arith) (omega arith))) wide)
         | no l ↦ omega (arith, own .below)
       ]
 
-      go : (b : Bool) → atMostq (knot t m) x ≡ b → segmentValue (polynomialOf fractions t c d m) d axis ℓ x ≡ curve (knot t) (closedAtEnd m (knot t) x) m (axisOf c d axis) x
+      go : (b : Bool) → atMostq (knot t m) x ≡ b → segmentValue (polynomialOf fractions t c d m) d axis ℓ x
+          ≡ curve (knot t) (closedAtEnd m (knot t) x) m (axisOf c d axis) x
       go true g =
           value-on-span x ∙ ap (λ (s : ℕ). curve (knot t) (onSpan s) m (axisOf c d axis) x) last
-          ∙ sym (curve-reading (knot t) (closedAtEnd m (knot t) x) (onSpan (m - 1)) m (axisOf c d axis) x (omega (arith, own .below)) (λ i l. closed-last m (knot t) x g high 5 i))
+          ∙ sym (curve-reading (knot t) (closedAtEnd m (knot t) x) (onSpan (m - 1)) m (axisOf c d axis) x (omega (arith, own .below))
+          (λ i l. closed-last m (knot t) x g high 5 i))
       go false g =
           value-half-open x low (rw (own .next h, ends, g) tt)
-          ∙ sym (curve-reading (knot t) (closedAtEnd m (knot t) x) (halfOpen (knot t) x) m (axisOf c d axis) x (omega (arith, own .below)) (λ i l. closed-before m (knot t) x g 5 i))
+          ∙ sym (curve-reading (knot t) (closedAtEnd m (knot t) x) (halfOpen (knot t) x) m (axisOf c d axis) x (omega (arith, own .below))
+          (λ i l. closed-before m (knot t) x g 5 i))

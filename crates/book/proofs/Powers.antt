@@ -1,4 +1,5 @@
--- The table of the code holds the Taylor coefficients: after level p, row r is N_{span-p+r,p} of the given span as a polynomial of y = ξ - x.
+-- The table of the code holds the Taylor coefficients: after level p, row r is N_{span-p+r,p} of the given span as a polynomial of y = ξ -
+-- x.
 use mathlib.Core.Path.{_≡_, refl, sym, ap, _∙_}
 use mathlib.Core.List.{List, [], _∷_}
 use Prim.Native.Nat.{ℕ, zero, suc, _+_, _-_, _*_, _≤_, _<_}
@@ -56,7 +57,8 @@ fill f n l v h e p =
     let w : n < length l = rw (p .long) h in
     record {
       long = length-set l n v ∙ p .long;
-      filled = below-more (λ (k : ℕ). getD (set l n v) k 𝟘 ≡ f k) n (λ k g. getD-set-other l n k v 𝟘 (ne-of-lt g) ∙ p .filled k g) (getD-set-same l n v 𝟘 w ∙ e);
+      filled = below-more (λ (k : ℕ). getD (set l n v) k 𝟘 ≡ f k) n (λ k g. getD-set-other l n k v 𝟘 (ne-of-lt g) ∙ p .filled k g)
+          (getD-set-same l n v 𝟘 w ∙ e);
       none = λ k g y. getD-set-other l n k v 𝟘 (ne-of-gt (omega arith)) ∙ p .none k (omega arith) y;
     }
 
@@ -100,7 +102,8 @@ module _ (b : List ℚ) (at : ℕ) (saved : List ℚ) (left right : ℚ) where
       (λ i s a z p.
       let e = prior-is b at i (left +q right) in
       record {
-        next = fill _ i (s .next) _ (omega arith) (ap (λ (q : ℚ). getD saved i 𝟘 +q right *q (getD b (at + i) 𝟘 /q (left +q right)) -q q) e) (p .next);
+        next = fill _ i (s .next) _ (omega arith) (ap (λ (q : ℚ). getD saved i 𝟘 +q right *q (getD b (at + i) 𝟘 /q (left +q right)) -q q) e)
+            (p .next);
         upper = fill _ i (s .upper) _ (omega arith) (ap (λ (q : ℚ). left *q (getD b (at + i) 𝟘 /q (left +q right)) +q q) e) (p .upper);
       })
       (record { next = empty _; upper = empty _ })
@@ -113,15 +116,18 @@ horner-ap c d y h = rw (h 0 (omega arith), h 1 (omega arith), h 2 (omega arith),
 upper-horner : (c : ℕ → ℚ) (l i y : ℚ) → c 5 ≡ 𝟘 → horner rationalRing 5 (upperAt c l i) y ≡ (l +q y) *q i *q horner rationalRing 5 c y
 upper-horner c l i y z =
     combine rationalRing (c 0 ∷ c 1 ∷ c 2 ∷ c 3 ∷ c 4 ∷ c 5 ∷ y ∷ l ∷ i ∷ [])
-    (hornerTerm v6 (v7 ⊗ (v0 ⊗ v8) ⊕ n0) (v7 ⊗ (v1 ⊗ v8) ⊕ v0 ⊗ v8) (v7 ⊗ (v2 ⊗ v8) ⊕ v1 ⊗ v8) (v7 ⊗ (v3 ⊗ v8) ⊕ v2 ⊗ v8) (v7 ⊗ (v4 ⊗ v8) ⊕ v3 ⊗ v8) (v7 ⊗ (v5 ⊗ v8) ⊕ v4 ⊗ v8))
+    (hornerTerm v6 (v7 ⊗ (v0 ⊗ v8) ⊕ n0) (v7 ⊗ (v1 ⊗ v8) ⊕ v0 ⊗ v8) (v7 ⊗ (v2 ⊗ v8) ⊕ v1 ⊗ v8) (v7 ⊗ (v3 ⊗ v8) ⊕ v2 ⊗ v8)
+    (v7 ⊗ (v4 ⊗ v8) ⊕ v3 ⊗ v8) (v7 ⊗ (v5 ⊗ v8) ⊕ v4 ⊗ v8))
     ((v7 ⊕ v6) ⊗ v8 ⊗ hornerTerm v6 v0 v1 v2 v3 v4 v5) (n0 ⊖ v6 ⊗ v6 ⊗ v6 ⊗ v6 ⊗ v6 ⊗ v6 ⊗ v8) v5 n0 tt z
 
-next-horner : (c s : ℕ → ℚ) (r i y : ℚ) → c 5 ≡ 𝟘 → horner rationalRing 5 (nextAt c s r i) y ≡ horner rationalRing 5 s y +q (r -q y) *q i *q horner rationalRing 5 c y
+next-horner : (c s : ℕ → ℚ) (r i y : ℚ) → c 5 ≡ 𝟘 → horner rationalRing 5 (nextAt c s r i) y
+    ≡ horner rationalRing 5 s y +q (r -q y) *q i *q horner rationalRing 5 c y
 next-horner c s r i y z =
     combine rationalRing (c 0 ∷ c 1 ∷ c 2 ∷ c 3 ∷ c 4 ∷ c 5 ∷ y ∷ r ∷ i ∷ s 0 ∷ s 1 ∷ s 2 ∷ s 3 ∷ s 4 ∷ s 5 ∷ [])
     (hornerTerm v6 (var 9 ⊕ v7 ⊗ (v0 ⊗ v8) ⊖ n0) (var 10 ⊕ v7 ⊗ (v1 ⊗ v8) ⊖ v0 ⊗ v8) (var 11 ⊕ v7 ⊗ (v2 ⊗ v8) ⊖ v1 ⊗ v8)
     (var 12 ⊕ v7 ⊗ (v3 ⊗ v8) ⊖ v2 ⊗ v8) (var 13 ⊕ v7 ⊗ (v4 ⊗ v8) ⊖ v3 ⊗ v8) (var 14 ⊕ v7 ⊗ (v5 ⊗ v8) ⊖ v4 ⊗ v8))
-    (hornerTerm v6 (var 9) (var 10) (var 11) (var 12) (var 13) (var 14) ⊕ (v7 ⊖ v6) ⊗ v8 ⊗ hornerTerm v6 v0 v1 v2 v3 v4 v5) (v6 ⊗ v6 ⊗ v6 ⊗ v6 ⊗ v6 ⊗ v6 ⊗ v8) v5 n0 tt z
+    (hornerTerm v6 (var 9) (var 10) (var 11) (var 12) (var 13) (var 14) ⊕ (v7 ⊖ v6) ⊗ v8 ⊗ hornerTerm v6 v0 v1 v2 v3 v4 v5)
+    (v6 ⊗ v6 ⊗ v6 ⊗ v6 ⊗ v6 ⊗ v6 ⊗ v8) v5 n0 tt z
 
 -- ---- the levels
 module _ (t : List ℚ) (span : ℕ) (x : ℚ) (five : 5 ≤ span) where
@@ -169,17 +175,20 @@ module _ (t : List ℚ) (span : ℕ) (x : ℚ) (five : 5 ≤ span) where
         let nextAll : (k : ℕ) → k < 6 → getD (r .next) k 𝟘 ≡ nextAt c o right i′ k =
         λ k z. elim (decLt k (suc p + 1)) [
           | yes l ↦ bl .next .filled k l
-          | no g ↦ bl .next .none k (omega arith) z ∙ sym (zero-next c o right i′ k (ic .degree k (omega arith) z) (q .saved-degree k (omega arith) z) (λ j e. ic .degree j (omega arith) (omega arith)))
+          | no g ↦ bl .next .none k (omega arith) z ∙ sym (zero-next c o right i′ k (ic .degree k (omega arith) z)
+              (q .saved-degree k (omega arith) z) (λ j e. ic .degree j (omega arith) (omega arith)))
         ] in
         let upperAll : (k : ℕ) → k < 6 → getD (r .upper) k 𝟘 ≡ upperAt c left i′ k =
         λ k z. elim (decLt k (suc p + 1)) [
           | yes l ↦ bl .upper .filled k l
-          | no g ↦ bl .upper .none k (omega arith) z ∙ sym (zero-upper c left i′ k (ic .degree k (omega arith) z) (λ j e. ic .degree j (omega arith) (omega arith)))
+          | no g ↦ bl .upper .none k (omega arith) z ∙ sym (zero-upper c left i′ k (ic .degree k (omega arith) z)
+              (λ j e. ic .degree j (omega arith) (omega arith)))
         ] in
         let di : knot t (span + i + 1) ≡ T (m + suc p) = ap T (omega arith) in
         record {
           long = pt .long ∙ q .long;
-          done = λ j n g e. below-more (λ (j : ℕ). (n : ℕ) → n + suc p ≡ span + j → Expands (suc p) n (λ k. getD (putRow fractions b (6 * i) (r .next)) (6 * j + k) 𝟘)) i
+          done = λ j n g e. below-more (λ (j : ℕ). (n : ℕ) → n + suc p ≡ span + j → Expands (suc p) n (λ k. getD
+              (putRow fractions b (6 * i) (r .next)) (6 * j + k) 𝟘)) i
               (λ j g n e. expands-ap _ (λ k. getD b (6 * j + k) 𝟘) (λ k z. pt .below (6 * j + k) (omega arith)) (q .done j n g e))
               (λ n e. record {
                 degree = λ k a z. pt .new k z ∙ bl .next .none k (omega arith) z;
@@ -190,11 +199,13 @@ module _ (t : List ℚ) (span : ℕ) (x : ℚ) (five : 5 ≤ span) where
                     ∙ next-horner c o right i′ y c5
                     ∙ ap (λ (z : ℚ). z +q (right -q y) *q i′ *q horner rationalRing 5 c y) (q .saved-value m′ y (omega arith))
                     ∙ ap (λ (z : ℚ). rising T first (x +q y) p m′ +q (right -q y) *q i′ *q z) (ic .value y)
-                    ∙ ap (λ (z : ℚ). rising T first (x +q y) p m′ +q z) (fall-is x y (T m) (knot t (span + i + 1)) (basis T first (x +q y) p m) ∙ rw (di, up))
+                    ∙ ap (λ (z : ℚ). rising T first (x +q y) p m′ +q z) (fall-is x y (T m) (knot t (span + i + 1))
+                    (basis T first (x +q y) p m) ∙ rw (di, up))
                     ∙ sym (basis-step T first (x +q y) p m′)
                     ∙ ap (basis T first (x +q y) (suc p)) (sym en);
               }) j g n e;
-          todo = λ j n g l e. expands-ap _ (λ k. getD b (6 * j + k) 𝟘) (λ k z. pt .above (6 * j + k) (omega arith)) (q .todo j n (omega arith) l e);
+          todo = λ j n g l e. expands-ap _ (λ k. getD b (6 * j + k) 𝟘) (λ k z. pt .above (6 * j + k) (omega arith))
+              (q .todo j n (omega arith) l e);
           saved-degree = λ k a z. bl .upper .none k (omega arith) z;
           saved-value = λ n y e.
               let en : m ≡ n = omega arith in
@@ -219,21 +230,26 @@ module _ (t : List ℚ) (span : ℕ) (x : ℚ) (five : 5 ≤ span) where
         den x a b = solve rationalRing (x ∷ a ∷ b ∷ []) (v0 ⊖ v1 ⊕ (v2 ⊖ v0)) (v2 ⊖ v1) tt
 
         fall-is : (x y a b n : ℚ) → (b -q x -q y) *q inverse (x -q a +q (b -q x)) *q n ≡ (b -q (x +q y)) /q (b -q a) *q n
-        fall-is x y a b n = ap (λ (z : ℚ). (b -q x -q y) *q inverse z *q n) (den x a b) ∙ solve rationalRing (x ∷ y ∷ b ∷ inverse (b -q a) ∷ n ∷ []) ((v2 ⊖ v0 ⊖ v1) ⊗ v3 ⊗ v4) ((v2 ⊖ (v0 ⊕ v1)) ⊗ v3 ⊗ v4) tt
+        fall-is x y a b n = ap (λ (z : ℚ). (b -q x -q y) *q inverse z *q n) (den x a b) ∙ solve rationalRing (x ∷ y ∷ b ∷ inverse (b -q a) ∷
+            n ∷ []) ((v2 ⊖ v0 ⊖ v1) ⊗ v3 ⊗ v4) ((v2 ⊖ (v0 ⊕ v1)) ⊗ v3 ⊗ v4) tt
 
         rise-is : (x y a b n : ℚ) → (x -q a +q y) *q inverse (x -q a +q (b -q x)) *q n ≡ (x +q y -q a) /q (b -q a) *q n
-        rise-is x y a b n = ap (λ (z : ℚ). (x -q a +q y) *q inverse z *q n) (den x a b) ∙ solve rationalRing (x ∷ y ∷ a ∷ inverse (b -q a) ∷ n ∷ []) ((v0 ⊖ v2 ⊕ v1) ⊗ v3 ⊗ v4) ((v0 ⊕ v1 ⊖ v2) ⊗ v3 ⊗ v4) tt
+        rise-is x y a b n = ap (λ (z : ℚ). (x -q a +q y) *q inverse z *q n) (den x a b) ∙ solve rationalRing (x ∷ y ∷ a ∷ inverse (b -q a) ∷
+            n ∷ []) ((v0 ⊖ v2 ⊕ v1) ⊗ v3 ⊗ v4) ((v0 ⊕ v1 ⊖ v2) ⊗ v3 ⊗ v4) tt
 
     level-is : (b : List ℚ) → length b ≡ 36 → ((i m : ℕ) → i ≤ p → m + p ≡ span + i → Expands p m (λ k. getD b (6 * i + k) 𝟘))
-        → (length (degreeTurn fractions t span x (suc p) b) ≡ 36) × ((i m : ℕ) → i ≤ suc p → m + suc p ≡ span + i → Expands (suc p) m (λ k. getD (degreeTurn fractions t span x (suc p) b) (6 * i + k) 𝟘))
+        → (length (degreeTurn fractions t span x (suc p) b) ≡ 36) × ((i m : ℕ) → i ≤ suc p → m + suc p ≡ span + i → Expands (suc p) m
+        (λ k. getD (degreeTurn fractions t span x (suc p) b) (6 * i + k) 𝟘))
     unfolding degreeTurn
     level-is b long rows =
         let z = replicate 6 𝟘 in
-        let none : (n : ℕ) (y : ℚ) → n + suc p ≡ span → basis T first (x +q y) p n ≡ 𝟘 = λ n y g. after-support T span (x +q y) p n (omega arith) in
+        let none : (n : ℕ) (y : ℚ) → n + suc p ≡ span → basis T first (x +q y) p n ≡ 𝟘 = λ n y g. after-support T span (x +q y) p n (omega
+        arith) in
         let over : (y : ℚ) → basis T first (x +q y) p (span + 1) ≡ 𝟘 = λ y. before-support T span (x +q y) p (span + 1) (omega arith) in
         let s = each (rowTurn fractions t span x (suc p)) 0 (suc p) (record { rows = b; saved = z }) in
         let q : Turn p (suc p) s =
-        each-runs (Turn p) (rowTurn fractions t span x (suc p)) 0 (suc p) (record { rows = b; saved = z }) (omega arith) (λ j s a z y. lift-keeps j s z y)
+        each-runs (Turn p) (rowTurn fractions t span x (suc p)) 0 (suc p) (record { rows = b; saved = z }) (omega arith)
+        (λ j s a z y. lift-keeps j s z y)
         (record {
           long = long;
           done = λ j n a y. absurd (omega arith);
@@ -245,7 +261,8 @@ module _ (t : List ℚ) (span : ℕ) (x : ℚ) (five : 5 ≤ span) where
         }) in
         let pt = put-is (s .rows) (6 * suc p) (s .saved) (rw (q .long) (omega arith)) in (
           pt .long ∙ q .long,
-          λ i m h e. below-more (λ (j : ℕ). (n : ℕ) → n + suc p ≡ span + j → Expands (suc p) n (λ k. getD (putRow fractions (s .rows) (6 * suc p) (s .saved)) (6 * j + k) 𝟘)) (suc p)
+          λ i m h e. below-more (λ (j : ℕ). (n : ℕ) → n + suc p ≡ span + j → Expands (suc p) n (λ k. getD
+              (putRow fractions (s .rows) (6 * suc p) (s .saved)) (6 * j + k) 𝟘)) (suc p)
               (λ j g n e. expands-ap _ (λ k. getD (s .rows) (6 * j + k) 𝟘) (λ k z. pt .below (6 * j + k) (omega arith)) (q .done j n g e))
               (λ n e. record {
                 degree = λ k a z. pt .new k z ∙ q .saved-degree k a z;
@@ -253,7 +270,9 @@ module _ (t : List ℚ) (span : ℕ) (x : ℚ) (five : 5 ≤ span) where
                     let en : n + 1 ≡ span + 1 = omega arith in
                     horner-ap _ (λ k. getD (s .saved) k 𝟘) y (λ k z. pt .new k z)
                     ∙ q .saved-value n y e
-                    ∙ sym (basis-step T first (x +q y) p n ∙ rw (en, over y) (solve rationalRing (rising T first (x +q y) p n ∷ ((T (span + 1 + suc p) -q (x +q y)) /q (T (span + 1 + suc p) -q T (span + 1))) ∷ []) (v0 ⊕ v1 ⊗ n0) v0 tt));
+                    ∙ sym (basis-step T first (x +q y) p n ∙ rw (en, over y)
+                    (solve rationalRing (rising T first (x +q y) p n ∷ ((T (span + 1 + suc p) -q (x +q y)) /q
+                    (T (span + 1 + suc p) -q T (span + 1))) ∷ []) (v0 ⊕ v1 ⊗ n0) v0 tt));
               }) i (omega arith) m e,
         )
 
@@ -271,15 +290,18 @@ module _ (t : List ℚ) (span : ℕ) (x : ℚ) (five : 5 ≤ span) where
       level-is 4 (omega arith) (go 4 (go 3 (go 2 (go 1 z)))) (l4 .0) (l4 .1) .1 i (span - 5 + i) (omega arith) (omega arith)
     where
       later : (k : ℕ) → 0 < k → k < 6 → getD (set (replicate 36 𝟘) 0 𝟙) (6 * 0 + k) 𝟘 ≡ 𝟘
-      later k a h = getD-set-other (replicate 36 𝟘) 0 (6 * 0 + k) 𝟙 𝟘 (ne-of-gt (omega arith)) ∙ getD-replicate 36 (6 * 0 + k) 𝟘 𝟘 (omega arith)
+      later k a h = getD-set-other (replicate 36 𝟘) 0 (6 * 0 + k) 𝟙 𝟘 (ne-of-gt (omega arith))
+          ∙ getD-replicate 36 (6 * 0 + k) 𝟘 𝟘 (omega arith)
 
       first-is : (i m : ℕ) → i ≤ 0 → m + 0 ≡ span + i → Expands 0 m (λ k. getD (set (replicate 36 𝟘) 0 𝟙) (6 * i + k) 𝟘)
       first-is zero m a e = record {
         degree = λ k g l. later k g l;
-        value = λ y. solve rationalRing (y ∷ []) (hornerTerm v0 n1 n0 n0 n0 n0 n0) n1 tt ∙ sym (ap (onSpan span) (omega arith) ∙ on-here span);
+        value = λ y. solve rationalRing (y ∷ []) (hornerTerm v0 n1 n0 n0 n0 n0 n0) n1 tt ∙ sym (ap (onSpan span) (omega arith) ∙ on-here
+            span);
       }
       first-is (suc i) m a e = absurd (omega arith)
 
   -- row i as a polynomial: N_{span-5+i,5} of the span, at x + y for every y
-  pub row-is : (i : ℕ) → i < 6 → (y : ℚ) → horner rationalRing 5 (λ k. getD (powersOf fractions t span x) (6 * i + k) 𝟘) y ≡ basis (knot t) (onSpan span) (x +q y) 5 (span - 5 + i)
+  pub row-is : (i : ℕ) → i < 6 → (y : ℚ) → horner rationalRing 5 (λ k. getD (powersOf fractions t span x) (6 * i + k) 𝟘) y
+      ≡ basis (knot t) (onSpan span) (x +q y) 5 (span - 5 + i)
   row-is i h = rows-are i h .value

@@ -31,10 +31,12 @@ module _ (t : ℕ → ℚ) (first : ℕ → ℚ) (u : ℚ) where
   basis-zero (suc p) i h =
       let a = basis-zero p i (λ m l g. h m l (omega arith)) in
       let b = basis-zero p (i + 1) (λ m l g. h m (omega arith) (omega arith)) in
-      rw (a, b) (solve rationalRing (((u -q t i) /q (t (i + suc p) -q t i)) ∷ ((t (i + suc p + 1) -q u) /q (t (i + suc p + 1) -q t (i + 1))) ∷ []) (v0 ⊗ con (pos 0) ⊕ v1 ⊗ con (pos 0)) (con (pos 0)) tt)
+      rw (a, b) (solve rationalRing (((u -q t i) /q (t (i + suc p) -q t i)) ∷ ((t (i + suc p + 1) -q u) /q (t (i + suc p + 1) -q t (i + 1)))
+      ∷ []) (v0 ⊗ con (pos 0) ⊕ v1 ⊗ con (pos 0)) (con (pos 0)) tt)
 
 -- N_{i,p} looks at the knots i to i + p + 1
-pub basis-knots : (t t′ : ℕ → ℚ) (first : ℕ → ℚ) (u : ℚ) (p i : ℕ) → ((m : ℕ) → i ≤ m → m ≤ i + p + 1 → t m ≡ t′ m) → basis t first u p i ≡ basis t′ first u p i
+pub basis-knots : (t t′ : ℕ → ℚ) (first : ℕ → ℚ) (u : ℚ) (p i : ℕ) → ((m : ℕ) → i ≤ m → m ≤ i + p + 1 → t m ≡ t′ m) → basis t first u p i
+    ≡ basis t′ first u p i
 unfolding basis
 basis-knots t t′ first u zero i h = refl
 basis-knots t t′ first u (suc p) i h =
@@ -48,11 +50,16 @@ basis-knots t t′ first u (suc p) i h =
     )
 
 -- and at N_{i,0} to N_{i+p,0}
-pub basis-first : (t : ℕ → ℚ) (first first′ : ℕ → ℚ) (u : ℚ) (p i : ℕ) → ((m : ℕ) → i ≤ m → m ≤ i + p → first m ≡ first′ m) → basis t first u p i ≡ basis t first′ u p i
+pub basis-first : (t : ℕ → ℚ) (first first′ : ℕ → ℚ) (u : ℚ) (p i : ℕ) → ((m : ℕ) → i ≤ m → m ≤ i + p → first m ≡ first′ m)
+    → basis t first u p i ≡ basis t first′ u p i
 unfolding basis
 basis-first t first first′ u zero i h = h i (omega arith) (omega arith)
 basis-first t first first′ u (suc p) i h =
-    rw (basis-first t first first′ u p i (λ m a b. h m a (omega arith)), basis-first t first first′ u p (i + 1) (λ m a b. h m (omega arith) (omega arith)))
+    rw (
+      basis-first t first first′ u p i (λ m a b. h m a (omega arith)),
+      basis-first t first first′ u p (i + 1)
+          (λ m a b. h m (omega arith) (omega arith)),
+    )
 
 -- ---- relative to a span
 -- 1 at the span

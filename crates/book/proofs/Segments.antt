@@ -1,5 +1,5 @@
--- The six coefficients that the code makes for a span and an axis: as a polynomial of the local parameter they are the sum of the span's six
--- functions times the controls.
+-- The six coefficients that the code makes for a span and an axis: as a polynomial of the local parameter they are the sum of the span's
+-- six functions times the controls.
 use mathlib.Core.Path.{_≡_, sym, ap, _∙_}
 use mathlib.Core.List.{List, [], _∷_}
 use Prim.Native.Nat.{ℕ, zero, suc, _+_, _-_, _*_, _≤_, _<_}
@@ -47,18 +47,21 @@ scale (suc k) = scale k ⊗ width
 -- coefficient k as the code makes it
 abbrev coefficient : ℕ → Expression
 coefficient k =
-    (n0 ⊕ cell 0 k ⊗ control 0 ⊕ cell 1 k ⊗ control 1 ⊕ cell 2 k ⊗ control 2 ⊕ cell 3 k ⊗ control 3 ⊕ cell 4 k ⊗ control 4 ⊕ cell 5 k ⊗ control 5) ⊗ scale k
+    (n0 ⊕ cell 0 k ⊗ control 0 ⊕ cell 1 k ⊗ control 1 ⊕ cell 2 k ⊗ control 2 ⊕ cell 3 k ⊗ control 3 ⊕ cell 4 k ⊗ control 4 ⊕ cell 5 k ⊗
+    control 5) ⊗ scale k
 
 -- row r at width * parameter, times control r
 abbrev row : ℕ → Expression
 row r = hornerTerm (width ⊗ parameter) (cell r 0) (cell r 1) (cell r 2) (cell r 3) (cell r 4) (cell r 5) ⊗ control r
 
 segment-rows : (b : List ℚ) (h : ℚ) (c : List ℚ) (at d : ℕ) (y : ℚ)
-    → horner rationalRing 5 (λ k. getD (segmentOf fractions b h c at d) k 𝟘) y ≡ sum rationalRing 5 (λ r. horner rationalRing 5 (λ k. getD b (6 * r + k) 𝟘) (h *q y) *q getD c (at + r * d) 𝟘)
+    → horner rationalRing 5 (λ k. getD (segmentOf fractions b h c at d) k 𝟘) y ≡ sum rationalRing 5 (λ r. horner rationalRing 5
+    (λ k. getD b (6 * r + k) 𝟘) (h *q y) *q getD c (at + r * d) 𝟘)
 unfolding segmentOf scaleTurn addRow addTurn each turns
 segment-rows b h c at d y =
     solve rationalRing (listed 36 0 (λ i. getD b i 𝟘) (listed 6 0 (λ r. getD c (at + r * d) 𝟘) (h ∷ y ∷ [])))
-    (hornerTerm parameter (coefficient 0) (coefficient 1) (coefficient 2) (coefficient 3) (coefficient 4) (coefficient 5)) (row 0 ⊕ (row 1 ⊕ (row 2 ⊕ (row 3 ⊕ (row 4 ⊕ row 5))))) tt
+    (hornerTerm parameter (coefficient 0) (coefficient 1) (coefficient 2) (coefficient 3) (coefficient 4) (coefficient 5))
+    (row 0 ⊕ (row 1 ⊕ (row 2 ⊕ (row 3 ⊕ (row 4 ⊕ row 5))))) tt
 
 -- about x, for a span that starts there: the six functions at x + h y
 segment-is : (t : List ℚ) (span : ℕ) → 5 ≤ span → (x h : ℚ) (c : List ℚ) (at d : ℕ) (y : ℚ)
@@ -66,18 +69,21 @@ segment-is : (t : List ℚ) (span : ℕ) → 5 ≤ span → (x h : ℚ) (c : Lis
     ≡ sum rationalRing 5 (λ r. basis (knot t) (onSpan span) (x +q h *q y) 5 (span - 5 + r) *q getD c (at + r * d) 𝟘)
 segment-is t span five x h c at d y =
     segment-rows (powersOf fractions t span x) h c at d y
-    ∙ sum-equal rationalRing 5 (λ r. horner rationalRing 5 (λ k. getD (powersOf fractions t span x) (6 * r + k) 𝟘) (h *q y) *q getD c (at + r * d) 𝟘)
+    ∙ sum-equal rationalRing 5 (λ r. horner rationalRing 5 (λ k. getD (powersOf fractions t span x) (6 * r + k) 𝟘) (h *q y) *q getD c
+    (at + r * d) 𝟘)
     (λ r. basis (knot t) (onSpan span) (x +q h *q y) 5 (span - 5 + r) *q getD c (at + r * d) 𝟘)
     (λ r l. ap (λ (z : ℚ). z *q getD c (at + r * d) 𝟘) (row-is t span x five r (omega arith) (h *q y)))
 
 -- from the span's start, with its width, and the controls of an axis: the curve of the span
 pub segment-curve : (t : List ℚ) (m span : ℕ) → 5 ≤ span → span < m → (c : List ℚ) (d axis : ℕ) (y : ℚ)
-    → polynomial rationalRing 5 (λ k. getD (segmentOf fractions (powersOf fractions t span (knot t span)) (knot t (span + 1) -q knot t span) c ((span - 5) * d + axis) d) k 𝟘) y
+    → polynomial rationalRing 5 (λ k. getD (segmentOf fractions (powersOf fractions t span (knot t span)) (knot t (span + 1) -q knot t span)
+    c ((span - 5) * d + axis) d) k 𝟘) y
     ≡ curve (knot t) (onSpan span) m (axisOf c d axis) (knot t span +q (knot t (span + 1) -q knot t span) *q y)
 segment-curve t m span five h c d axis y =
     let w = knot t (span + 1) -q knot t span in
     let x = knot t span +q w *q y in
-    sym (horner-is-sum rationalRing 5 (λ k. getD (segmentOf fractions (powersOf fractions t span (knot t span)) w c ((span - 5) * d + axis) d) k 𝟘) y)
+    sym (horner-is-sum rationalRing 5 (λ k. getD (segmentOf fractions (powersOf fractions t span (knot t span)) w c ((span - 5) * d + axis)
+    d) k 𝟘) y)
     ∙ segment-is t span five (knot t span) w c ((span - 5) * d + axis) d y
     ∙ sum-equal rationalRing 5 (λ r. basis (knot t) (onSpan span) x 5 (span - 5 + r) *q getD c ((span - 5) * d + axis + r * d) 𝟘)
     (λ r. basis (knot t) (onSpan span) x 5 (span - 5 + r) *q axisOf c d axis (span - 5 + r))

@@ -32,13 +32,16 @@ module _ (t : List ℚ) (m : ℕ) (long : length t ≡ m + 6) (sorted : Nondecre
 
   -- between the ends of the domain it holds x
   pub found-holds : knot t 5 ≤q x → x <q knot t m
-      → (5 ≤ spanOf fractions t m x) × (spanOf fractions t m x < m) × (knot t (spanOf fractions t m x) ≤q x) × (x <q knot t (spanOf fractions t m x + 1))
+      → (5 ≤ spanOf fractions t m x) × (spanOf fractions t m x < m) × (knot t (spanOf fractions t m x) ≤q x)
+      × (x <q knot t (spanOf fractions t m x + 1))
   found-holds low high =
       let six : 6 ≤ m = elim (decLt 5 m) [
         | yes l ↦ l
-        | no l ↦ absurd (not-both (knot t m) x (≤q-trans (knot t m) (knot t 5) x (rises (knot t) (m + 6) sorted m 5 (omega arith) (omega arith)) low) high)
+        | no l ↦ absurd (not-both (knot t m) x (≤q-trans (knot t m) (knot t 5) x (rises (knot t) (m + 6) sorted m 5 (omega arith)
+            (omega arith)) low) high)
       ] in
-      let f = span-holds fractions t m x six (omega arith) transitive rising (is-true (atMostq (knot t 5) x) low) (is-false (atMostq (knot t m) x) high) in
+      let f = span-holds fractions t m x six (omega arith) transitive rising (is-true (atMostq (knot t 5) x) low)
+      (is-false (atMostq (knot t m) x) high) in
       (f .0, f .1, rw (f .2) tt, rw (f .3) tt)
 
   -- from the right end on it is the last
@@ -52,23 +55,28 @@ module _ (t : List ℚ) (m : ℕ) (long : length t ≡ m + 6) (sorted : Nondecre
       let f = found-holds (≤q-trans (knot t 5) (knot t k) x (rises (knot t) (m + 6) sorted 5 k five (omega arith)) low)
       (<q-≤q-trans x (knot t (k + 1)) (knot t m) high (rises (knot t) (m + 6) sorted (k + 1) m (omega arith) (omega arith))) in
       let a : k ≤ s = elim (decLt s k) [
-        | yes l ↦ absurd (not-both (knot t k) x low (<q-≤q-trans x (knot t (s + 1)) (knot t k) (f .3) (rises (knot t) (m + 6) sorted (s + 1) k (omega arith) (omega arith))))
+        | yes l ↦ absurd (not-both (knot t k) x low (<q-≤q-trans x (knot t (s + 1)) (knot t k) (f .3)
+            (rises (knot t) (m + 6) sorted (s + 1) k (omega arith) (omega arith))))
         | no l ↦ omega arith
       ] in
       let b : s ≤ k = elim (decLt k s) [
-        | yes l ↦ absurd (not-both (knot t (k + 1)) x (≤q-trans (knot t (k + 1)) (knot t s) x (rises (knot t) (m + 6) sorted (k + 1) s (omega arith) (omega (arith, f .1))) (f .2)) high)
+        | yes l ↦ absurd (not-both (knot t (k + 1)) x (≤q-trans (knot t (k + 1)) (knot t s) x
+            (rises (knot t) (m + 6) sorted (k + 1) s (omega arith) (omega (arith, f .1))) (f .2)) high)
         | no l ↦ omega arith
       ] in
       omega arith
 
   -- the six values there, the right end of the domain included
   pub values-found : 6 ≤ m → knot t 5 ≤q x → x ≤q knot t m → (r : ℕ) → r < 6
-      → getD (valuesOf fractions t (spanOf fractions t m x) x) r 𝟘 ≡ basis (knot t) (closedAtEnd m (knot t) x) x 5 (spanOf fractions t m x - 5 + r)
+      → getD (valuesOf fractions t (spanOf fractions t m x) x) r 𝟘 ≡ basis (knot t) (closedAtEnd m (knot t) x) x 5
+      (spanOf fractions t m x - 5 + r)
   values-found six low high r h = go (atMostq (knot t m) x) refl
     where
-      go : (b : Bool) → atMostq (knot t m) x ≡ b → getD (valuesOf fractions t (spanOf fractions t m x) x) r 𝟘 ≡ basis (knot t) (closedAtEnd m (knot t) x) x 5 (spanOf fractions t m x - 5 + r)
+      go : (b : Bool) → atMostq (knot t m) x ≡ b → getD (valuesOf fractions t (spanOf fractions t m x) x) r 𝟘
+          ≡ basis (knot t) (closedAtEnd m (knot t) x) x 5 (spanOf fractions t m x - 5 + r)
       go true e =
-          rw (found-last six (rw e tt)) (entries-are t (m - 1) x (omega arith) r h ∙ sym (closed-last m (knot t) x e high 5 (m - 1 - 5 + r)))
+          rw (found-last six (rw e tt)) (entries-are t (m - 1) x (omega arith) r h ∙ sym (closed-last m (knot t) x e high 5
+          (m - 1 - 5 + r)))
       go false e =
           let f = found-holds low (rw e tt) in
           let s = spanOf fractions t m x in
@@ -78,22 +86,28 @@ module _ (t : List ℚ) (m : ℕ) (long : length t ≡ m + 6) (sorted : Nondecre
 
   -- and the curve by them
   pub curve-found : 6 ≤ m → knot t 5 ≤q x → x ≤q knot t m → (c : ℕ → ℚ)
-      → sum rationalRing 5 (λ r. getD (valuesOf fractions t (spanOf fractions t m x) x) r 𝟘 *q c (spanOf fractions t m x - 5 + r)) ≡ curve (knot t) (closedAtEnd m (knot t) x) m c x
+      → sum rationalRing 5 (λ r. getD (valuesOf fractions t (spanOf fractions t m x) x) r 𝟘 *q c (spanOf fractions t m x - 5 + r))
+      ≡ curve (knot t) (closedAtEnd m (knot t) x) m c x
   curve-found six low high c = go (atMostq (knot t m) x) refl
     where
-      six-terms : (s : ℕ) → 5 ≤ s → s < m → sum rationalRing 5 (λ r. getD (valuesOf fractions t s x) r 𝟘 *q c (s - 5 + r)) ≡ curve (knot t) (onSpan s) m c x
+      six-terms : (s : ℕ) → 5 ≤ s → s < m → sum rationalRing 5 (λ r. getD (valuesOf fractions t s x) r 𝟘 *q c (s - 5 + r))
+          ≡ curve (knot t) (onSpan s) m c x
       six-terms s five below =
-          sum-equal rationalRing 5 (λ r. getD (valuesOf fractions t s x) r 𝟘 *q c (s - 5 + r)) (λ r. basis (knot t) (onSpan s) x 5 (s - 5 + r) *q c (s - 5 + r))
+          sum-equal rationalRing 5 (λ r. getD (valuesOf fractions t s x) r 𝟘 *q c (s - 5 + r))
+          (λ r. basis (knot t) (onSpan s) x 5 (s - 5 + r) *q c (s - 5 + r))
           (λ r l. ap (λ (z : ℚ). z *q c (s - 5 + r)) (entries-are t s x five r (omega arith)))
           ∙ sym (curve-six (knot t) m s five below x c)
 
       go : (b : Bool) → atMostq (knot t m) x ≡ b
-          → sum rationalRing 5 (λ r. getD (valuesOf fractions t (spanOf fractions t m x) x) r 𝟘 *q c (spanOf fractions t m x - 5 + r)) ≡ curve (knot t) (closedAtEnd m (knot t) x) m c x
+          → sum rationalRing 5 (λ r. getD (valuesOf fractions t (spanOf fractions t m x) x) r 𝟘 *q c (spanOf fractions t m x - 5 + r))
+          ≡ curve (knot t) (closedAtEnd m (knot t) x) m c x
       go true e =
           rw (found-last six (rw e tt))
-          (six-terms (m - 1) (omega arith) (omega arith) ∙ sym (curve-reading (knot t) (closedAtEnd m (knot t) x) (onSpan (m - 1)) m c x (omega arith) (λ i l. closed-last m (knot t) x e high 5 i)))
+          (six-terms (m - 1) (omega arith) (omega arith) ∙ sym (curve-reading (knot t) (closedAtEnd m (knot t) x) (onSpan (m - 1)) m c x
+          (omega arith) (λ i l. closed-last m (knot t) x e high 5 i)))
       go false e =
           let f = found-holds low (rw e tt) in
           let s = spanOf fractions t m x in
           six-terms s (f .0) (f .1) ∙ sym (half-open-curve (knot t) m sorted s (f .1) x (f .2) (f .3) c)
-          ∙ sym (curve-reading (knot t) (closedAtEnd m (knot t) x) (halfOpen (knot t) x) m c x (omega arith) (λ i l. closed-before m (knot t) x e 5 i))
+          ∙ sym (curve-reading (knot t) (closedAtEnd m (knot t) x) (halfOpen (knot t) x) m c x (omega arith)
+          (λ i l. closed-before m (knot t) x e 5 i))

@@ -51,7 +51,8 @@ module _ (t : List ℚ) (span : ℕ) (x : ℚ) (five : 5 ≤ span) where
     todo : (i m : ℕ) → r ≤ i → i ≤ p → m + p ≡ span + i → getD (k .row) i 𝟘 ≡ N p m
     saved : (m : ℕ) → m + suc p ≡ span + r → k .saved ≡ rising T first x p m
 
-  module _ (p : ℕ) (p5 : p < 5) (l r : List ℚ) (onl : (i m : ℕ) → 1 ≤ i → i ≤ suc p → m + i ≡ span + 1 → getD l i 𝟘 ≡ x -q T m) (onr : (i : ℕ) → 1 ≤ i → i ≤ suc p → getD r i 𝟘 ≡ T (span + i) -q x) where
+  module _ (p : ℕ) (p5 : p < 5) (l r : List ℚ) (onl : (i m : ℕ) → 1 ≤ i → i ≤ suc p → m + i ≡ span + 1 → getD l i 𝟘 ≡ x -q T m)
+      (onr : (i : ℕ) → 1 ≤ i → i ≤ suc p → getD r i 𝟘 ≡ T (span + i) -q x) where
     -- a turn makes entry i, and what the next entry gets from it
     turn-keeps : (i : ℕ) (k : Inner ℚ) → i < suc p → Turn p i k → Turn p (i + 1) (innerTurn fractions l r (suc p) i k)
     unfolding innerTurn
@@ -66,7 +67,8 @@ module _ (t : List ℚ) (span : ℕ) (x : ℚ) (five : 5 ≤ span) where
         let within : i < length (k .row) = rw (q .row-length) (omega arith) in
         let v : ℚ = k .saved +q getD r (i + 1) 𝟘 *q (getD (k .row) i 𝟘 /q (getD r (i + 1) 𝟘 +q getD l (suc p - i) 𝟘)) in
         let new : v ≡ N (suc p) m′ =
-        rw (er, el, eb, es) (ap (λ (z : ℚ). rising T first x p m′ +q z) (share x (T m) (T (m + suc p)) (N p m) (T (m + suc p) -q x) ∙ ap (falling T first x p) (sym up)) ∙ sym (basis-step T first x p m′)) in
+        rw (er, el, eb, es) (ap (λ (z : ℚ). rising T first x p m′ +q z) (share x (T m) (T (m + suc p)) (N p m) (T (m + suc p) -q x) ∙ ap
+        (falling T first x p) (sym up)) ∙ sym (basis-step T first x p m′)) in
         record {
           row-length = length-set (k .row) i _ ∙ q .row-length;
           done = λ j n g e. below-more (λ (j : ℕ). (n : ℕ) → n + suc p ≡ span + j → getD (set (k .row) i v) j 𝟘 ≡ N (suc p) n) i
@@ -85,17 +87,21 @@ module _ (t : List ℚ) (span : ℕ) (x : ℚ) (five : 5 ≤ span) where
         let over : N p (span + 1) ≡ 𝟘 = before-support T span x p (span + 1) (omega arith) in
         let k = each (innerTurn fractions l r (suc p)) 0 (suc p) (record { row = b; saved = 𝟘 }) in
         let q : Turn p (suc p) k =
-        each-runs (Turn p) (innerTurn fractions l r (suc p)) 0 (suc p) (record { row = b; saved = 𝟘 }) (omega arith) (λ j s a z y. turn-keeps j s z y)
+        each-runs (Turn p) (innerTurn fractions l r (suc p)) 0 (suc p) (record { row = b; saved = 𝟘 }) (omega arith)
+        (λ j s a z y. turn-keeps j s z y)
         (record {
           row-length = row-length;
           done = λ j n a y. absurd (omega arith);
           todo = λ j n a z y. entry j n z y;
-          saved = λ n y. sym (rw (none n (omega arith)) (solve rationalRing (((x -q T n) /q (T (n + suc p) -q T n)) ∷ []) (v0 ⊗ con (pos 0)) (con (pos 0)) tt));
+          saved = λ n y. sym (rw (none n (omega arith)) (solve rationalRing (((x -q T n) /q (T (n + suc p) -q T n)) ∷ []) (v0 ⊗ con (pos 0))
+              (con (pos 0)) tt));
         }) in
         let within : suc p < length (k .row) = rw (q .row-length) (omega arith) in
         let last : (n : ℕ) → n + suc p ≡ span + suc p → k .saved ≡ N (suc p) n =
         λ n y. let z : n + 1 ≡ span + 1 = omega arith in
-        q .saved n y ∙ sym (basis-step T first x p n ∙ rw (z, over) (solve rationalRing (rising T first x p n ∷ ((T (span + 1 + suc p) -q x) /q (T (span + 1 + suc p) -q T (span + 1))) ∷ []) (v0 ⊕ v1 ⊗ con (pos 0)) v0 tt)) in
+        q .saved n y ∙ sym (basis-step T first x p n ∙ rw (z, over)
+        (solve rationalRing (rising T first x p n ∷ ((T (span + 1 + suc p) -q x) /q (T (span + 1 + suc p) -q T (span + 1))) ∷ [])
+        (v0 ⊕ v1 ⊗ con (pos 0)) v0 tt)) in
         below-more (λ (j : ℕ). (n : ℕ) → n + suc p ≡ span + j → getD (set (k .row) (suc p) (k .saved)) j 𝟘 ≡ N (suc p) n) (suc p)
         (λ j g n y. getD-set-other (k .row) (suc p) j (k .saved) 𝟘 (ne-of-lt g) ∙ q .done j n g y)
         (λ n y. getD-set-same (k .row) (suc p) (k .saved) 𝟘 within ∙ last n y) i (omega arith) m e
@@ -148,4 +154,5 @@ module _ (t : List ℚ) (span : ℕ) (x : ℚ) (five : 5 ≤ span) where
   pub entries-are : (r : ℕ) → r < 6 → getD (valuesOf fractions t span x) r 𝟘 ≡ basis (knot t) (onSpan span) x 5 (span - 5 + r)
   unfolding valuesOf each turns
   entries-are r h =
-      step-is 4 _ (omega arith) (step-is 3 _ (omega arith) (step-is 2 _ (omega arith) (step-is 1 _ (omega arith) (step-is 0 _ (omega arith) start)))) .entry r (span - 5 + r) (omega arith) (omega arith)
+      step-is 4 _ (omega arith) (step-is 3 _ (omega arith) (step-is 2 _ (omega arith)
+      (step-is 1 _ (omega arith) (step-is 0 _ (omega arith) start)))) .entry r (span - 5 + r) (omega arith) (omega arith)

@@ -20,14 +20,16 @@ square-power : (b : ℚ) (k : ℕ) → power rationalRing (b *q b) k ≡ power r
 square-power b zero = refl
 square-power b (suc k) =
     let e : suc k + suc k ≡ suc (suc (k + k)) = omega arith in
-    rw e (ap (λ (z : ℚ). b *q b *q z) (square-power b k) ∙ solve rationalRing (b ∷ power rationalRing b (k + k) ∷ []) (v0 ⊗ v0 ⊗ v1) (v0 ⊗ (v0 ⊗ v1)) tt)
+    rw e (ap (λ (z : ℚ). b *q b *q z) (square-power b k) ∙ solve rationalRing (b ∷ power rationalRing b (k + k) ∷ []) (v0 ⊗ v0 ⊗ v1)
+    (v0 ⊗ (v0 ⊗ v1)) tt)
 
 -- for an n of at most d binary digits
 power-in : (d : ℕ) (r b : ℚ) (n : ℕ) → n < 2 ^ d → powerIn fractions d r b n ≡ r *q power rationalRing b n
 unfolding powerIn
 power-in zero r b n h = let e : n ≡ 0 = omega arith in rw e (solve rationalRing (r ∷ []) v0 (v0 ⊗ n1) tt)
 power-in (suc d) r b n h =
-    power-in d (cond (eqb (n % 2) 1) (r *q b) r) (b *q b) (n / 2) (omega (arith, half)) ∙ ap (λ (z : ℚ). cond (eqb (n % 2) 1) (r *q b) r *q z) (square-power b (n / 2)) ∙ go (eqb (n % 2) 1) refl
+    power-in d (cond (eqb (n % 2) 1) (r *q b) r) (b *q b) (n / 2) (omega (arith, half)) ∙ ap (λ (z : ℚ). cond (eqb (n % 2) 1) (r *q b) r *q
+    z) (square-power b (n / 2)) ∙ go (eqb (n % 2) 1) refl
   where
     half : n / 2 * 2 + n % 2 ≡ n
     half = div-add-mod' n 2
@@ -38,7 +40,8 @@ power-in (suc d) r b n h =
     go : (odd : Bool) → eqb (n % 2) 1 ≡ odd → cond odd (r *q b) r *q power rationalRing b (n / 2 + n / 2) ≡ r *q power rationalRing b n
     go true e =
         let m : n ≡ suc (n / 2 + n / 2) = omega (arith, half, eqb-true (n % 2) 1 e) in
-        solve rationalRing (r ∷ b ∷ power rationalRing b (n / 2 + n / 2) ∷ []) (v0 ⊗ v1 ⊗ v2) (v0 ⊗ (v1 ⊗ v2)) tt ∙ ap (λ (k : ℕ). r *q power rationalRing b k) (sym m)
+        solve rationalRing (r ∷ b ∷ power rationalRing b (n / 2 + n / 2) ∷ []) (v0 ⊗ v1 ⊗ v2) (v0 ⊗ (v1 ⊗ v2)) tt
+        ∙ ap (λ (k : ℕ). r *q power rationalRing b k) (sym m)
     go false e =
         let z : n % 2 ≡ 0 = omega (arith, less, eqb-false (n % 2) 1 e) in
         let m : n ≡ n / 2 + n / 2 = omega (arith, half, z) in

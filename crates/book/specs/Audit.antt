@@ -1,4 +1,5 @@
--- The source's `audit` on one piece of a segment and one axis, over exact fractions: the same definitions that the code of crate `polynomial` equals at f64.
+-- The source's `audit` on one piece of a segment and one axis, over exact fractions: the same definitions that the code of crate
+-- `polynomial` equals at f64.
 use mathlib.Core.List.{List}
 use Rattle.float.specs.Power.{powerOf}
 use Rattle.fraction.specs.Rational.{ℚ, _+q_, _-q_, _*q_, _/q_}
@@ -9,7 +10,9 @@ use Rattle.book.specs.Fractions.{fractions}
 abbrev pub lineAt : ℚ → ℚ → ℚ → ℚ → ℚ → ℚ
 lineAt s₀ s₁ y₀ y₁ x = y₀ +q (x -q s₀) /q (s₁ -q s₀) *q (y₁ -q y₀)
 
--- The six powers of curve minus line on the piece from left to right of the segment from a to b, with the coefficients p, as the source's `audit` makes them.
+-- The six powers of curve minus line on the piece from left to right of the segment from a to b, with the coefficients p, as the source's
+-- `audit` makes them.
 abbrev pub pieceErrors : List ℚ → ℚ → ℚ → ℚ → ℚ → ℚ → ℚ → ℚ → ℚ → List ℚ
 pieceErrors p a b s₀ s₁ y₀ y₁ left right =
-    errorOf fractions (powerOf fractions) p ((left -q a) /q (b -q a)) ((right -q left) /q (b -q a)) (lineAt s₀ s₁ y₀ y₁ left) ((right -q left) /q (s₁ -q s₀) *q (y₁ -q y₀))
+    errorOf fractions (powerOf fractions) p ((left -q a) /q (b -q a)) ((right -q left) /q (b -q a)) (lineAt s₀ s₁ y₀ y₁ left)
+    ((right -q left) /q (s₁ -q s₀) *q (y₁ -q y₀))

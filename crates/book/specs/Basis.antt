@@ -30,6 +30,7 @@ halfOpen t u i = cond (atMostq (t i) u && not (atMostq (t (i + 1)) u)) 𝟙 𝟘
 unfoldable pub onSpan : ℕ → ℕ → ℚ
 onSpan span i = cond (eqb i span) 𝟙 𝟘
 
--- The book's, with the right end of the domain, u = u_m, taken into the last of the spans below m (the special case of algorithm A2.1, FindSpan).
+-- The book's, with the right end of the domain, u = u_m, taken into the last of the spans below m (the special case of algorithm A2.1,
+-- FindSpan).
 unfoldable pub closedAtEnd : ℕ → (ℕ → ℚ) → ℚ → ℕ → ℚ
 closedAtEnd m t u i = cond (atMostq (t m) u && atMostq u (t m)) (onSpan (m - 1) i) (halfOpen t u i)

@@ -21,7 +21,9 @@ axisOf c d axis i = getD c (i * d + axis) 𝟘
 abbrev pub breakOf : Polynomial ℚ → ℕ → ℚ
 breakOf p ℓ = getD (p .breaks) ℓ 𝟘
 
--- Segment ℓ of an axis at x, from the break a to the break b: "the sum over k from 0 to 5 of that segment's p_k·((t - a)/(b - a))^k" (document 01).
+-- Segment ℓ of an axis at x, from the break a to the break b: "the sum over k from 0 to 5 of that segment's p_k·((t - a)/(b - a))^k"
+-- (document 01).
 abbrev pub segmentValue : Polynomial ℚ → ℕ → ℕ → ℕ → ℚ → ℚ
 segmentValue p d axis ℓ x =
-    polynomial rationalRing 5 (λ k. getD (p .coefficients) ((ℓ * d + axis) * 6 + k) 𝟘) ((x -q breakOf p ℓ) /q (breakOf p (ℓ + 1) -q breakOf p ℓ))
+    polynomial rationalRing 5 (λ k. getD (p .coefficients) ((ℓ * d + axis) * 6 + k) 𝟘)
+    ((x -q breakOf p ℓ) /q (breakOf p (ℓ + 1) -q breakOf p ℓ))

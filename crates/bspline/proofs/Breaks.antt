@@ -37,7 +37,8 @@ module _ {A : Type 0} (o : Arith A) (t : List A) where
   unfolding polynomialOf each
   breaks-are c d m =
       ap (λ (l : List A). l ++ (o .one ∷ []))
-      (turns-read (λ (p : Polynomial A). p .breaks) (spanTurn o t c d) breakTurn (λ i p. turn-breaks c d i p) (m - 5) 5 (record { breaks = []; coefficients = [] }))
+      (turns-read (λ (p : Polynomial A). p .breaks) (spanTurn o t c d) breakTurn (λ i p. turn-breaks c d i p) (m - 5) 5
+      (record { breaks = []; coefficients = [] }))
 
   pub breaks-same : (c c′ : List A) (d d′ m : ℕ) → polynomialOf o t c d m .breaks ≡ polynomialOf o t c′ d′ m .breaks
   breaks-same c c′ d d′ m = breaks-are c d m ∙ sym (breaks-are c′ d′ m)

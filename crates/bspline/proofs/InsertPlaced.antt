@@ -24,10 +24,12 @@ span-within t m x h = (omega arith, omega arith)
 pub weights-room : (t m k : ℕ) (w : List Float) → 5 ≤ k → k < m → t + m + 6 ≤ length w → (5 ≤ k) × (k + 5 < length (window t (t + m + 6) w))
 weights-room t m k w h g l = let e = length-window t (t + m + 6) w (omega arith) l in (h, omega arith)
 
-pub controls-room : (c m d k : ℕ) (w : List Float) → 5 ≤ k → k < m → c + (m + 1) * d ≤ length w → (5 ≤ k) × (k < m) × ((m + 1) * d ≤ length (window c (c + (m + 1) * d) w))
+pub controls-room : (c m d k : ℕ) (w : List Float) → 5 ≤ k → k < m → c + (m + 1) * d ≤ length w → (5 ≤ k) × (k < m)
+    × ((m + 1) * d ≤ length (window c (c + (m + 1) * d) w))
 controls-room c m d k w h g l = let e = length-window c (c + (m + 1) * d) w (omega arith) l in (h, g, omega arith)
 
-pub knots-room : (t m k : ℕ) (w : List Float) → k < m → t + m + 6 + 1 ≤ length w → (k < m + 6) × (m + 6 < length (window t (t + m + 6 + 1) w))
+pub knots-room : (t m k : ℕ) (w : List Float) → k < m → t + m + 6 + 1 ≤ length w → (k < m + 6)
+    × (m + 6 < length (window t (t + m + 6 + 1) w))
 knots-room t m k w g l = let e = length-window t (t + m + 6 + 1) w (omega arith) l in (omega arith, omega arith)
 
 -- the front of a part
@@ -41,7 +43,8 @@ none-after a e n l h g =
     let q : length (window a e l) ≤ n = omega arith in
     drop-of-length-le (window a e l) q
 
-module _ (s : Spline) (x : Float) (w : List Float) (six : 5 < s .count) (apart : s .knots + s .count + 7 ≤ s .controls) (room : s .controls + (s .count + 1) * s .axes ≤ length w) where
+module _ (s : Spline) (x : Float) (w : List Float) (six : 5 < s .count) (apart : s .knots + s .count + 7 ≤ s .controls)
+    (room : s .controls + (s .count + 1) * s .axes ≤ length w) where
   abbrev t : ℕ
   t = s .knots
 
@@ -61,17 +64,24 @@ module _ (s : Spline) (x : Float) (w : List Float) (six : 5 < s .count) (apart :
   k = spanOf floats T m x
 
   -- the controls that are written are those of the definition
-  controls-are : mixedControls floats (weightAt floats (weightsOf floats T x k) k) d m k (take (m * d) (window c (c + (m + 1) * d) w)) ++ drop ((m + 1) * d) (window c (c + (m + 1) * d) w)
+  controls-are : mixedControls floats (weightAt floats (weightsOf floats T x k) k) d m k (take (m * d) (window c (c + (m + 1) * d) w)) ++
+      drop ((m + 1) * d) (window c (c + (m + 1) * d) w)
       ≡ controlsWith floats T x d m k (controlsAt s w)
   controls-are =
       let r = suc-mul m d in
       let b = span-within T m x six in
-      rw (none-after c (c + (m + 1) * d) ((m + 1) * d) w refl room, append-nil, front c (c + (m + 1) * d) (c + m * d) (m * d) w refl (omega arith))
+      rw (
+        none-after c (c + (m + 1) * d) ((m + 1) * d) w refl room,
+        append-nil,
+        front c (c + (m + 1) * d) (c + m * d) (m * d) w refl
+            (omega arith),
+      )
       (weights-same floats (weightAt floats (weightsOf floats T x k) k) (alphaOf floats T x) d m k (controlsAt s w)
       (λ i h g. weight-at floats T x k i (omega arith) (omega arith) g))
 
   -- and so are the knots, which the controls' part does not touch
-  knots-are : (v : List Float) → let u = window t (t + m + 6 + 1) (splice c (c + (m + 1) * d) v w) in knotsWith x k (take (m + 6) u) ++ drop (m + 6 + 1) u ≡ knotsWith x k T
+  knots-are : (v : List Float) → let u = window t (t + m + 6 + 1) (splice c (c + (m + 1) * d) v w) in knotsWith x k (take (m + 6) u) ++ drop
+      (m + 6 + 1) u ≡ knotsWith x k T
   knots-are v =
       rw (
         window-before c (c + (m + 1) * d) v w t (t + m + 6 + 1) (omega arith) (omega arith) (omega arith),
@@ -80,11 +90,13 @@ module _ (s : Spline) (x : Float) (w : List Float) (six : 5 < s .count) (apart :
         front t (t + m + 6 + 1) (t + m + 6) (m + 6) w (omega arith) (omega arith),
       )
 
-  pub inserted-is : let v = mixedControls floats (weightAt floats (weightsOf floats T x k) k) d m k (take (m * d) (window c (c + (m + 1) * d) w)) ++ drop ((m + 1) * d) (window c (c + (m + 1) * d) w) in
+  pub inserted-is : let v = mixedControls floats (weightAt floats (weightsOf floats T x k) k) d m k
+      (take (m * d) (window c (c + (m + 1) * d) w)) ++ drop ((m + 1) * d) (window c (c + (m + 1) * d) w) in
       let y = splice c (c + (m + 1) * d) v w in
       let u = window t (t + m + 6 + 1) y in
       splice t (t + m + 6 + 1) (knotsWith x k (take (m + 6) u) ++ drop (m + 6 + 1) u) y ≡ insertedAt s x w
   inserted-is =
-      let v = mixedControls floats (weightAt floats (weightsOf floats T x k) k) d m k (take (m * d) (window c (c + (m + 1) * d) w)) ++ drop ((m + 1) * d) (window c (c + (m + 1) * d) w) in
+      let v = mixedControls floats (weightAt floats (weightsOf floats T x k) k) d m k (take (m * d) (window c (c + (m + 1) * d) w)) ++ drop
+      ((m + 1) * d) (window c (c + (m + 1) * d) w) in
       ap (λ (l : List Float). splice t (t + m + 6 + 1) l (splice c (c + (m + 1) * d) v w)) (knots-are v)
       ∙ ap (λ (l : List Float). splice t (t + m + 6 + 1) (knotsWith x k T) (splice c (c + (m + 1) * d) l w)) controls-are

@@ -66,11 +66,13 @@ module _ {A : Type 0} (o : Arith A) where
     new-after h = rw (lt-leb (i + 5) k (omega arith), lt-leb i k h)
 
   -- axis j of new control i stands in its place
-  pub control-is : (alpha : ℕ → A) (d m k : ℕ) (c : List A) (i j : ℕ) → i ≤ m → j < d → getD (mixedControls o alpha d m k c) (i * d + j) (o .outside) ≡ newControl o alpha d k c i j
+  pub control-is : (alpha : ℕ → A) (d m k : ℕ) (c : List A) (i j : ℕ) → i ≤ m → j < d → getD (mixedControls o alpha d m k c) (i * d +
+      j) (o .outside) ≡ newControl o alpha d k c i j
   control-is alpha d m k c i j h g = table-at (m + 1) d (newControl o alpha d k c) (o .outside) i j (omega arith) g
 
   -- only the weights of the mixed controls matter
-  pub weights-same : (alpha beta : ℕ → A) (d m k : ℕ) (c : List A) → ((i : ℕ) → k < i + 5 → i ≤ k → alpha i ≡ beta i) → mixedControls o alpha d m k c ≡ mixedControls o beta d m k c
+  pub weights-same : (alpha beta : ℕ → A) (d m k : ℕ) (c : List A) → ((i : ℕ) → k < i + 5 → i ≤ k → alpha i ≡ beta i)
+      → mixedControls o alpha d m k c ≡ mixedControls o beta d m k c
   weights-same alpha beta d m k c h =
       table-ap (m + 1) d (newControl o alpha d k c) (newControl o beta d k c)
       (λ i j l g. elim (decLt k (i + 5)) [
@@ -81,7 +83,8 @@ module _ {A : Type 0} (o : Arith A) where
         ]
       ])
 
-  -- How the code gets there, in place: from `old`, with room for a control more, rows after k move up by one, then rows k down to k - 4 are mixed.
+  -- How the code gets there, in place: from `old`, with room for a control more, rows after k move up by one, then rows k down to k - 4 are
+  -- mixed.
   module _ (alpha : ℕ → A) (d m k : ℕ) (old : List A) where
     abbrev z : A
     z = o .outside
@@ -109,14 +112,16 @@ module _ {A : Type 0} (o : Arith A) where
       target-row i j h g =
           let e = row-end i (m + 1) d ((m + 1) * d) (omega arith) (omega arith) in
           let n = made in
-          List·getD-append (mixedControls o alpha d m k used) (drop ((m + 1) * d) old) z (i * d + j) (omega arith) ∙ control-is alpha d m k used i j h g
+          List·getD-append (mixedControls o alpha d m k used) (drop ((m + 1) * d) old) z (i * d + j) (omega arith)
+          ∙ control-is alpha d m k used i j h g
 
       target-past : (p : ℕ) → (m + 1) * d ≤ p → getD target p z ≡ getD old p z
       target-past p h =
           let n = made in
           let e : p ≡ length (mixedControls o alpha d m k used) + (p - (m + 1) * d) = omega arith in
           let q : (m + 1) * d + (p - (m + 1) * d) ≡ p = omega arith in
-          ap (λ (i : ℕ). getD target i z) e ∙ getD-append-add (mixedControls o alpha d m k used) (drop ((m + 1) * d) old) (p - (m + 1) * d) z
+          ap (λ (i : ℕ). getD target i z) e ∙ getD-append-add (mixedControls o alpha d m k used) (drop ((m + 1) * d) old) (p - (m + 1) * d)
+          z
           ∙ getD-drop ((m + 1) * d) old (p - (m + 1) * d) z ∙ ap (λ (i : ℕ). getD old i z) q
 
       used-row : (i j : ℕ) → i < m → j < d → control o d used i j ≡ getD old (i * d + j) z
@@ -135,7 +140,8 @@ module _ {A : Type 0} (o : Arith A) where
             long = length-splice (k * d + d) (m * d + d) v old (omega arith) (omega arith) (omega arith);
             below = λ p h. splice-before (k * d + d) (m * d + d) v old z (omega arith) p (omega arith);
             above = λ p h. elim (decLt p ((m + 1) * d)) [
-              | no a ↦ splice-after (k * d + d) (m * d + d) v old z (omega arith) p (omega arith) (omega arith) (omega arith) ∙ sym (target-past p (omega arith))
+              | no a ↦ splice-after (k * d + d) (m * d + d) v old z (omega arith) p (omega arith) (omega arith) (omega arith)
+                  ∙ sym (target-past p (omega arith))
               | yes a ↦ by-row (λ p. (k + 1) * d ≤ p → getD (splice (k * d + d) (m * d + d) v old) p z ≡ getD target p z) (m + 1) d
                   (λ i j b g f. elim (decLt k i) [
                     | no y ↦ let e = row-end i (k + 1) d ((k + 1) * d) (omega arith) (omega arith) in absurd (omega arith)
@@ -144,14 +150,16 @@ module _ {A : Type 0} (o : Arith A) where
                         let x = row-end (i - 1) m d (m * d) (omega arith) (omega arith) in
                         let q : k * d + (i * d + j - (k * d + d)) ≡ (i - 1) * d + j = omega arith in
                         splice-inside (k * d + d) (m * d + d) v old z (omega arith) (i * d + j) (omega arith) (omega arith)
-                        ∙ getD-take (m * d - k * d) (drop (k * d) old) (i * d + j - (k * d + d)) z (omega arith) ∙ getD-drop (k * d) old (i * d + j - (k * d + d)) z
+                        ∙ getD-take (m * d - k * d) (drop (k * d) old) (i * d + j - (k * d + d)) z (omega arith)
+                        ∙ getD-drop (k * d) old (i * d + j - (k * d + d)) z
                         ∙ ap (λ (n : ℕ). getD old n z) q ∙ sym (used-row (i - 1) j (omega arith) g)
                         ∙ sym (new-after alpha d k used i j y) ∙ sym (target-row i j (omega arith) g)
                   ]) p a h
             ];
           }
 
-      pub mixing-next : (i : ℕ) (c : List A) (a : A) → k < i + 5 → i ≤ k → a ≡ alpha i → Mixing (i + 1) c → Mixing i (splice (i * d) (i * d + d) (mixedRow o a d (i * d) c) c)
+      pub mixing-next : (i : ℕ) (c : List A) (a : A) → k < i + 5 → i ≤ k → a ≡ alpha i → Mixing (i + 1) c
+          → Mixing i (splice (i * d) (i * d + d) (mixedRow o a d (i * d) c) c)
       mixing-next i c a h g e p =
           let r = suc-mul i d in
           let end = row-end i (m + 1) d ((m + 1) * d) (omega arith) (omega arith) in
@@ -164,14 +172,24 @@ module _ {A : Type 0} (o : Arith A) where
             long = length-splice (i * d) (i * d + d) v c (omega arith) (omega arith) (omega arith) ∙ n;
             below = λ t l. splice-before (i * d) (i * d + d) v c z (omega arith) t l ∙ p .below t (omega arith);
             above = λ t l. elim (decLt t (i * d + d)) [
-              | no b ↦ splice-after (i * d) (i * d + d) v c z (omega arith) t (omega arith) (omega arith) (omega arith) ∙ p .above t (omega arith)
+              | no b ↦ splice-after (i * d) (i * d + d) v c z (omega arith) t (omega arith) (omega arith) (omega arith)
+                  ∙ p .above t (omega arith)
               | yes b ↦
                   let j = t - i * d in
                   let at : i * d + j ≡ t = omega arith in
                   let y : i * d - d + j ≡ (i - 1) * d + j = omega arith in
                   splice-inside (i * d) (i * d + d) v c z (omega arith) t l (omega arith) ∙ list-at d f z j (omega arith)
-                  ∙ rw (e, p .below (i * d - d + j) (omega arith), p .below (i * d + j) (omega arith), y, ← used-row (i - 1) j (omega arith) (omega arith), ← used-row i j (omega arith) (omega arith))
-                  (sym (new-mixed alpha d k used i j h g) ∙ sym (target-row i j (omega arith) (omega arith)) ∙ ap (λ (n : ℕ). getD target n z) at)
+                  ∙ rw (
+                    e,
+                    p .below (i * d - d + j) (omega arith),
+                    p .below (i * d + j) (omega arith),
+                    y,
+                    ← used-row (i - 1) j (omega arith)
+                        (omega arith),
+                    ← used-row i j (omega arith) (omega arith),
+                  )
+                  (sym (new-mixed alpha d k used i j h g) ∙ sym (target-row i j (omega arith) (omega arith))
+                  ∙ ap (λ (n : ℕ). getD target n z) at)
             ];
           }
 
@@ -181,5 +199,6 @@ module _ {A : Type 0} (o : Arith A) where
           (λ t l. elim (decLt t ((k - 4) * d)) [
             | no a ↦ p .above t (omega arith)
             | yes a ↦ p .below t a ∙ by-row (λ t. getD old t z ≡ getD target t z) (k - 4) d
-                (λ i j b g. sym (used-row i j (omega arith) g) ∙ sym (new-before alpha d k used i j (omega arith)) ∙ sym (target-row i j (omega arith) g)) t a
+                (λ i j b g. sym (used-row i j (omega arith) g) ∙ sym (new-before alpha d k used i j (omega arith))
+                ∙ sym (target-row i j (omega arith) g)) t a
           ])

@@ -16,7 +16,8 @@ use Rattle.window.proofs.Joined.{join-length}
 
 module _ {A : Type 0} where
   -- rows that are known make the part
-  pub rows-join : (C r n : ℕ) (f : ℕ → List A) (l : List A) → ((j : ℕ) → j < n → window (C + j * r) (C + j * r + r) l ≡ f j) → window C (C + n * r) l ≡ join n f
+  pub rows-join : (C r n : ℕ) (f : ℕ → List A) (l : List A) → ((j : ℕ) → j < n → window (C + j * r) (C + j * r + r) l ≡ f j)
+      → window C (C + n * r) l ≡ join n f
   unfolding join
   rows-join C r zero f l h = let e : C + 0 * r - C ≡ 0 = omega arith in rw e
   rows-join C r (suc n) f l h =
@@ -26,7 +27,8 @@ module _ {A : Type 0} where
       ∙ rw (rows-join C r n f l (λ j g. h j (omega arith)), e, h n (omega arith))
 
   -- row j of a join
-  join-row : (n r : ℕ) (f : ℕ → List A) → ((i : ℕ) → i < n → length (f i) ≡ r) → (j : ℕ) → j < n → window (j * r) (j * r + r) (join n f) ≡ f j
+  join-row : (n r : ℕ) (f : ℕ → List A) → ((i : ℕ) → i < n → length (f i) ≡ r) → (j : ℕ) → j < n → window (j * r) (j * r + r) (join n f)
+      ≡ f j
   unfolding join
   join-row zero r f h j l = absurd (omega arith)
   join-row (suc n) r f h j l =

@@ -12,7 +12,8 @@ use Rattle.arith.proofs.Choice.{cond-le}
 use Rattle.bspline.specs.Search.{pickOf, Bisection, several, halve, partitionPoint}
 use Rattle.arith.proofs.Runs.{whilst-ends}
 
-pub pick-le : {A : Type 0} (outside : A) (test : A → Bool) (list : List A) (at : ℕ) {high low k : ℕ} → high ≤ k → low ≤ k → pickOf outside test list at high low ≤ k
+pub pick-le : {A : Type 0} (outside : A) (test : A → Bool) (list : List A) (at : ℕ) {high low k : ℕ} → high ≤ k → low ≤ k
+    → pickOf outside test list at high low ≤ k
 unfolding pickOf
 pick-le outside test list at h g = cond-le (test (getD list at outside)) h g
 
@@ -46,9 +47,24 @@ module _ {A : Type 0} (outside : A) (test : A → Bool) (list : List A) (k : ℕ
       let mid = b .base + b .size / 2 in
       go (test (getD list mid outside)) (side mid (omega (arith, a .inside)) (test (getD list mid outside)) refl)
     where
-      go : (v : Bool) → cond v (b .base + b .size / 2 < k) (k ≤ b .base + b .size / 2) → Around n (record { base = cond v (b .base + b .size / 2) (b .base); size = b .size - b .size / 2 })
-      go true g = record { some = omega (arith, ltb-true 1 (b .size) e); fuel = omega (arith, ltb-true 1 (b .size) e, a .fuel); low = omega arith; high = omega (arith, a .high); inside = omega (arith, a .inside) }
-      go false g = record { some = omega (arith, ltb-true 1 (b .size) e); fuel = omega (arith, ltb-true 1 (b .size) e, a .fuel); low = a .low; high = omega arith; inside = omega (arith, a .inside) }
+      go : (v : Bool) → cond v (b .base + b .size / 2 < k) (k ≤ b .base + b .size / 2)
+          → Around n (record { base = cond v (b .base + b .size / 2) (b .base); size = b .size - b .size / 2 })
+      go true g = record {
+        some = omega (arith, ltb-true 1 (b .size) e);
+        fuel = omega (arith, ltb-true 1 (b .size) e, a .fuel);
+        low = omega
+            arith;
+        high = omega (arith, a .high);
+        inside = omega (arith, a .inside);
+      }
+      go false g = record {
+        some = omega (arith, ltb-true 1 (b .size) e);
+        fuel = omega (arith, ltb-true 1 (b .size) e, a .fuel);
+        low =
+            a .low;
+        high = omega arith;
+        inside = omega (arith, a .inside);
+      }
 
   last : (b : Bisection) (n : ℕ) → Around n b → b .size ≤ 1 → pickOf outside test list (b .base) (b .base + 1) (b .base) ≡ k
   unfolding pickOf
@@ -63,7 +79,8 @@ module _ {A : Type 0} (outside : A) (test : A → Bool) (list : List A) (k : ℕ
   unfolding partitionPoint pickOf
   partition-point-is = elim (decLt 0 (length list)) [
     | yes h ↦
-        let r = whilst-ends Around several (halve outside test list) halve-keeps (λ s a. absurd (omega (arith, a .some, a .fuel))) (length list) (record { base = 0; size = length list })
+        let r = whilst-ends Around several (halve outside test list) halve-keeps (λ s a. absurd (omega (arith, a .some, a .fuel)))
+        (length list) (record { base = 0; size = length list })
         (record { some = h; fuel = omega arith; low = omega arith; high = omega arith; inside = omega arith }) in
         let b = whilst several (halve outside test list) (length list) (record { base = 0; size = length list }) in
         let one = ltb-false 1 (b .size) (r .2) in

@@ -22,14 +22,16 @@ module _ {A : Type 0} (outside : A) (test : A → Bool) (list : List A) where
   unfolding halve
   halve-inside n b e a =
       let many = ltb-true 1 (b .size) e in
-      let h = pick-le outside test list (b .base + b .size / 2) {high = b .base + b .size / 2} {low = b .base} {k = b .base + b .size / 2} (omega arith) (omega arith) in
+      let h = pick-le outside test list (b .base + b .size / 2) {high = b .base + b .size / 2} {low = b .base} {k = b .base + b .size / 2}
+      (omega arith) (omega arith) in
       record { some = omega arith; fuel = omega (arith, a .fuel); within = omega (arith, a .within) }
 
   pub point-within : partitionPoint outside test list ≤ length list
   unfolding partitionPoint
   point-within = elim (decLt 0 (length list)) [
     | yes h ↦
-        let r = whilst-ends Inside several (halve outside test list) halve-inside (λ s a. absurd (omega (arith, a .some, a .fuel))) (length list) (record { base = 0; size = length list })
+        let r = whilst-ends Inside several (halve outside test list) halve-inside (λ s a. absurd (omega (arith, a .some, a .fuel)))
+        (length list) (record { base = 0; size = length list })
         (record { some = h; fuel = omega arith; within = omega arith }) in
         let i = r .1 in
         rw (lt-ltb 0 (length list) h) (pick-le outside test list _ (omega (arith, i .some, i .within)) (omega (arith, i .some, i .within)))

@@ -1,5 +1,5 @@
--- On knots that never fall, the span found holds the parameter, and at the right end it is the last span: for any arithmetic whose order is transitive, and
--- for `f64`, where no NaN can be among such knots.
+-- On knots that never fall, the span found holds the parameter, and at the right end it is the last span: for any arithmetic whose order is
+-- transitive, and for `f64`, where no NaN can be among such knots.
 use mathlib.Core.Path.{_≡_}
 use mathlib.Core.Bool.{Bool, true, false}
 use mathlib.Core.List.{List}
@@ -47,13 +47,20 @@ module _ {A : Type 0} (o : Arith A) (t : List A) (m : ℕ) (x : A) (six : 5 < m)
 
   -- between the end knots
   pub span-holds : atOrBelow (knot 5) ≡ true → atOrBelow (knot m) ≡ false
-      → (5 ≤ spanOf o t m x) × (spanOf o t m x < m) × (atOrBelow (knot (spanOf o t m x)) ≡ true) × (atOrBelow (knot (spanOf o t m x + 1)) ≡ false)
+      → (5 ≤ spanOf o t m x) × (spanOf o t m x < m) × (atOrBelow (knot (spanOf o t m x)) ≡ true)
+      × (atOrBelow (knot (spanOf o t m x + 1)) ≡ false)
   span-holds low high =
       let a = before 5 (omega arith) low in
       let b = after m high in
       let e : spanOf o t m x ≡ point - 1 = omega arith in
       let g : point - 1 + 1 ≡ point = omega arith in
-      rw (e, g) (omega arith, omega arith, all-before (o .outside) atOrBelow t falls (point - 1) (omega arith), none-from (o .outside) atOrBelow t falls point (omega arith) (omega arith))
+      rw (e, g) (
+        omega arith,
+        omega arith,
+        all-before (o .outside) atOrBelow t falls (point - 1) (omega arith),
+        none-from (o .outside)
+            atOrBelow t falls point (omega arith) (omega arith),
+      )
 
   -- at the last knot, and beyond
   pub span-last : atOrBelow (knot m) ≡ true → spanOf o t m x ≡ m - 1
@@ -67,8 +74,11 @@ module _ (t : List Float) (m : ℕ) (x : Float) (six : 5 < m) (long : m < length
   span-holds-float low high =
       let f = span-holds floats t m x six long le-trans rises low high in
       let k = spanOf floats t m x in
-      let inside : k + 1 < length t = omega (arith, f .1) in
-      (f .2, lt-of-not-le (getD t (k + 1) nan) x (le-self (getD t k nan) (getD t (k + 1) nan) (rises k inside) .1) (le-self (getD t 5 nan) x low .1) (f .3))
+      let inside : k + 1 < length t = omega (arith, f .1) in (
+        f .2,
+        lt-of-not-le (getD t (k + 1) nan) x (le-self (getD t k nan) (getD t (k + 1) nan) (rises k inside) .1)
+            (le-self (getD t 5 nan) x low .1) (f .3),
+      )
 
   pub span-last-float : le (getD t m nan) x ≡ true → spanOf floats t m x ≡ m - 1
   span-last-float h = span-last floats t m x six long le-trans rises h

@@ -97,7 +97,8 @@ module _ (s : Spline) (B C : ℕ) (w₀ : List Float) where
       other : (j : ℕ) → 5 + j < i → segmentRow s C w₁ j ≡ segmentRow s C w j
       other j h =
           let e = row-end j n r (n * r) (omega arith) (omega arith) in
-          window-before (C + n * r) (C + n * r + length segs) segs w (C + j * r) (C + j * r + r) (omega arith) (omega arith) (omega (arith, fits))
+          window-before (C + n * r) (C + n * r + length segs) segs w (C + j * r) (C + j * r + r) (omega arith) (omega arith)
+          (omega (arith, fits))
 
       later : (j : ℕ) → i < 5 + j → segmentRow s C w₁ j ≡ segmentRow s C w j
       later j h =
@@ -129,5 +130,6 @@ module _ (s : Spline) (B C : ℕ) (w₀ : List Float) where
     pub put-all : (from to : ℕ) → 5 ≤ from → from ≤ to → to ≤ s .count → Put from to (spansPut s B C from to w₀)
     unfolding spansPut
     put-all from to five up end =
-        each-runs (Put from) (λ span l. spanPut s B C span (span - 5) l) from to w₀ up (λ i l a b h. put-next from i l five a (omega arith) h)
+        each-runs (Put from) (λ span l. spanPut s B C span (span - 5) l) from to w₀ up (λ i l a b h. put-next from i l five a (omega arith)
+        h)
         (record { long = refl; below = λ b g h k. refl; fresh = λ j h k. absurd (omega arith); early = λ j h. refl; late = λ j h k. refl })

@@ -1,4 +1,5 @@
--- The polynomial of a spline whose spans all have a width: a segment for each span, which depends on the knots and on the span's own six controls.
+-- The polynomial of a spline whose spans all have a width: a segment for each span, which depends on the knots and on the span's own six
+-- controls.
 use mathlib.Core.Path.{_≡_, refl, ap, _∙_}
 use mathlib.Core.List.{List, [], _∷_, _++_}
 use Prim.Native.Nat.{ℕ, suc, _+_, _-_, _*_, _≤_, _<_}
@@ -17,7 +18,8 @@ use Rattle.window.proofs.Joined.{join-ap, join-length, list-length}
 use Rattle.bspline.proofs.Lengths.{segments-length}
 
 -- ---- a span's own controls
-segment-local : (rows : List Float) (h : Float) (c c′ : List Float) (at d : ℕ) → ((r : ℕ) → r < 6 → getD c (at + r * d) nan ≡ getD c′ (at + r * d) nan)
+segment-local : (rows : List Float) (h : Float) (c c′ : List Float) (at d : ℕ) → ((r : ℕ) → r < 6 → getD c (at + r * d) nan ≡ getD c′
+    (at + r * d) nan)
     → segmentOf floats rows h c at d ≡ segmentOf floats rows h c′ at d
 unfolding segmentOf addRow
 segment-local rows h c c′ at d k =
@@ -26,7 +28,8 @@ segment-local rows h c c′ at d k =
     (λ r p a b. ap (λ (v : Float). each (addTurn floats rows r v) 0 6 p) (k r b)))
 
 -- where two lists of controls agree on the span's six, so do its segments
-pub segments-local : (t c c′ : List Float) (d span : ℕ) → ((i : ℕ) → i < 6 * d → getD c ((span - 5) * d + i) nan ≡ getD c′ ((span - 5) * d + i) nan)
+pub segments-local : (t c c′ : List Float) (d span : ℕ) → ((i : ℕ) → i < 6 * d → getD c ((span - 5) * d + i) nan ≡ getD c′
+    ((span - 5) * d + i) nan)
     → spanSegments floats t c d span ≡ spanSegments floats t c′ d span
 segments-local t c c′ d span h =
     join-ap d _ _
@@ -56,7 +59,11 @@ module _ (t c : List Float) (d m : ℕ) (wide : Wide t m) (six : 6 ≤ m) where
           let q : i + 1 - 5 ≡ suc (i - 5) = omega arith in
           let g : i ≡ 5 + (i - 5) = omega arith in
           rw (wide i a b, q, e)
-          (ap (λ (n : ℕ). record { breaks = listOf (i - 5) breakAt ++ (getD t n nan ∷ []); coefficients = join (i - 5) segmentsAt ++ spanSegments floats t c d n }) g)
+          (ap (λ (n : ℕ). record {
+            breaks = listOf (i - 5) breakAt ++ (getD t n nan ∷ []);
+            coefficients = join (i - 5) segmentsAt ++
+                spanSegments floats t c d n;
+          }) g)
 
   pub wide-breaks : polynomialOf floats t c d m .breaks ≡ listOf (m - 5) breakAt ++ (floats .one ∷ [])
   unfolding polynomialOf
@@ -68,7 +75,9 @@ module _ (t c : List Float) (d m : ℕ) (wide : Wide t m) (six : 6 ≤ m) where
 
   -- how many there are
   pub wide-breaks-length : length (polynomialOf floats t c d m .breaks) ≡ m - 5 + 1
-  wide-breaks-length = ap length wide-breaks ∙ length-append (listOf (m - 5) breakAt) (floats .one ∷ []) ∙ omega (arith, list-length (m - 5) breakAt)
+  wide-breaks-length = ap length wide-breaks ∙ length-append (listOf (m - 5) breakAt) (floats .one ∷ [])
+      ∙ omega (arith, list-length (m - 5) breakAt)
 
   pub wide-coefficients-length : length (polynomialOf floats t c d m .coefficients) ≡ (m - 5) * (6 * d)
-  wide-coefficients-length = ap length wide-coefficients ∙ join-length (m - 5) (6 * d) segmentsAt (λ j l. segments-length floats t c d (5 + j))
+  wide-coefficients-length = ap length wide-coefficients ∙ join-length (m - 5) (6 * d) segmentsAt
+      (λ j l. segments-length floats t c d (5 + j))

@@ -28,7 +28,8 @@ mixed o a before after = o .plus (o .times (o .minus (o .one) a) before) (o .tim
 abbrev pub mixedRow : {A : Type 0} → Arith A → A → ℕ → ℕ → List A → List A
 mixedRow o a d at c = listOf d (λ j. mixed o a (getD c (at - d + j) (o .outside)) (getD c (at + j) (o .outside)))
 
--- axis j of the new control i, by cases: those up to k - 5 are the old ones, k - 4 to k are mixed, those after k are the old ones before them
+-- axis j of the new control i, by cases: those up to k - 5 are the old ones, k - 4 to k are mixed, those after k are the old ones before
+-- them
 unfoldable pub newControl : {A : Type 0} → Arith A → (ℕ → A) → ℕ → ℕ → List A → ℕ → ℕ → A
 newControl o alpha d k c i j =
     cond (leb (i + 5) k)

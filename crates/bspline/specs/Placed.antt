@@ -27,7 +27,8 @@ abbrev pub insertedAt : Spline → Float → List Float → List Float
 insertedAt s x w =
     let k = spanOf floats (knotsAt s w) (s .count) x in
     splice (s .knots) (s .knots + s .count + 6 + 1) (knotsWith x k (knotsAt s w))
-    (splice (s .controls) (s .controls + (s .count + 1) * s .axes) (controlsWith floats (knotsAt s w) x (s .axes) (s .count) k (controlsAt s w)) w)
+    (splice (s .controls) (s .controls + (s .count + 1) * s .axes) (controlsWith floats (knotsAt s w) x (s .axes) (s .count) k
+    (controlsAt s w)) w)
 
 -- one span's break and segments after n others: nothing for a span of no width
 unfoldable pub spanPut : Spline → ℕ → ℕ → ℕ → ℕ → List Float → List Float

@@ -73,7 +73,8 @@ fn mix_row(c: &mut [f64], d: usize, at: usize, a: f64)
 // The m + 1 controls of d axes from the m, for a knot in span k. The cells after them are unchanged.
 fn insert_controls(c: &mut [f64], w: Weights, d: usize, m: usize, k: usize)
     requires { ⌜ (5 ≤ k) × (k < m) × ((m + 1) * d ≤ length (now c)) ⌝ }
-    ensures { λ _. ⌜ now (c .exit) ≡ mixedControls floats (weightAt floats (w .alpha) k) d m k (take (m * d) (now (c .entry))) ++ drop ((m + 1) * d) (now (c .entry)) ⌝ }
+    ensures { λ _. ⌜ now (c .exit) ≡ mixedControls floats (weightAt floats (w .alpha) k) d m k (take (m * d) (now (c .entry))) ++ drop
+        ((m + 1) * d) (now (c .entry)) ⌝ }
 {
     shift(c, k * d, m * d, d);
     let low = k - 4;

@@ -74,7 +74,8 @@ fn put_axes(
     to: usize,
 )
     requires { ⌜ (c + at + 6 * d ≤ e) × (e ≤ to) × (to + 6 * d ≤ length (now work)) ⌝ }
-    ensures { λ _. ⌜ now (work .exit) ≡ written to (join d (λ i. segmentOf floats (rows .rows) h (window c e (now (work .entry))) (at + i) d)) (now (work .entry)) ⌝ }
+    ensures { λ _. ⌜ now (work .exit) ≡ written to (join d (λ i. segmentOf floats (rows .rows) h (window c e (now (work .entry))) (at + i)
+        d)) (now (work .entry)) ⌝ }
 {
     let mut i = 0;
     while i < d {

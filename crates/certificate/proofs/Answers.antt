@@ -1,4 +1,5 @@
--- Answers computed from the definition alone: each refusal, with what the checks after it would refuse too, so that their order shows; and one figure.
+-- Answers computed from the definition alone: each refusal, with what the checks after it would refuse too, so that their order shows; and
+-- one figure.
 use mathlib.Core.Path.{_≡_, refl}
 use mathlib.Core.List.{List, [], _∷_}
 use Prim.Native.Nat.{ℕ}
@@ -36,7 +37,16 @@ wide = float 0xffea_b36d_48e1_acf0 ∷ float 0x7fea_b36d_48e1_acf0 ∷ []
 
 -- a curve of d axes, of which axis 0 is selected; with d = 1 and one segment from 0 to 1 it is well formed
 abbrev curve : ℕ → ℕ → Curve
-curve d segments = record { d = d; k = 1; axes = replicate 16 0; start = +0; end = one; mode = Error; segments = segments; «other_segments» = 0 }
+curve d segments = record {
+  d = d;
+  k = 1;
+  axes = replicate 16 0;
+  start = +0;
+  end = one;
+  mode = Error;
+  segments = segments;
+  «other_segments» = 0;
+}
 
 abbrev flat : Slices
 flat = slices (+0 ∷ one ∷ []) (zeros 6) [] []
@@ -55,10 +65,14 @@ pub numbers : number (curve 17 0) (infinite ∷ []) 2 Listed (one ∷ one ∷ []
     ∷ number (curve 1 1) (+0 ∷ +0 ∷ []) 2 Even [] 0
     ∷ []
     ≡ 18 ∷ 20 ∷ 1 ∷ 5 ∷ 6 ∷ 24 ∷ 3 ∷ 0 ∷ []
-unfolding certifyOf unfit any misplaced miscounted parameterOf unreliable lengthOf normalisedOf wellFormed axesFormed firstOf setFormed othersFormed rangeFormed ofBits div ofInt le sub lt eq
+unfolding certifyOf unfit any misplaced miscounted parameterOf unreliable lengthOf normalisedOf wellFormed axesFormed firstOf setFormed
+    othersFormed rangeFormed ofBits div ofInt le sub lt eq
 numbers = refl
 
 -- the figure of the curve 1/2 against the line 0
-pub half : certifyOf (curve 1 1) (slices (+0 ∷ one ∷ []) (float 0x3fe0_0000_0000_0000 ∷ zeros 5) [] []) (+0 ∷ +0 ∷ []) 2 Even [] 0 ≡ outcome 0 (figure (float 0x3fe0_0000_0000_0012))
-unfolding certifyOf unfit any misplaced miscounted parameterOf unreliable lengthOf normalisedOf wellFormed axesFormed firstOf setFormed othersFormed rangeFormed ofBits div ofInt le sub lt eq figureOf each turns highest lowest bernstein addPairs dividePairs multiplyPairs subtractPairs power finiteEnds outward moved mul add nextDown nextUp isNan toBits neg largestAbsolute
+pub half : certifyOf (curve 1 1) (slices (+0 ∷ one ∷ []) (float 0x3fe0_0000_0000_0000 ∷ zeros 5) [] []) (+0 ∷ +0 ∷ []) 2 Even [] 0
+    ≡ outcome 0 (figure (float 0x3fe0_0000_0000_0012))
+unfolding certifyOf unfit any misplaced miscounted parameterOf unreliable lengthOf normalisedOf wellFormed axesFormed firstOf setFormed
+    othersFormed rangeFormed ofBits div ofInt le sub lt eq figureOf each turns highest lowest bernstein addPairs dividePairs multiplyPairs
+    subtractPairs power finiteEnds outward moved mul add nextDown nextUp isNan toBits neg largestAbsolute
 half = refl

@@ -40,7 +40,8 @@ set-rises m n b c h =
     let below = and-l (t && zero && rises b n) one all in
     record {
       from-zero = and-r t zero (and-l (t && zero) (rises b n) below);
-      rising = λ i l. subst T (sym (every-at (λ i. lt (at b i) (at b (i + 1))) n (is-true (rises b n) (and-r (t && zero) (rises b n) below)) i l)) tt;
+      rising = λ i l. subst T (sym (every-at (λ i. lt (at b i) (at b (i + 1))) n (is-true (rises b n) (and-r (t && zero) (rises b n) below))
+          i l)) tt;
       to-one = and-r (t && zero && rises b n) one all;
     }
 
@@ -53,7 +54,8 @@ selected-below axes k d a h l =
 
 -- ---- what is not refused
 -- an answer that is no refusal passed the check, and is what follows it
-passed : (b : Bool) (k : ℕ) (next : Outcome) (f : Figure) → cond b (outcome (suc k) noFigure) next ≡ outcome 0 f → (b ≡ false) × (next ≡ outcome 0 f)
+passed : (b : Bool) (k : ℕ) (next : Outcome) (f : Figure) → cond b (outcome (suc k) noFigure) next ≡ outcome 0 f → (b ≡ false)
+    × (next ≡ outcome 0 f)
 passed true k next f h = let e : suc k ≡ 0 = ap (λ (o : Outcome). o .number) h in absurd (omega arith)
 passed false k next f h = (refl, h)
 
@@ -69,7 +71,8 @@ module _ (c : Curve) (s : Slices) (points : List Float) (n : ℕ) (spacing : Spa
     pub selected : positionOf (c .axes) (c .k) axis < c .k
 
   -- the checks that a certificate passed, and its figure
-  pub accepted : (f : Figure) → certifyOf c s points n spacing parameters axis ≡ outcome 0 f → Accepted × (figureOf (certifiedAxis c s points n spacing parameters axis) ≡ f)
+  pub accepted : (f : Figure) → certifyOf c s points n spacing parameters axis ≡ outcome 0 f → Accepted
+      × (figureOf (certifiedAxis c s points n spacing parameters axis) ≡ f)
   unfolding certifyOf
   accepted f h =
       let e18 = passed (ltb 16 (c .d) || ltb 20000 n) 17 _ f h in
@@ -94,12 +97,17 @@ module _ (c : Curve) (s : Slices) (points : List Float) (n : ℕ) (spacing : Spa
       )
 
   module _ (A : Accepted) where
-    pub lengths : (c .k ≤ 16) × (2 ≤ length (s .breaks)) × (length (s .breaks) ≤ 20001) × (length (s .coefficients) ≡ 6 * ((length (s .breaks) - 1) * c .k))
+    pub lengths : (c .k ≤ 16) × (2 ≤ length (s .breaks)) × (length (s .breaks) ≤ 20001) × (length (s .coefficients) ≡ 6 *
+        ((length (s .breaks) - 1) * c .k))
     lengths =
         let F = formed c s (A .well-formed) in
         let z = set-sizes (c .k) (c .segments) (s .breaks) (s .coefficients) (F .set-formed) in
-        let e : length (s .breaks) - 1 ≡ c .segments = omega (arith, z .breaks-length) in
-        (omega (arith, F .k-high, F .d-high), omega (arith, z .some, z .breaks-length), omega (arith, z .most, z .breaks-length), z .coefficients-length ∙ ap (λ (m : ℕ). 6 * (m * c .k)) (sym e))
+        let e : length (s .breaks) - 1 ≡ c .segments = omega (arith, z .breaks-length) in (
+          omega (arith, F .k-high, F .d-high),
+          omega (arith, z .some, z .breaks-length),
+          omega (arith, z .most, z .breaks-length),
+          z .coefficients-length ∙ ap (λ (m : ℕ). 6 * (m * c .k)) (sym e),
+        )
 
     pub breaks-rise : Rises (length (s .breaks) - 1) (at (s .breaks))
     breaks-rise =
@@ -119,12 +127,15 @@ module _ (c : Curve) (s : Slices) (points : List Float) (n : ℕ) (spacing : Spa
 
     pub axis-below : axis < c .d
     axis-below =
-        selected-below (c .axes) (c .k) (c .d) axis (λ i l. axes-good (c .axes) (c .k) (c .d) (formed c s (A .well-formed) .axes-formed) i l .0) (A .selected)
+        selected-below (c .axes) (c .k) (c .d) axis (λ i l. axes-good (c .axes) (c .k) (c .d) (formed c s (A .well-formed) .axes-formed) i
+        l .0) (A .selected)
 
--- The theorem about the certificate. Whatever the curve with its slices, the points, the parameters and the axis: if the answer is the figure F, then
--- the curve is well formed, breaks and normalised parameters rise from 0 to 1, and the distance rule holds for the axis and F at every fraction from 0 to 1. By its contract `certify` answers
--- as `certifyOf` does, and the cells of its slices are f64s, as `Doubles` asks of the parameters.
-pub certificate-theorem : (c : Curve) (s : Slices) (points : List Float) (n : ℕ) (spacing : Spacing) (parameters : List Float) (axis : ℕ) (F : Float) → Doubles parameters
+-- The theorem about the certificate. Whatever the curve with its slices, the points, the parameters and the axis: if the answer is the
+-- figure F, then the curve is well formed, breaks and normalised parameters rise from 0 to 1, and the distance rule holds for the axis and
+-- F at every fraction from 0 to 1. By its contract `certify` answers as `certifyOf` does, and the cells of its slices are f64s, as
+-- `Doubles` asks of the parameters.
+pub certificate-theorem : (c : Curve) (s : Slices) (points : List Float) (n : ℕ) (spacing : Spacing) (parameters : List Float) (axis : ℕ)
+    (F : Float) → Doubles parameters
     → certifyOf c s points n spacing parameters axis ≡ outcome 0 (figure F) → Certified c s points n spacing parameters axis F
 certificate-theorem c s points n spacing parameters axis F doubles h =
     let a = accepted c s points n spacing parameters axis (figure F) h in

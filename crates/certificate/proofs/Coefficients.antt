@@ -21,7 +21,8 @@ use Rattle.certificate.proofs.Sums.{same-keeps}
 cell : (l : List Float) (n a b : ℕ) → a + 1 ≡ b → a < length l → take (suc n) (drop a l) ≡ at l a ∷ take n (drop b l)
 cell l n a b e h = rw (← e, add-one, drop-cons l a nan)
 
-pub six-cells : (l : List Float) (a : ℕ) → a + 6 ≤ length l → at l a ∷ at l (a + 1) ∷ at l (a + 2) ∷ at l (a + 3) ∷ at l (a + 4) ∷ at l (a + 5) ∷ [] ≡ take 6 (drop a l)
+pub six-cells : (l : List Float) (a : ℕ) → a + 6 ≤ length l → at l a ∷ at l (a + 1) ∷ at l (a + 2) ∷ at l (a + 3) ∷ at l (a + 4) ∷ at l
+    (a + 5) ∷ [] ≡ take 6 (drop a l)
 six-cells l a h =
     sym (rw (
       cell l 5 a (a + 1) (omega arith) (omega arith),
@@ -40,19 +41,36 @@ cell-of-six l a j h = let k : j < 6 = omega arith in rw (getD-take, getD-drop)
 -- with the coefficients p in the place of its own
 abbrev pub withCoefficients : Intersection → (ℕ → Float) → Intersection
 withCoefficients x p =
-    record { start = x .start; end = x .end; coefficient = p; left = x .left; right = x .right; from = x .from; to = x .to; first = x .first; second = x .second }
+    record {
+      start = x .start;
+      end = x .end;
+      coefficient = p;
+      left = x .left;
+      right = x .right;
+      from = x .from;
+      to = x .to;
+      first =
+          x .first;
+      second = x .second;
+    }
 
 -- the first six count
-pub six-count : (x : Intersection) (p : ℕ → Float) → ((k : ℕ) → k ≤ 5 → p k ≡ x .coefficient k) → intersectionFigure (withCoefficients x p) ≡ intersectionFigure x
+pub six-count : (x : Intersection) (p : ℕ → Float) → ((k : ℕ) → k ≤ 5 → p k ≡ x .coefficient k) → intersectionFigure (withCoefficients x p)
+    ≡ intersectionFigure x
 unfolding intersectionFigure
 six-count x p h =
-    each-same (λ k so-far. larger so-far (absoluteEnd (differenceBernstein ends (withCoefficients x p) k))) (λ k so-far. larger so-far (absoluteEnd (differenceBernstein ends x k))) 0 6 (figure +0)
+    each-same (λ k so-far. larger so-far (absoluteEnd (differenceBernstein ends (withCoefficients x p) k)))
+    (λ k so-far. larger so-far (absoluteEnd (differenceBernstein ends x k))) 0 6 (figure +0)
     (λ k g l m. ap (λ (e : Ends). larger g (absoluteEnd e)) (pairs k (omega arith)))
   where
     powers : (j : ℕ) → j ≤ 5 → differencePower ends (withCoefficients x p) j ≡ differencePower ends x j
     powers j l =
-        without-keeps ends ends (_≡_ {A = Ends}) (same-keeps ends) (lineAtLeft ends x) (lineRise ends x) (lineAtLeft ends x) (lineRise ends x) (power ends (λ k. ends .number (p k)) (offset ends x) (scale ends x)) (power ends (λ k. ends .number (x .coefficient k)) (offset ends x) (scale ends x)) j refl refl
-        (power-keeps ends ends (_≡_ {A = Ends}) (same-keeps ends) (λ k. ends .number (p k)) (λ k. ends .number (x .coefficient k)) (offset ends x) (scale ends x) (offset ends x) (scale ends x) j l (λ k m. ap (ends .number) (h k m)) refl refl)
+        without-keeps ends ends (_≡_ {A = Ends}) (same-keeps ends) (lineAtLeft ends x) (lineRise ends x) (lineAtLeft ends x)
+        (lineRise ends x) (power ends (λ k. ends .number (p k)) (offset ends x) (scale ends x))
+        (power ends (λ k. ends .number (x .coefficient k)) (offset ends x) (scale ends x)) j refl refl
+        (power-keeps ends ends (_≡_ {A = Ends}) (same-keeps ends) (λ k. ends .number (p k)) (λ k. ends .number (x .coefficient k))
+        (offset ends x) (scale ends x) (offset ends x) (scale ends x) j l (λ k m. ap (ends .number) (h k m)) refl refl)
 
     pairs : (k : ℕ) → k ≤ 5 → differenceBernstein ends (withCoefficients x p) k ≡ differenceBernstein ends x k
-    pairs k l = bernstein-keeps ends ends (_≡_ {A = Ends}) (same-keeps ends) (differencePower ends (withCoefficients x p)) (differencePower ends x) k l powers
+    pairs k l = bernstein-keeps ends ends (_≡_ {A = Ends}) (same-keeps ends) (differencePower ends (withCoefficients x p))
+        (differencePower ends x) k l powers

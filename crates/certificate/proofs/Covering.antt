@@ -32,7 +32,8 @@ record Step (count : ℕ) (x : ℕ → Float) (t : Fraction) : Type 0 where
   lies : LiesIn (x place) (x (place + 1)) t
 
 -- numbers that rise from 0 to 1 leave out no fraction from 0 to 1
-step-at : (count : ℕ) (x : ℕ → Float) → Rises count x → (t : Fraction) → wholeFraction (pos 0) ≤f t → t ≤f wholeFraction (pos 1) → Step count x t
+step-at : (count : ℕ) (x : ℕ → Float) → Rises count x → (t : Fraction) → wholeFraction (pos 0) ≤f t → t ≤f wholeFraction (pos 1)
+    → Step count x t
 step-at count x r t t0 t1 = elim (≤q-or-< (value (x count)) (cls t)) [
   | inl k ↦
       let last : count - 1 + 1 ≡ count = omega (arith, some) in
@@ -40,7 +41,8 @@ step-at count x r t t0 t1 = elim (≤q-or-< (value (x count)) (cls t)) [
         place = count - 1;
         inside = omega (arith, some);
         lies = record {
-          above = ≤q-means-≤f (exactFraction (x (count - 1))) t (≤q-trans (value (x (count - 1))) (value (x count)) (cls t) (rises-to count x r (count - 1) 1 count last (omega arith)) k);
+          above = ≤q-means-≤f (exactFraction (x (count - 1))) t (≤q-trans (value (x (count - 1))) (value (x count)) (cls t)
+              (rises-to count x r (count - 1) 1 count last (omega arith)) k);
           below = ≤q-means-≤f t (exactFraction (x (count - 1 + 1))) (subst (λ (j : ℕ). cls t ≤q value (x j)) (sym last) high);
         };
       }
@@ -61,14 +63,25 @@ step-at count x r t t0 t1 = elim (≤q-or-< (value (x count)) (cls t)) [
 
     low : value (x 0) ≤q cls t
     low =
-        subst (λ (z : ℚ). z ≤q cls t) (sym (first-is count x r)) (≤q-trans (value +0) (wholeq (pos 0)) (cls t) zero-worth (≤f-gives-≤q (wholeFraction (pos 0)) t t0))
+        subst (λ (z : ℚ). z ≤q cls t) (sym (first-is count x r)) (≤q-trans (value +0) (wholeq (pos 0)) (cls t) zero-worth
+        (≤f-gives-≤q (wholeFraction (pos 0)) t t0))
 
     high : cls t ≤q value (x count)
     high =
-        subst (λ (z : ℚ). cls t ≤q z) (sym (last-is count x r)) (≤q-trans (cls t) (wholeq (pos 1)) (value one) (≤f-gives-≤q t (wholeFraction (pos 1)) t1) one-worth)
+        subst (λ (z : ℚ). cls t ≤q z) (sym (last-is count x r)) (≤q-trans (cls t) (wholeq (pos 1)) (value one)
+        (≤f-gives-≤q t (wholeFraction (pos 1)) t1) one-worth)
 
-pub covered : (x : Axis) → Rises (x .segments) (x .break) → Rises (x .intervals) (x .parameter) → (t : Fraction) → wholeFraction (pos 0) ≤f t → t ≤f wholeFraction (pos 1) → Covered x t
+pub covered : (x : Axis) → Rises (x .segments) (x .break) → Rises (x .intervals) (x .parameter) → (t : Fraction)
+    → wholeFraction (pos 0) ≤f t → t ≤f wholeFraction (pos 1) → Covered x t
 covered x breaks parameters t t0 t1 =
     let m = step-at (x .segments) (x .break) breaks t t0 t1 in
     let i = step-at (x .intervals) (x .parameter) parameters t t0 t1 in
-    record { segment = m .place; interval = i .place; a-segment = m .inside; an-interval = i .inside; in-segment = m .lies; in-interval = i .lies }
+    record {
+      segment = m .place;
+      interval = i .place;
+      a-segment = m .inside;
+      an-interval = i .inside;
+      in-segment = m .lies;
+      in-interval =
+          i .lies;
+    }

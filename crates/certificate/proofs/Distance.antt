@@ -1,10 +1,10 @@
--- The distance theorem: where the definition gives a figure, the distance rule holds (`DistanceRule` in specs/Distance says it in full). It rests on
--- two facts: each pair encloses its exact value (Enclosure), and the figure is at least every absolute end (Largest).
+-- The distance theorem: where the definition gives a figure, the distance rule holds (`DistanceRule` in specs/Distance says it in full). It
+-- rests on two facts: each pair encloses its exact value (Enclosure), and the figure is at least every absolute end (Largest).
 --
--- A segment and an interval that hold t may share the point t alone. Then t is an end of both, and the interval on the other side of t shares more
--- than a point with the segment; its line has the same value at t, since both pass through the waypoint there. That interval exists: breaks and
--- parameters both rise from 0 to 1, so a segment that ends where an interval starts does not end at 0, and one that starts where an interval ends does
--- not start at 1.
+-- A segment and an interval that hold t may share the point t alone. Then t is an end of both, and the interval on the other side of t
+-- shares more than a point with the segment; its line has the same value at t, since both pass through the waypoint there. That interval
+-- exists: breaks and parameters both rise from 0 to 1, so a segment that ends where an interval starts does not end at 0, and one that
+-- starts where an interval ends does not start at 1.
 use mathlib.Core.List.{[], _∷_}
 use mathlib.Core.Logic.{inl, inr}
 use mathlib.Core.Path.{_∙_, _≡_, ap, subst, sym}
@@ -35,9 +35,11 @@ line-start s s′ y y′ = solve rationalRing (s ∷ y ∷ y′ ∷ inverse (s�
 
 line-end : (s s′ y y′ : ℚ) → s <q s′ → line s s′ y y′ s′ ≡ y′
 line-end s s′ y y′ h =
-    combine rationalRing (s ∷ s′ ∷ y ∷ y′ ∷ inverse (s′ -q s) ∷ []) (v2 ⊕ (v1 ⊖ v0) ⊗ v4 ⊗ (v3 ⊖ v2)) v3 (v3 ⊖ v2) ((v1 ⊖ v0) ⊗ v4) (con (pos 1)) tt (inverse-is (s′ -q s) (difference-above s s′ h))
+    combine rationalRing (s ∷ s′ ∷ y ∷ y′ ∷ inverse (s′ -q s) ∷ []) (v2 ⊕ (v1 ⊖ v0) ⊗ v4 ⊗ (v3 ⊖ v2)) v3 (v3 ⊖ v2) ((v1 ⊖ v0) ⊗ v4)
+    (con (pos 1)) tt (inverse-is (s′ -q s) (difference-above s s′ h))
 
-module _ (x : Axis) (breaks : Rises (x .segments) (x .break)) (parameters : Rises (x .intervals) (x .parameter)) (F : Float) (given : figureOf x ≡ figure F) where
+module _ (x : Axis) (breaks : Rises (x .segments) (x .break)) (parameters : Rises (x .intervals) (x .parameter)) (F : Float)
+    (given : figureOf x ≡ figure F) where
   -- the values of break m, parameter i and waypoint i
   abbrev a : ℕ → ℚ
   a m = value (x .break m)
@@ -54,7 +56,8 @@ module _ (x : Axis) (breaks : Rises (x .segments) (x .break)) (parameters : Rise
 
   -- the curve of segment m, less z, is at most the figure in size
   abbrev Near : ℕ → ℚ → ℚ → Type 0
-  Near m t z = (negq (value F) ≤q curve (a m) (a (m + 1)) (λ k. value (x .coefficient m k)) t -q z) × (curve (a m) (a (m + 1)) (λ k. value (x .coefficient m k)) t -q z ≤q value F)
+  Near m t z = (negq (value F) ≤q curve (a m) (a (m + 1)) (λ k. value (x .coefficient m k)) t -q z)
+      × (curve (a m) (a (m + 1)) (λ k. value (x .coefficient m k)) t -q z ≤q value F)
 
   -- t lies in segment m and in interval i
   record Shared (m i : ℕ) (t : ℚ) : Type 0 where
@@ -90,9 +93,11 @@ module _ (x : Axis) (breaks : Rises (x .segments) (x .break)) (parameters : Rise
         after-waypoint = ≤q-trans (s i) (s (i + 1)) t (<q-weaken (s i) (s (i + 1)) strict) (h .after-waypoint);
         before-waypoint = before;
       } in
-      let near = proper m i t shared (<q-≤q-trans (a m) (a (m + 1)) (s (i + 1)) inside k) (<q-≤q-trans (s i) (s (i + 1)) (a (m + 1)) strict (≤q-trans (s (i + 1)) t (a (m + 1)) (h .after-waypoint) (h .before-break))) in
+      let near = proper m i t shared (<q-≤q-trans (a m) (a (m + 1)) (s (i + 1)) inside k) (<q-≤q-trans (s i) (s (i + 1)) (a (m + 1)) strict
+      (≤q-trans (s (i + 1)) t (a (m + 1)) (h .after-waypoint) (h .before-break))) in
       subst (λ (z : ℚ). Near m t z)
-      (ap (lineOf i) e ∙ line-end (s i) (s (i + 1)) (y i) (y (i + 1)) strict ∙ sym (line-start (s (i + 1)) (s (i + 1 + 1)) (y (i + 1)) (y (i + 1 + 1))) ∙ ap (lineOf (i + 1)) (sym e)) near
+      (ap (lineOf i) e ∙ line-end (s i) (s (i + 1)) (y i) (y (i + 1)) strict ∙ sym (line-start (s (i + 1)) (s (i + 1 + 1)) (y (i + 1))
+      (y (i + 1 + 1))) ∙ ap (lineOf (i + 1)) (sym e)) near
     where
       less : i + 1 < x .intervals → i < x .intervals
       less l = omega arith
@@ -113,9 +118,11 @@ module _ (x : Axis) (breaks : Rises (x .segments) (x .break)) (parameters : Rise
         after-waypoint = after;
         before-waypoint = ≤q-trans t (s (i + 1)) (s (i + 1 + 1)) (h .before-waypoint) (<q-weaken (s (i + 1)) (s (i + 1 + 1)) next);
       } in
-      let near = proper m (i + 1) t shared (≤q-<q-trans (a m) (s (i + 1)) (s (i + 1 + 1)) (≤q-trans (a m) t (s (i + 1)) (h .after-break) (h .before-waypoint)) next) (≤q-<q-trans (s (i + 1)) (a m) (a (m + 1)) k inside) in
+      let near = proper m (i + 1) t shared (≤q-<q-trans (a m) (s (i + 1)) (s (i + 1 + 1)) (≤q-trans (a m) t (s (i + 1)) (h .after-break)
+      (h .before-waypoint)) next) (≤q-<q-trans (s (i + 1)) (a m) (a (m + 1)) k inside) in
       subst (λ (z : ℚ). Near m t z)
-      (ap (lineOf (i + 1)) e ∙ line-start (s (i + 1)) (s (i + 1 + 1)) (y (i + 1)) (y (i + 1 + 1)) ∙ sym (line-end (s i) (s (i + 1)) (y i) (y (i + 1)) strict) ∙ ap (lineOf i) (sym e)) near
+      (ap (lineOf (i + 1)) e ∙ line-start (s (i + 1)) (s (i + 1 + 1)) (y (i + 1)) (y (i + 1 + 1))
+      ∙ sym (line-end (s i) (s (i + 1)) (y i) (y (i + 1)) strict) ∙ ap (lineOf i) (sym e)) near
 
   -- the interval that starts where a segment ends is not the first
   not-first : (m i : ℕ) → m < x .segments → a (m + 1) ≤q s i → 0 < i
@@ -124,7 +131,8 @@ module _ (x : Axis) (breaks : Rises (x .segments) (x .break)) (parameters : Rise
     | no p ↦
         let e : i ≡ 0 = omega arith in
         absurd (never (a m) (a (m + 1)) (rises-strictly (x .segments) (x .break) breaks m l)
-        (≤q-trans (a (m + 1)) (s i) (a m) k (subst (λ (z : ℚ). z ≤q a m) (first-is (x .segments) (x .break) breaks ∙ sym (first-is (x .intervals) (x .parameter) parameters) ∙ ap s (sym e))
+        (≤q-trans (a (m + 1)) (s i) (a m) k (subst (λ (z : ℚ). z ≤q a m) (first-is (x .segments) (x .break) breaks ∙ sym
+        (first-is (x .intervals) (x .parameter) parameters) ∙ ap s (sym e))
         (rises-to (x .segments) (x .break) breaks 0 m m (omega arith) (omega arith)))))
   ]
 
@@ -135,7 +143,8 @@ module _ (x : Axis) (breaks : Rises (x .segments) (x .break)) (parameters : Rise
     | no p ↦
         let e : x .intervals ≡ i + 1 = omega arith in
         absurd (never (a m) (a (m + 1)) (rises-strictly (x .segments) (x .break) breaks m l)
-        (≤q-trans (a (m + 1)) (s (i + 1)) (a m) (subst (λ (z : ℚ). a (m + 1) ≤q z) (last-is (x .segments) (x .break) breaks ∙ sym (last-is (x .intervals) (x .parameter) parameters) ∙ ap s e)
+        (≤q-trans (a (m + 1)) (s (i + 1)) (a m) (subst (λ (z : ℚ). a (m + 1) ≤q z) (last-is (x .segments) (x .break) breaks ∙ sym
+        (last-is (x .intervals) (x .parameter) parameters) ∙ ap s e)
         (rises-to (x .segments) (x .break) breaks (m + 1) (x .segments - (m + 1)) (x .segments) (omega arith) (omega arith))) k))
   ]
 
@@ -156,18 +165,22 @@ module _ (x : Axis) (breaks : Rises (x .segments) (x .break)) (parameters : Rise
 
 -- the operations of ℚ are those of the fractions as they are written
 written : (x : Axis) (F : Float) (t : Fraction) (m i : ℕ)
-    → (negq (value F) ≤q curve (value (x .break m)) (value (x .break (m + 1))) (λ k. value (x .coefficient m k)) (cls t) -q line (value (x .parameter i)) (value (x .parameter (i + 1))) (value (x .waypoint i)) (value (x .waypoint (i + 1))) (cls t))
-    × (curve (value (x .break m)) (value (x .break (m + 1))) (λ k. value (x .coefficient m k)) (cls t) -q line (value (x .parameter i)) (value (x .parameter (i + 1))) (value (x .waypoint i)) (value (x .waypoint (i + 1))) (cls t) ≤q value F)
-    → (negateFraction (exactFraction F) ≤f subtractFractions (curveAt x m t) (lineAt x i t)) × (subtractFractions (curveAt x m t) (lineAt x i t) ≤f exactFraction F)
+    → (negq (value F) ≤q curve (value (x .break m)) (value (x .break (m + 1))) (λ k. value (x .coefficient m k)) (cls t) -q line
+    (value (x .parameter i)) (value (x .parameter (i + 1))) (value (x .waypoint i)) (value (x .waypoint (i + 1))) (cls t))
+    × (curve (value (x .break m)) (value (x .break (m + 1))) (λ k. value (x .coefficient m k)) (cls t) -q line (value (x .parameter i))
+    (value (x .parameter (i + 1))) (value (x .waypoint i)) (value (x .waypoint (i + 1))) (cls t) ≤q value F)
+    → (negateFraction (exactFraction F) ≤f subtractFractions (curveAt x m t) (lineAt x i t))
+    × (subtractFractions (curveAt x m t) (lineAt x i t) ≤f exactFraction F)
 unfolding _+q_ _*q_ negq inverse
 written x F t m i b = (
   ≤q-means-≤f (negateFraction (exactFraction F)) (subtractFractions (curveAt x m t) (lineAt x i t)) (b .0),
   ≤q-means-≤f (subtractFractions (curveAt x m t) (lineAt x i t)) (exactFraction F) (b .1),
 )
 
--- The distance theorem: if breaks and normalised parameters rise from 0 to 1, as the checks 24, 5 and 6 ensure, and the definition gives the figure F,
--- then the distance rule holds for F.
-pub distance-theorem : (x : Axis) (F : Float) → Rises (x .segments) (x .break) → Rises (x .intervals) (x .parameter) → figureOf x ≡ figure F → DistanceRule x F
+-- The distance theorem: if breaks and normalised parameters rise from 0 to 1, as the checks 24, 5 and 6 ensure, and the definition gives
+-- the figure F, then the distance rule holds for F.
+pub distance-theorem : (x : Axis) (F : Float) → Rises (x .segments) (x .break) → Rises (x .intervals) (x .parameter) → figureOf x ≡ figure F
+    → DistanceRule x F
 distance-theorem x F breaks parameters given =
     record {
       finite-figure = given-finite x F given;

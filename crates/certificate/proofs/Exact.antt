@@ -1,5 +1,5 @@
--- Over exact fractions, the figure's formulas give the Bernstein coefficients of curve minus line on [left, right]; so a bound of the six bounds the
--- difference everywhere there.
+-- Over exact fractions, the figure's formulas give the Bernstein coefficients of curve minus line on [left, right]; so a bound of the six
+-- bounds the difference everywhere there.
 use mathlib.Core.List.{[], _∷_}
 use mathlib.Core.Path.{_∙_, _≡_, ap, refl, subst, sym}
 use Prim.Native.Nat.{ℕ, zero, suc, _+_, _-_, _<_, _≤_}
@@ -48,14 +48,16 @@ total-from first (suc n) f h =
 total-is-sum : (n : ℕ) (f : ℕ → ℚ) → total exact 0 (suc n) f ≡ sum rationalRing n f
 unfolding total
 total-is-sum zero f = solve rationalRing (f 0 ∷ []) (con (pos 0) ⊕ v0) v0 tt
-total-is-sum (suc n) f = ap (λ (z : ℚ). z +q f (0 + suc n)) (total-is-sum n f) ∙ ap (λ (k : ℕ). sum rationalRing n f +q f k) (zero-add (suc n)) ∙ sym (sum-last rationalRing n f)
+total-is-sum (suc n) f = ap (λ (z : ℚ). z +q f (0 + suc n)) (total-is-sum n f) ∙ ap (λ (k : ℕ). sum rationalRing n f +q f k) (zero-add
+    (suc n)) ∙ sym (sum-last rationalRing n f)
 
 -- terms that are 0 after k
 sum-to : (k d n : ℕ) (f : ℕ → ℚ) → n ≡ d + k → ((j : ℕ) → k < j → f j ≡ 𝟘) → sum rationalRing n f ≡ sum rationalRing k f
 sum-to k zero n f e h = ap (λ (m : ℕ). sum rationalRing m f) (e ∙ zero-add k)
 sum-to k (suc d) n f e h =
     let g : n ≡ suc (d + k) = omega arith in
-    ap (λ (m : ℕ). sum rationalRing m f) g ∙ sum-last rationalRing (d + k) f ∙ ap (λ (z : ℚ). sum rationalRing (d + k) f +q z) (h (suc (d + k)) (omega arith))
+    ap (λ (m : ℕ). sum rationalRing m f) g ∙ sum-last rationalRing (d + k) f ∙ ap (λ (z : ℚ). sum rationalRing (d + k) f +q z) (h
+    (suc (d + k)) (omega arith))
     ∙ rationalRing .add-zero (sum rationalRing (d + k) f) ∙ sum-to k d (d + k) f refl h
 
 raised-is : (u : ℚ) (k : ℕ) → raised exact u k ≡ power rationalRing u k
@@ -75,10 +77,12 @@ power-is p u w j l =
     ∙ ap (λ (n : ℕ). total exact 0 n f) e ∙ total-is-sum 5 f)
     ∙ rationalRing .mul-comm (sum rationalRing 5 f) (raised exact w j)
     ∙ sym (sum-scale rationalRing 5 (raised exact w j) f)
-    ∙ sum-equal rationalRing 5 (λ k. raised exact w j *q f k) (λ k. wholeq (pos (choose k j)) *q (p k *q (power rationalRing u (k - j) *q power rationalRing w j)))
+    ∙ sum-equal rationalRing 5 (λ k. raised exact w j *q f k) (λ k. wholeq (pos (choose k j)) *q
+    (p k *q (power rationalRing u (k - j) *q power rationalRing w j)))
     (λ k h. ap (λ (z : ℚ). z *q (wholeq (pos (choose k j)) *q p k *q raised exact u (k - j))) (raised-is w j)
     ∙ ap (λ (z : ℚ). power rationalRing w j *q (wholeq (pos (choose k j)) *q p k *q z)) (raised-is u (k - j))
-    ∙ solve rationalRing (wholeq (pos (choose k j)) ∷ p k ∷ power rationalRing u (k - j) ∷ power rationalRing w j ∷ []) (v3 ⊗ (v0 ⊗ v1 ⊗ v2)) (v0 ⊗ (v1 ⊗ (v2 ⊗ v3))) tt)
+    ∙ solve rationalRing (wholeq (pos (choose k j)) ∷ p k ∷ power rationalRing u (k - j) ∷ power rationalRing w j ∷ [])
+    (v3 ⊗ (v0 ⊗ v1 ⊗ v2)) (v0 ⊗ (v1 ⊗ (v2 ⊗ v3))) tt)
 
 -- and `bernstein` gives the Bernstein coefficients
 bernstein-is : (q : ℕ → ℚ) (k : ℕ) → k ≤ 5 → bernstein exact q k ≡ bernsteinCoefficient 5 q k
@@ -86,16 +90,19 @@ unfolding bernstein
 bernstein-is q k l =
     let f : ℕ → ℚ = λ j. q j *q wholeq (pos (choose k j)) /q wholeq (pos (choose 5 j)) in
     total-is-sum k f
-    ∙ sym (sum-to k (5 - k) 5 f (omega arith) (λ j h. ap (λ (z : ℕ). q j *q wholeq (pos z) /q wholeq (pos (choose 5 j))) (choose-above k j h)
+    ∙ sym (sum-to k (5 - k) 5 f (omega arith) (λ j h. ap (λ (z : ℕ). q j *q wholeq (pos z) /q wholeq (pos (choose 5 j)))
+    (choose-above k j h)
     ∙ solve rationalRing (q j ∷ inverse (wholeq (pos (choose 5 j))) ∷ []) (v0 ⊗ con (pos 0) ⊗ v1) (con (pos 0)) tt))
 
 -- ---- curve minus line on an intersection
 -- with c and r taken off the powers 0 and 1, the polynomial loses c + r * v
-without-is : (c r : ℚ) (q : ℕ → ℚ) (v : ℚ) → polynomial rationalRing 5 (without exact c r q) v ≡ polynomial rationalRing 5 q v -q (c +q r *q v)
+without-is : (c r : ℚ) (q : ℕ → ℚ) (v : ℚ) → polynomial rationalRing 5 (without exact c r q) v
+    ≡ polynomial rationalRing 5 q v -q (c +q r *q v)
 without-is c r q v =
     let rest = sum rationalRing 3 (λ k. q (suc (suc k)) *q power rationalRing v (suc (suc k))) in
     solve rationalRing (q 0 ∷ q 1 ∷ c ∷ r ∷ v ∷ rest ∷ [])
-    ((v0 ⊖ v2) ⊗ con (pos 1) ⊕ ((v1 ⊖ v3) ⊗ (v4 ⊗ con (pos 1)) ⊕ v5)) (v0 ⊗ con (pos 1) ⊕ (v1 ⊗ (v4 ⊗ con (pos 1)) ⊕ v5) ⊖ (v2 ⊕ v3 ⊗ v4)) tt
+    ((v0 ⊖ v2) ⊗ con (pos 1) ⊕ ((v1 ⊖ v3) ⊗ (v4 ⊗ con (pos 1)) ⊕ v5)) (v0 ⊗ con (pos 1) ⊕ (v1 ⊗ (v4 ⊗ con (pos 1)) ⊕ v5) ⊖ (v2 ⊕ v3 ⊗ v4))
+    tt
 
 -- (t - a) / c is (l - a) / c + ((r - l) / c) * v, for the v of t between l and r
 between : (t a i l r : ℚ) → Above (r -q l) → (t -q a) *q i ≡ (l -q a) *q i +q (r -q l) *q i *q ((t -q l) /q (r -q l))
@@ -120,7 +127,8 @@ module _ (x : Intersection) where
 
   -- curve minus line
   abbrev pub difference : ℚ → ℚ
-  difference t = curve (value (x .start)) (value (x .end)) (λ k. value (x .coefficient k)) t -q line (value (x .from)) (value (x .to)) (value (x .first)) (value (x .second)) t
+  difference t = curve (value (x .start)) (value (x .end)) (λ k. value (x .coefficient k)) t -q line (value (x .from)) (value (x .to))
+      (value (x .first)) (value (x .second)) t
 
   difference-is : (t : ℚ) → l <q r → difference t ≡ polynomial rationalRing 5 (differencePower exact x) ((t -q l) /q (r -q l))
   difference-is t h =
@@ -132,10 +140,12 @@ module _ (x : Intersection) where
       let i = inverse (value (x .to) -q s) in
       let y = value (x .first) in
       let d = value (x .second) -q y in
-      ap (λ (z : ℚ). polynomial rationalRing 5 p z -q line s (value (x .to)) y (value (x .second)) t) (between t (value (x .start)) (inverse (value (x .end) -q value (x .start))) l r A)
+      ap (λ (z : ℚ). polynomial rationalRing 5 p z -q line s (value (x .to)) y (value (x .second)) t)
+      (between t (value (x .start)) (inverse (value (x .end) -q value (x .start))) l r A)
       ∙ ap (λ (z : ℚ). z -q line s (value (x .to)) y (value (x .second)) t)
       (expand rationalRing 5 p (offset exact x) (scale exact x) v
-      ∙ sum-equal rationalRing 5 (λ k. expandedCoefficient rationalRing 5 p (offset exact x) (scale exact x) k *q power rationalRing v k) (λ k. q k *q power rationalRing v k)
+      ∙ sum-equal rationalRing 5 (λ k. expandedCoefficient rationalRing 5 p (offset exact x) (scale exact x) k *q power rationalRing v k)
+      (λ k. q k *q power rationalRing v k)
       (λ k m. ap (λ (z : ℚ). z *q power rationalRing v k) (sym (power-is p (offset exact x) (scale exact x) k m))))
       ∙ ap (λ (z : ℚ). polynomial rationalRing 5 q v -q (y +q z *q d)) (between t s i l r A)
       ∙ ap (λ (z : ℚ). polynomial rationalRing 5 q v -q z)
@@ -143,7 +153,8 @@ module _ (x : Intersection) where
       ∙ sym (without-is (lineAtLeft exact x) (lineRise exact x) q v)
 
   -- if the six exact Bernstein coefficients are at most m in size, so is curve minus line from left to right
-  pub difference-within : (m t : ℚ) → l <q r → l ≤q t → t ≤q r → ((k : ℕ) → k ≤ 5 → absolute (differenceBernstein exact x k) ≤q m) → (negq m ≤q difference t) × (difference t ≤q m)
+  pub difference-within : (m t : ℚ) → l <q r → l ≤q t → t ≤q r → ((k : ℕ) → k ≤ 5 → absolute (differenceBernstein exact x k) ≤q m)
+      → (negq m ≤q difference t) × (difference t ≤q m)
   difference-within m t h lt tr b =
       let A = difference-above l r h in
       let I = inverse-nonnegative (r -q l) (<q-weaken 𝟘 (r -q l) A) in
@@ -154,11 +165,13 @@ module _ (x : Intersection) where
       (λ k k5. let B = differenceBernstein exact x k in
       let c = bernstein-is q k k5 in
       let g = absolute-above B in (
-        subst (λ (z : ℚ). negq m ≤q z) c (le-one rationalRing _≤q_ rationalOrder (m ∷ B ∷ []) (opposite v0) v1 (con (pos 1)) (opposite v1) v0 tt (≤q-whole 1) (≤q-trans (negq B) (absolute B) m (g .1) (b k k5))),
+        subst (λ (z : ℚ). negq m ≤q z) c (le-one rationalRing _≤q_ rationalOrder (m ∷ B ∷ []) (opposite v0) v1 (con (pos 1)) (opposite v1)
+            v0 tt (≤q-whole 1) (≤q-trans (negq B) (absolute B) m (g .1) (b k k5))),
         subst (λ (z : ℚ). z ≤q m) c (≤q-trans B (absolute B) m (g .0) (b k k5)),
       ))
       (rationalOrder .nonnegative-mul (t -q l) (inverse (r -q l)) (nonnegative-difference rationalRing _≤q_ rationalOrder l t lt) I)
-      (subst (λ (z : ℚ). v ≤q z) (inverse-is (r -q l) A) (le-one rationalRing _≤q_ rationalOrder (t ∷ l ∷ r ∷ inverse (r -q l) ∷ []) ((v0 ⊖ v1) ⊗ v3) ((v2 ⊖ v1) ⊗ v3) v3 v0 v2 tt I tr)) in (
+      (subst (λ (z : ℚ). v ≤q z) (inverse-is (r -q l) A) (le-one rationalRing _≤q_ rationalOrder (t ∷ l ∷ r ∷ inverse (r -q l) ∷ [])
+      ((v0 ⊖ v1) ⊗ v3) ((v2 ⊖ v1) ⊗ v3) v3 v0 v2 tt I tr)) in (
         subst (λ (z : ℚ). negq m ≤q z) e (w .0),
         subst (λ (z : ℚ). z ≤q m) e (w .1),
       )

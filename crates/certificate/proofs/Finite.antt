@@ -1,5 +1,5 @@
--- A figure is given only where the coefficients and the waypoints are finite: a number that is not finite is no pair, an operation with no pair gives none,
--- and every coefficient and waypoint takes part in some intersection.
+-- A figure is given only where the coefficients and the waypoints are finite: a number that is not finite is no pair, an operation with no
+-- pair gives none, and every coefficient and waypoint takes part in some intersection.
 use mathlib.Core.Bool.{Bool, _&&_, cond, false, true}
 use mathlib.Core.Path.{_≡_, subst}
 use Prim.Native.Nat.{ℕ, zero, suc, _+_, _-_, _<_, _≤_}
@@ -50,29 +50,38 @@ module _ (x : Intersection) (t : T (isPair (differenceBernstein ends x 0))) wher
   power-zero : T (isPair (differencePower ends x 0))
   unfolding bernstein
   power-zero =
-      let h = total-terms 0 1 (λ j. dividePairs binary64 (multiplyPairs binary64 (differencePower ends x j) (ends .whole (choose 0 j))) (ends .whole (choose 5 j))) t 0 (omega arith) in
+      let h = total-terms 0 1 (λ j. dividePairs binary64 (multiplyPairs binary64 (differencePower ends x j) (ends .whole (choose 0 j)))
+      (ends .whole (choose 5 j))) t 0 (omega arith) in
       sides (multiplyPairs binary64) multiply-strict (differencePower ends x 0) (ends .whole 1)
-      (sides (dividePairs binary64) divide-strict (multiplyPairs binary64 (differencePower ends x 0) (ends .whole 1)) (ends .whole 1) h .0) .0
+      (sides (dividePairs binary64) divide-strict (multiplyPairs binary64 (differencePower ends x 0) (ends .whole 1)) (ends .whole 1)
+      h .0) .0
 
   parts : T (isPair (power ends (λ k. ends .number (x .coefficient k)) (offset ends x) (scale ends x) 0)) × T (isPair (lineAtLeft ends x))
-  parts = sides (subtractPairs binary64) subtract-strict (power ends (λ k. ends .number (x .coefficient k)) (offset ends x) (scale ends x) 0) (lineAtLeft ends x) power-zero
+  parts = sides (subtractPairs binary64) subtract-strict (power ends (λ k. ends .number (x .coefficient k)) (offset ends x) (scale ends x)
+      0) (lineAtLeft ends x) power-zero
 
   coefficient-finite : (k : ℕ) → k < 6 → T (finite (x .coefficient k))
   unfolding power
   coefficient-finite k l =
-      let f : ℕ → Ends = λ k. multiplyPairs binary64 (multiplyPairs binary64 (ends .whole (choose k 0)) (ends .number (x .coefficient k))) (raised ends (offset ends x) (k - 0)) in
+      let f : ℕ → Ends = λ k. multiplyPairs binary64 (multiplyPairs binary64 (ends .whole (choose k 0)) (ends .number (x .coefficient k)))
+      (raised ends (offset ends x) (k - 0)) in
       let e : 0 + k ≡ k = omega arith in
-      let h = subst (λ (j : ℕ). T (isPair (f j))) e (total-terms 0 6 f (sides (multiplyPairs binary64) multiply-strict (total ends 0 6 f) (raised ends (scale ends x) 0) (parts .0) .0) k l) in
+      let h = subst (λ (j : ℕ). T (isPair (f j))) e
+      (total-terms 0 6 f (sides (multiplyPairs binary64) multiply-strict (total ends 0 6 f) (raised ends (scale ends x) 0) (parts .0) .0) k
+      l) in
       number-finite (x .coefficient k)
       (sides (multiplyPairs binary64) multiply-strict (ends .whole (choose k 0)) (ends .number (x .coefficient k))
-      (sides (multiplyPairs binary64) multiply-strict (multiplyPairs binary64 (ends .whole (choose k 0)) (ends .number (x .coefficient k))) (raised ends (offset ends x) (k - 0)) h .0) .1)
+      (sides (multiplyPairs binary64) multiply-strict (multiplyPairs binary64 (ends .whole (choose k 0)) (ends .number (x .coefficient k)))
+      (raised ends (offset ends x) (k - 0)) h .0) .1)
 
   waypoints : T (finite (x .first)) × T (finite (x .second))
   waypoints =
       let D = subtractPairs binary64 (ends .number (x .second)) (ends .number (x .first)) in
-      let q = dividePairs binary64 (subtractPairs binary64 (ends .number (x .left)) (ends .number (x .from))) (subtractPairs binary64 (ends .number (x .to)) (ends .number (x .from))) in
+      let q = dividePairs binary64 (subtractPairs binary64 (ends .number (x .left)) (ends .number (x .from)))
+      (subtractPairs binary64 (ends .number (x .to)) (ends .number (x .from))) in
       let h = sides (addPairs binary64) add-strict (ends .number (x .first)) (multiplyPairs binary64 q D) (parts .1) in
-      let g = sides (subtractPairs binary64) subtract-strict (ends .number (x .second)) (ends .number (x .first)) (sides (multiplyPairs binary64) multiply-strict q D (h .1) .1) in
+      let g = sides (subtractPairs binary64) subtract-strict (ends .number (x .second)) (ends .number (x .first))
+      (sides (multiplyPairs binary64) multiply-strict q D (h .1) .1) in
       (number-finite (x .first) (h .0), number-finite (x .second) (g .0))
 
 has-pair : (e : Ends) (m : ℚ) → AtMost (absoluteEnd e) m → T (isPair e)
@@ -80,11 +89,14 @@ unfolding absoluteEnd
 has-pair (pair a b) m h = tt
 has-pair none m h = absurd h
 
-module _ (x : Axis) (breaks : Rises (x .segments) (x .break)) (parameters : Rises (x .intervals) (x .parameter)) (F : Float) (given : figureOf x ≡ figure F) where
-  counted : (m i : ℕ) → m < x .segments → i < x .intervals → value (x .break m) <q value (x .parameter (i + 1)) → value (x .parameter i) <q value (x .break (m + 1)) → T (isPair (differenceBernstein ends (intersection x i m) 0))
+module _ (x : Axis) (breaks : Rises (x .segments) (x .break)) (parameters : Rises (x .intervals) (x .parameter)) (F : Float)
+    (given : figureOf x ≡ figure F) where
+  counted : (m i : ℕ) → m < x .segments → i < x .intervals → value (x .break m) <q value (x .parameter (i + 1))
+      → value (x .parameter i) <q value (x .break (m + 1)) → T (isPair (differenceBernstein ends (intersection x i m) 0))
   counted m i m< i< p q =
       has-pair (differenceBernstein ends (intersection x i m) 0) (value F)
-      (intersection-ends (intersection x i m) (value F) (given-at-least x F given i m i< m< (overlap x breaks parameters m i m< i< p q)) 0 (omega arith))
+      (intersection-ends (intersection x i m) (value F) (given-at-least x F given i m i< m< (overlap x breaks parameters m i m< i< p q)) 0
+      (omega arith))
 
   -- the six coefficients of every segment are finite
   pub coefficients-finite : (m k : ℕ) → m < x .segments → k ≤ 5 → T (finite (x .coefficient m k))
@@ -92,14 +104,16 @@ module _ (x : Axis) (breaks : Rises (x .segments) (x .break)) (parameters : Rise
   coefficients-finite m k m< l =
       let w = located (x .segments) (x .break) (x .intervals) (x .parameter) breaks parameters m m< in
       coefficient-finite (intersection x (w .place) m)
-      (counted m (w .place) m< (w .inside) (w .below) (≤q-<q-trans (value (x .parameter (w .place))) (value (x .break m)) (value (x .break (m + 1))) (w .above) (rises-strictly (x .segments) (x .break) breaks m m<))) k (omega arith)
+      (counted m (w .place) m< (w .inside) (w .below) (≤q-<q-trans (value (x .parameter (w .place))) (value (x .break m))
+      (value (x .break (m + 1))) (w .above) (rises-strictly (x .segments) (x .break) breaks m m<))) k (omega arith)
 
   ends-finite : (i : ℕ) → i < x .intervals → T (finite (x .waypoint i)) × T (finite (x .waypoint (i + 1)))
   unfolding intersection
   ends-finite i i< =
       let w = located (x .intervals) (x .parameter) (x .segments) (x .break) parameters breaks i i< in
       waypoints (intersection x i (w .place))
-      (counted (w .place) i (w .inside) i< (≤q-<q-trans (value (x .break (w .place))) (value (x .parameter i)) (value (x .parameter (i + 1))) (w .above) (rises-strictly (x .intervals) (x .parameter) parameters i i<)) (w .below))
+      (counted (w .place) i (w .inside) i< (≤q-<q-trans (value (x .break (w .place))) (value (x .parameter i))
+      (value (x .parameter (i + 1))) (w .above) (rises-strictly (x .intervals) (x .parameter) parameters i i<)) (w .below))
 
   -- every waypoint is finite
   pub waypoints-finite : (i : ℕ) → i ≤ x .intervals → T (finite (x .waypoint i))

@@ -39,7 +39,11 @@ larger-sound noFigure h G H = tt
 larger-at-most : (g h : Figure) (m : ℚ) → Sound g → Sound h → AtMost (larger g h) m → AtMost g m × AtMost h m
 unfolding larger
 larger-at-most (figure x) (figure y) m G H l =
-    let w = highest-is x y G H in (≤q-trans (value x) (value (highest x y)) m (w .first) l, ≤q-trans (value y) (value (highest x y)) m (w .second) l)
+    let w = highest-is x y G H in (
+      ≤q-trans (value x) (value (highest x y)) m (w .first) l,
+      ≤q-trans (value y) (value (highest x y)) m
+          (w .second) l,
+    )
 larger-at-most (figure x) noFigure m G H l = absurd l
 larger-at-most noFigure h m G H l = absurd l
 
@@ -62,9 +66,14 @@ module _ (m : ℚ) (f : ℕ → Figure → Figure) where
   turns-grow (suc n) a G =
       let now = G a (omega arith) in
       let rest = turns-grow n (a + 1) (λ i l. G i (omega arith)) in
-      record { sound = λ g h. rest .sound (f a g) (now .sound g h); at-most = λ g h l. now .at-most g h (rest .at-most (f a g) (now .sound g h) l) }
+      record {
+        sound = λ g h. rest .sound (f a g) (now .sound g h);
+        at-most = λ g h l. now .at-most g h
+            (rest .at-most (f a g) (now .sound g h) l);
+      }
 
-  turns-reach : (n a : ℕ) → ((i : ℕ) → i < a + n → Grows m (f i)) → (g : Figure) → Sound g → AtMost (turns f n a g) m → (j : ℕ) → a ≤ j → j < a + n → Reached m (f j)
+  turns-reach : (n a : ℕ) → ((i : ℕ) → i < a + n → Grows m (f i)) → (g : Figure) → Sound g → AtMost (turns f n a g) m → (j : ℕ) → a ≤ j → j
+      < a + n → Reached m (f j)
   unfolding turns
   turns-reach zero a G g h l j aj jn = absurd (omega arith)
   turns-reach (suc n) a G g h l j aj jn =
@@ -73,14 +82,20 @@ module _ (m : ℚ) (f : ℕ → Figure → Figure) where
         | yes k ↦ turns-reach n (a + 1) G′ (f a g) (G a (omega arith) .sound g h) l j (omega arith) (omega arith)
         | no k ↦
             let e : a ≡ j = omega arith in
-            subst (λ (i : ℕ). Reached m (f i)) e (record { so-far = g; sound = h; at-most = turns-grow n (a + 1) G′ .at-most (f a g) (G a (omega arith) .sound g h) l })
+            subst (λ (i : ℕ). Reached m (f i)) e (record {
+              so-far = g;
+              sound = h;
+              at-most = turns-grow n (a + 1) G′ .at-most (f a g)
+                  (G a (omega arith) .sound g h) l;
+            })
       ]
 
   each-grows : (n : ℕ) → ((i : ℕ) → i < n → Grows m (f i)) → Grows m (each f 0 n)
   unfolding each
   each-grows n G = turns-grow (n - 0) 0 (λ i l. G i (omega arith))
 
-  each-reach : (n : ℕ) → ((i : ℕ) → i < n → Grows m (f i)) → (g : Figure) → Sound g → AtMost (each f 0 n g) m → (j : ℕ) → j < n → Reached m (f j)
+  each-reach : (n : ℕ) → ((i : ℕ) → i < n → Grows m (f i)) → (g : Figure) → Sound g → AtMost (each f 0 n g) m → (j : ℕ) → j < n
+      → Reached m (f j)
   unfolding each
   each-reach n G g h l j jn = turns-reach (n - 0) 0 (λ i k. G i (omega arith)) g h l j (omega arith) (omega arith)
 
@@ -112,18 +127,21 @@ module _ (x : Intersection) (m : ℚ) where
 
   intersection-sound : Sound (intersectionFigure x)
   unfolding intersectionFigure
-  intersection-sound = each-grows m (λ k so-far. larger so-far (absoluteEnd (differenceBernstein ends x k))) 6 bernstein-grows .sound (figure +0) zero-sound
+  intersection-sound = each-grows m (λ k so-far. larger so-far (absoluteEnd (differenceBernstein ends x k))) 6 bernstein-grows .sound
+      (figure +0) zero-sound
 
   -- the pair of each Bernstein coefficient has an absolute end at most the intersection's figure
   pub intersection-ends : AtMost (intersectionFigure x) m → (k : ℕ) → k ≤ 5 → AtMost (absoluteEnd (differenceBernstein ends x k)) m
   unfolding intersectionFigure
   intersection-ends h k l =
-      let r = each-reach m (λ k so-far. larger so-far (absoluteEnd (differenceBernstein ends x k))) 6 bernstein-grows (figure +0) zero-sound h k (omega arith) in
+      let r = each-reach m (λ k so-far. larger so-far (absoluteEnd (differenceBernstein ends x k))) 6 bernstein-grows (figure +0) zero-sound
+      h k (omega arith) in
       larger-at-most (r .so-far) (absoluteEnd (differenceBernstein ends x k)) m (r .sound) (bernstein-sound k (omega arith)) (r .at-most) .1
 
   -- an intersection's figure bounds its six exact Bernstein coefficients
   pub intersection-bounds : AtMost (intersectionFigure x) m → (k : ℕ) → k ≤ 5 → absolute (differenceBernstein exact x k) ≤q m
-  intersection-bounds h k l = absolute-at-most (differenceBernstein ends x k) (differenceBernstein exact x k) m (bernstein-encloses x k l) (intersection-ends h k l)
+  intersection-bounds h k l = absolute-at-most (differenceBernstein ends x k) (differenceBernstein exact x k) m (bernstein-encloses x k l)
+      (intersection-ends h k l)
 
 -- ---- all intersections
 module _ (x : Axis) where
@@ -138,16 +156,21 @@ module _ (x : Axis) where
   figure-sound : Sound (figureOf x)
   unfolding figureOf
   figure-sound =
-      each-grows (value +0) (λ i. each (withIntersection x i) 0 (x .segments)) (x .intervals) (λ i _. each-grows (value +0) (withIntersection x i) (x .segments) (λ n _. with-grows (value +0) i n)) .sound (figure +0) zero-sound
+      each-grows (value +0) (λ i. each (withIntersection x i) 0 (x .segments)) (x .intervals)
+      (λ i _. each-grows (value +0) (withIntersection x i) (x .segments) (λ n _. with-grows (value +0) i n)) .sound (figure +0) zero-sound
 
-  figure-reach : (m : ℚ) → AtMost (figureOf x) m → (i n : ℕ) → i < x .intervals → n < x .segments → T (lt (intersection x i n .left) (intersection x i n .right)) → AtMost (intersectionFigure (intersection x i n)) m
+  figure-reach : (m : ℚ) → AtMost (figureOf x) m → (i n : ℕ) → i < x .intervals → n < x .segments
+      → T (lt (intersection x i n .left) (intersection x i n .right)) → AtMost (intersectionFigure (intersection x i n)) m
   unfolding figureOf withIntersection
   figure-reach m h i n il nl t =
-      let outer = each-reach m (λ i. each (withIntersection x i) 0 (x .segments)) (x .intervals) (λ i _. each-grows m (withIntersection x i) (x .segments) (λ n _. with-grows m i n)) (figure +0) zero-sound h i il in
-      let inner = each-reach m (withIntersection x i) (x .segments) (λ n _. with-grows m i n) (outer .so-far) (outer .sound) (outer .at-most) n nl in
+      let outer = each-reach m (λ i. each (withIntersection x i) 0 (x .segments)) (x .intervals)
+      (λ i _. each-grows m (withIntersection x i) (x .segments) (λ n _. with-grows m i n)) (figure +0) zero-sound h i il in
+      let inner = each-reach m (withIntersection x i) (x .segments) (λ n _. with-grows m i n) (outer .so-far) (outer .sound)
+      (outer .at-most) n nl in
       go (lt (intersection x i n .left) (intersection x i n .right)) t (inner .so-far) (inner .sound) (inner .at-most)
     where
-      go : (b : Bool) → T b → (g : Figure) → Sound g → AtMost (cond b (larger g (intersectionFigure (intersection x i n))) g) m → AtMost (intersectionFigure (intersection x i n)) m
+      go : (b : Bool) → T b → (g : Figure) → Sound g → AtMost (cond b (larger g (intersectionFigure (intersection x i n))) g) m
+          → AtMost (intersectionFigure (intersection x i n)) m
       go true t g G l = larger-at-most g (intersectionFigure (intersection x i n)) m G (intersection-sound (intersection x i n) m) l .1
       go false t g G l = absurd t
 
@@ -157,5 +180,6 @@ module _ (x : Axis) where
     given-finite = subst Sound given figure-sound
 
     -- the figure given is at least that of every intersection
-    pub given-at-least : (i n : ℕ) → i < x .intervals → n < x .segments → T (lt (intersection x i n .left) (intersection x i n .right)) → AtMost (intersectionFigure (intersection x i n)) (value F)
+    pub given-at-least : (i n : ℕ) → i < x .intervals → n < x .segments → T (lt (intersection x i n .left) (intersection x i n .right))
+        → AtMost (intersectionFigure (intersection x i n)) (value F)
     given-at-least = figure-reach (value F) (subst (λ (g : Figure). AtMost g (value F)) (sym given) (≤q-refl (value F)))

@@ -14,14 +14,16 @@ kept-twice true false e r k p q = p ∙ q
 kept-twice false h e r k p q = p
 
 -- an operation on pairs that may be none
-pub operation-is : (f : Ends → Ends → Ends) → Strict f → (g h : Bool) (a b c d : Float) (r k e : Ends) → r ≡ cond g k none → k ≡ cond h e none → e ≡ f (pair a b) (pair c d)
+pub operation-is : (f : Ends → Ends → Ends) → Strict f → (g h : Bool) (a b c d : Float) (r k e : Ends) → r ≡ cond g k none → k
+    ≡ cond h e none → e ≡ f (pair a b) (pair c d)
     → r ≡ f (cond g (pair a b) none) (cond h (pair c d) none)
 operation-is f S true true a b c d r k e p q w = p ∙ q ∙ w
 operation-is f S true false a b c d r k e p q w = p ∙ q ∙ sym (S .right a b)
 operation-is f S false h a b c d r k e p q w = p ∙ sym (S .left (cond h (pair c d) none))
 
 -- the ends moved outward, if they are finite before and after
-pub moved-is : (low high : Float) (e r k : Ends) → r ≡ cond (finite low) k none → k ≡ cond (finite high) e none → e ≡ finiteEnds (nextDown binary64 low) (nextUp binary64 high) → r ≡ moved binary64 (finiteEnds low high)
+pub moved-is : (low high : Float) (e r k : Ends) → r ≡ cond (finite low) k none → k ≡ cond (finite high) e none → e
+    ≡ finiteEnds (nextDown binary64 low) (nextUp binary64 high) → r ≡ moved binary64 (finiteEnds low high)
 unfolding moved finiteEnds
 moved-is low high e r k p q w = go (finite low) (finite high) p q
   where

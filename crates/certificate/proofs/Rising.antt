@@ -36,7 +36,8 @@ module _ (count : ℕ) (x : ℕ → Float) (r : Rises count x) where
   pub rises-finite : (i : ℕ) → i ≤ count → T (finite (x i))
   rises-finite i l = elim (decLt 0 i) [
     | yes a ↦ elim (decLt i count) [
-      | yes b ↦ let e : i - 1 + 1 ≡ i = omega arith in between-finite (x i) (x (i - 1)) (x (i + 1)) (subst (λ (k : ℕ). T (lt (x (i - 1)) (x k))) e (r .rising (i - 1) (omega arith))) (r .rising i b)
+      | yes b ↦ let e : i - 1 + 1 ≡ i = omega arith in between-finite (x i) (x (i - 1)) (x (i + 1))
+          (subst (λ (k : ℕ). T (lt (x (i - 1)) (x k))) e (r .rising (i - 1) (omega arith))) (r .rising i b)
       | no b ↦ let e : count ≡ i = omega arith in subst (λ (k : ℕ). T (finite (x k))) e (eq-finite (x count) one (r .to-one) one-finite)
     ]
     | no a ↦ let e : 0 ≡ i = omega arith in subst (λ (k : ℕ). T (finite (x k))) e (eq-finite (x 0) +0 (r .from-zero) zero-finite)
@@ -52,7 +53,8 @@ module _ (count : ℕ) (x : ℕ → Float) (r : Rises count x) where
   rises-to i (suc d) j e l =
       let g : i + d + 1 ≡ j = omega arith in
       subst (λ (k : ℕ). value (x i) ≤q value (x k)) g
-      (≤q-trans (value (x i)) (value (x (i + d))) (value (x (i + d + 1))) (rises-to i d (i + d) refl (omega arith)) (<q-weaken (value (x (i + d))) (value (x (i + d + 1))) (rises-strictly (i + d) (omega arith))))
+      (≤q-trans (value (x i)) (value (x (i + d))) (value (x (i + d + 1))) (rises-to i d (i + d) refl (omega arith))
+      (<q-weaken (value (x (i + d))) (value (x (i + d + 1))) (rises-strictly (i + d) (omega arith))))
 
 zero-below-one : value +0 <q value one
 unfolding atMostq ofBits ofFields odd

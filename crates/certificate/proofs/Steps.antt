@@ -1,5 +1,6 @@
--- The steps of the walk over both lists. It visits an interval with a segment, and goes on to the next segment or to the next interval. The pairs that
--- it passes by share at most a point, so they leave the figure as it is: what the walk has left to do gives the figure, at every step.
+-- The steps of the walk over both lists. It visits an interval with a segment, and goes on to the next segment or to the next interval. The
+-- pairs that it passes by share at most a point, so they leave the figure as it is: what the walk has left to do gives the figure, at every
+-- step.
 use mathlib.Core.Bool.{Bool, cond, false, not, true}
 use mathlib.Core.Path.{_∙_, _≡_, ap, refl, subst, sym}
 use Prim.Native.Nat.{ℕ, zero, suc, _+_, _-_, _<_, _≤_}
@@ -27,7 +28,8 @@ use Rattle.certificate.proofs.Rising.{last-is, rises-finite, rises-to}
 turns-idle : {S : Type 0} (f : ℕ → S → S) (n a : ℕ) (s : S) → ((i : ℕ) → a ≤ i → i < a + n → f i s ≡ s) → turns f n a s ≡ s
 unfolding turns
 turns-idle f zero a s h = refl
-turns-idle f (suc n) a s h = ap (turns f n (a + 1)) (h a (omega arith) (omega arith)) ∙ turns-idle f n (a + 1) s (λ i l k. h i (omega arith) (omega arith))
+turns-idle f (suc n) a s h = ap (turns f n (a + 1)) (h a (omega arith) (omega arith)) ∙ turns-idle f n (a + 1) s (λ i l k. h i (omega arith)
+    (omega arith))
 
 each-idle : {S : Type 0} (f : ℕ → S → S) (a b : ℕ) (s : S) → ((i : ℕ) → a ≤ i → i < b → f i s ≡ s) → each f a b s ≡ s
 unfolding each
@@ -78,12 +80,14 @@ module _ (x : Axis) (breaks : Rises (x .segments) (x .break)) (parameters : Rise
     left-is = highest-is (x .break m) (x .parameter i) (break-finite m (omega arith)) (parameter-finite i (omega arith))
 
     right-is : IsLowest (x .break (m + 1)) (x .parameter (i + 1)) right
-    right-is = lowest-is (x .break (m + 1)) (x .parameter (i + 1)) (break-finite (m + 1) (omega arith)) (parameter-finite (i + 1) (omega arith))
+    right-is = lowest-is (x .break (m + 1)) (x .parameter (i + 1)) (break-finite (m + 1) (omega arith))
+        (parameter-finite (i + 1) (omega arith))
 
     -- where right is at most left, the figure stays
     stays : (g : Figure) → value right ≤q value left → withIntersection x i m g ≡ g
     unfolding withIntersection intersection
-    stays g h = go (lt left right) (λ t. never (value left) (value right) (lt-value left right (left-is .is-finite) (right-is .is-finite) t) h)
+    stays g h = go (lt left right) (λ t. never (value left) (value right) (lt-value left right (left-is .is-finite) (right-is .is-finite) t)
+        h)
       where
         go : (b : Bool) → (T b → ⊥) → cond b (larger g (intersectionFigure (intersection x i m))) g ≡ g
         go true h = absurd (h tt)
@@ -91,30 +95,37 @@ module _ (x : Axis) (breaks : Rises (x .segments) (x .break)) (parameters : Rise
 
     -- the segment ends before the interval starts, or where it starts
     segment-before : (g : Figure) → a (m + 1) ≤q s i → withIntersection x i m g ≡ g
-    segment-before g h = stays g (≤q-trans (value right) (a (m + 1)) (value left) (right-is .first) (≤q-trans (a (m + 1)) (s i) (value left) h (left-is .second)))
+    segment-before g h = stays g (≤q-trans (value right) (a (m + 1)) (value left) (right-is .first)
+        (≤q-trans (a (m + 1)) (s i) (value left) h (left-is .second)))
 
     -- the interval ends before the segment starts, or where it starts
     interval-before : (g : Figure) → s (i + 1) ≤q a m → withIntersection x i m g ≡ g
-    interval-before g h = stays g (≤q-trans (value right) (s (i + 1)) (value left) (right-is .second) (≤q-trans (s (i + 1)) (a m) (value left) h (left-is .first)))
+    interval-before g h = stays g (≤q-trans (value right) (s (i + 1)) (value left) (right-is .second)
+        (≤q-trans (s (i + 1)) (a m) (value left) h (left-is .first)))
 
   module _ (i m : ℕ) (i< : i < x .intervals) (m< : m < x .segments) where
     -- ---- the segment ends inside the interval
     module _ (inside : T (lt (x .break (m + 1)) (x .parameter (i + 1)))) where
       inside-value : a (m + 1) <q s (i + 1)
-      inside-value = lt-value (x .break (m + 1)) (x .parameter (i + 1)) (break-finite (m + 1) (omega arith)) (parameter-finite (i + 1) (omega arith)) inside
+      inside-value = lt-value (x .break (m + 1)) (x .parameter (i + 1)) (break-finite (m + 1) (omega arith))
+          (parameter-finite (i + 1) (omega arith)) inside
 
       -- it shares at most a point with every later interval
       pub next-segment : (g : Figure) → rest x i m g ≡ rest x i (m + 1) (withIntersection x i m g)
       unfolding rest
       next-segment g =
-          each-turn (segmentsFrom x m) i (x .intervals) g i< ∙ ap (each (segmentsFrom x m) (i + 1) (x .intervals)) (each-turn (withIntersection x i) m (x .segments) g m<)
-          ∙ each-same (segmentsFrom x m) (segmentsFrom x (m + 1)) (i + 1) (x .intervals) (segmentsFrom x (m + 1) i (withIntersection x i m g)) later
+          each-turn (segmentsFrom x m) i (x .intervals) g i< ∙ ap (each (segmentsFrom x m) (i + 1) (x .intervals))
+          (each-turn (withIntersection x i) m (x .segments) g m<)
+          ∙ each-same (segmentsFrom x m) (segmentsFrom x (m + 1)) (i + 1) (x .intervals) (segmentsFrom x (m + 1) i
+          (withIntersection x i m g)) later
           ∙ sym (each-turn (segmentsFrom x (m + 1)) i (x .intervals) (withIntersection x i m g) i<)
         where
           later : (j : ℕ) (g : Figure) → i + 1 ≤ j → j < x .intervals → segmentsFrom x m j g ≡ segmentsFrom x (m + 1) j g
           later j g l k =
               each-turn (withIntersection x j) m (x .segments) g m<
-              ∙ ap (segmentsFrom x (m + 1) j) (segment-before j m k m< g (≤q-trans (a (m + 1)) (s (i + 1)) (s j) (<q-weaken (a (m + 1)) (s (i + 1)) inside-value) (rises-to (x .intervals) (x .parameter) parameters (i + 1) (j - (i + 1)) j (omega arith) (omega arith))))
+              ∙ ap (segmentsFrom x (m + 1) j) (segment-before j m k m< g (≤q-trans (a (m + 1)) (s (i + 1)) (s j)
+              (<q-weaken (a (m + 1)) (s (i + 1)) inside-value) (rises-to (x .intervals) (x .parameter) parameters (i + 1) (j - (i + 1)) j
+              (omega arith) (omega arith))))
 
       -- and is not the last, which ends at 1
       pub segment-remains : m + 1 < x .segments
@@ -123,19 +134,24 @@ module _ (x : Axis) (breaks : Rises (x .segments) (x .break)) (parameters : Rise
         | no l ↦
             let e : x .segments ≡ m + 1 = omega arith in
             absurd (never (a (m + 1)) (s (i + 1)) inside-value
-            (subst (λ (z : ℚ). s (i + 1) ≤q z) (last-is (x .intervals) (x .parameter) parameters ∙ sym (last-is (x .segments) (x .break) breaks) ∙ ap a e)
-            (rises-to (x .intervals) (x .parameter) parameters (i + 1) (x .intervals - (i + 1)) (x .intervals) (omega arith) (omega arith))))
+            (subst (λ (z : ℚ). s (i + 1) ≤q z) (last-is (x .intervals) (x .parameter) parameters
+            ∙ sym (last-is (x .segments) (x .break) breaks) ∙ ap a e)
+            (rises-to (x .intervals) (x .parameter) parameters (i + 1) (x .intervals - (i + 1)) (x .intervals) (omega arith)
+            (omega arith))))
       ]
 
     -- ---- the segment does not end inside the interval: the interval shares at most a point with every later segment
-    pub next-interval : (g : Figure) → T (not (lt (x .break (m + 1)) (x .parameter (i + 1)))) → rest x i m g ≡ rest x (i + 1) m (withIntersection x i m g)
+    pub next-interval : (g : Figure) → T (not (lt (x .break (m + 1)) (x .parameter (i + 1)))) → rest x i m g
+        ≡ rest x (i + 1) m (withIntersection x i m g)
     unfolding rest
     next-interval g outside =
         each-turn (segmentsFrom x m) i (x .intervals) g i<
-        ∙ ap (rest x (i + 1) m) (each-turn (withIntersection x i) m (x .segments) g m< ∙ each-idle (withIntersection x i) (m + 1) (x .segments) (withIntersection x i m g) later)
+        ∙ ap (rest x (i + 1) m) (each-turn (withIntersection x i) m (x .segments) g m< ∙ each-idle (withIntersection x i) (m +
+        1) (x .segments) (withIntersection x i m g) later)
       where
         later : (k : ℕ) → m + 1 ≤ k → k < x .segments → withIntersection x i k (withIntersection x i m g) ≡ withIntersection x i m g
         later k l h =
             interval-before i k i< h (withIntersection x i m g)
-            (≤q-trans (s (i + 1)) (a (m + 1)) (a k) (value-le-of-not-lt (x .parameter (i + 1)) (x .break (m + 1)) (parameter-finite (i + 1) (omega arith)) (break-finite (m + 1) (omega arith)) outside)
+            (≤q-trans (s (i + 1)) (a (m + 1)) (a k) (value-le-of-not-lt (x .parameter (i + 1)) (x .break (m + 1))
+            (parameter-finite (i + 1) (omega arith)) (break-finite (m + 1) (omega arith)) outside)
             (rises-to (x .segments) (x .break) breaks (m + 1) (k - (m + 1)) k (omega arith) (omega arith)))

@@ -23,7 +23,8 @@ module _ {A : Type 0} (o : Operations A) where
   total-none first n f e = rw e
 
   -- one more term, f i
-  pub total-more : (first n m i : ℕ) (f : ℕ → A) (s t r : A) → first + n ≡ i → suc n ≡ m → s ≡ total o first n f → t ≡ f i → r ≡ o .plus s t → r ≡ total o first m f
+  pub total-more : (first n m i : ℕ) (f : ℕ → A) (s t r : A) → first + n ≡ i → suc n ≡ m → s ≡ total o first n f → t ≡ f i → r ≡ o .plus s t
+      → r ≡ total o first m f
   unfolding total
   total-more first n m i f s t r a b p q e = rw (e, p, q, ← a, ← b)
 
@@ -45,7 +46,8 @@ same-keeps o =
     }
 
 -- ---- an array of six pairs
-pub holds-six : (p q r s t u : Ends) (f : ℕ → pairs.Ends) → endsOf p ≡ f 0 → endsOf q ≡ f 1 → endsOf r ≡ f 2 → endsOf s ≡ f 3 → endsOf t ≡ f 4 → endsOf u ≡ f 5
+pub holds-six : (p q r s t u : Ends) (f : ℕ → pairs.Ends) → endsOf p ≡ f 0 → endsOf q ≡ f 1 → endsOf r ≡ f 2 → endsOf s ≡ f 3 → endsOf t
+    ≡ f 4 → endsOf u ≡ f 5
     → Holds (p ∷ q ∷ r ∷ s ∷ t ∷ u ∷ []) f
 holds-six p q r s t u f a b c d e g zero l = a
 holds-six p q r s t u f a b c d e g (suc zero) l = b
@@ -57,7 +59,8 @@ holds-six p q r s t u f a b c d e g (suc (suc (suc (suc (suc (suc j)))))) l = ab
 
 -- the Bernstein coefficients of the pairs that it holds
 pub holds-bernstein : (l : List Ends) (f : ℕ → pairs.Ends) → Holds l f → (k : ℕ) → k < 6 → bernstein ends (pairAt l) k ≡ bernstein ends f k
-holds-bernstein l f h k m = bernstein-keeps ends ends (_≡_ {A = pairs.Ends}) (same-keeps ends) (pairAt l) f k (omega arith) (λ j n. h j (omega arith))
+holds-bernstein l f h k m = bernstein-keeps ends ends (_≡_ {A = pairs.Ends}) (same-keeps ends) (pairAt l) f k (omega arith)
+    (λ j n. h j (omega arith))
 
 -- ---- the table of binomials
 -- f i, f (i + 1), .., n of them

@@ -8,8 +8,9 @@ use Rattle.request.specs.declared.parameters.Spacing.{Spacing}
 use Rattle.request.specs.Parameters.{normalisedOf}
 use Rattle.certificate.specs.Figure.{Axis}
 
--- The axis at a place of the k axes of a set of segments: "their breaks and six power coefficients per segment and, within it, per axis". Its
--- waypoints are row `axis` of "waypoint after waypoint, d rows each, n waypoints"; s are "the parameters normalised as `build` does it".
+-- The axis at a place of the k axes of a set of segments: "their breaks and six power coefficients per segment and, within it, per axis".
+-- Its waypoints are row `axis` of "waypoint after waypoint, d rows each, n waypoints"; s are "the parameters normalised as `build` does
+-- it".
 abbrev pub axisOf : List Float → List Float → ℕ → ℕ → List Float → ℕ → ℕ → ℕ → Spacing → List Float → Axis
 axisOf breaks coefficients k place points d axis n spacing parameters =
     record {

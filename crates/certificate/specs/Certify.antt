@@ -64,12 +64,14 @@ outcomeOf (answers.Figure x) = outcome 0 (figure x)
 outcomeOf answers.None = outcome 0 noFigure
 outcomeOf (answers.Refused r) = outcome (refusalNumber r) noFigure
 
--- What the figure F says: the curve is well formed, its breaks and the normalised parameters rise strictly from 0 to 1, every exact fraction from 0 to 1 lies in
--- a segment and in an interval, and the distance rule holds: so curve and line are at most F apart at every fraction from 0 to 1. With the rule, the axis's
--- coefficients and its waypoints are finite.
-pub record Certified (c : Curve) (s : Slices) (points : List Float) (n : ℕ) (spacing : Spacing) (parameters : List Float) (axis : ℕ) (F : Float) : Type 0 where
+-- What the figure F says: the curve is well formed, its breaks and the normalised parameters rise strictly from 0 to 1, every exact
+-- fraction from 0 to 1 lies in a segment and in an interval, and the distance rule holds: so curve and line are at most F apart at every
+-- fraction from 0 to 1. With the rule, the axis's coefficients and its waypoints are finite.
+pub record Certified (c : Curve) (s : Slices) (points : List Float) (n : ℕ) (spacing : Spacing) (parameters : List Float) (axis : ℕ)
+    (F : Float) : Type 0 where
   pub well-formed : wellFormed c s ≡ true
   pub breaks-rise : Rises (length (s .breaks) - 1) (at (s .breaks))
   pub parameters-rise : Rises (n - 1) (normalisedOf spacing parameters n)
-  pub everywhere : (t : Fraction) → wholeFraction (pos 0) ≤f t → t ≤f wholeFraction (pos 1) → Covered (certifiedAxis c s points n spacing parameters axis) t
+  pub everywhere : (t : Fraction) → wholeFraction (pos 0) ≤f t → t ≤f wholeFraction (pos 1)
+      → Covered (certifiedAxis c s points n spacing parameters axis) t
   pub distance : DistanceRule (certifiedAxis c s points n spacing parameters axis) F

@@ -1,5 +1,6 @@
--- What the distance theorem says (document 01, "Demand 3 is the distance rule"): for every exact fraction t, the curve lies within the figure of the
--- line. Nothing here is rounded: a fraction is a whole number over a whole number above 0, and two are compared by cross products.
+-- What the distance theorem says (document 01, "Demand 3 is the distance rule"): for every exact fraction t, the curve lies within the
+-- figure of the line. Nothing here is rounded: a fraction is a whole number over a whole number above 0, and two are compared by cross
+-- products.
 use Prim.Native.Nat.{ℕ, _+_, _<_, _≤_}
 use lib.Dec.{T}
 use lib.Ieee.{Float, binary64, eq, lt, ofBits}
@@ -46,8 +47,8 @@ lineAt x i t =
     let y′ = exactFraction (x .waypoint (i + 1)) in
     addFractions y (multiplyFractions (divideFractions (subtractFractions t s) (subtractFractions s′ s)) (subtractFractions y′ y))
 
--- "The distance is at most the figure": the distance rule, for the axis x and the figure F. It holds for every segment m and every interval i that t
--- lies in: at a break for the segments on both sides, at a waypoint for the lines on both sides.
+-- "The distance is at most the figure": the distance rule, for the axis x and the figure F. It holds for every segment m and every interval
+-- i that t lies in: at a break for the segments on both sides, at a waypoint for the lines on both sides.
 -- All its numbers are finite, so that `exactFraction` is what they are worth.
 pub record DistanceRule (x : Axis) (F : Float) : Type 0 where
   pub finite-figure : T (finite F)
@@ -55,5 +56,7 @@ pub record DistanceRule (x : Axis) (F : Float) : Type 0 where
   pub finite-parameters : (i : ℕ) → i ≤ x .intervals → T (finite (x .parameter i))
   pub finite-coefficients : (m k : ℕ) → m < x .segments → k ≤ 5 → T (finite (x .coefficient m k))
   pub finite-waypoints : (i : ℕ) → i ≤ x .intervals → T (finite (x .waypoint i))
-  pub distance : (t : Fraction) (m i : ℕ) → m < x .segments → i < x .intervals → LiesIn (x .break m) (x .break (m + 1)) t → LiesIn (x .parameter i) (x .parameter (i + 1)) t
-      → (negateFraction (exactFraction F) ≤f subtractFractions (curveAt x m t) (lineAt x i t)) × (subtractFractions (curveAt x m t) (lineAt x i t) ≤f exactFraction F)
+  pub distance : (t : Fraction) (m i : ℕ) → m < x .segments → i < x .intervals → LiesIn (x .break m) (x .break (m + 1)) t
+      → LiesIn (x .parameter i) (x .parameter (i + 1)) t
+      → (negateFraction (exactFraction F) ≤f subtractFractions (curveAt x m t) (lineAt x i t))
+      × (subtractFractions (curveAt x m t) (lineAt x i t) ≤f exactFraction F)

@@ -29,8 +29,8 @@ unfoldable pub intersectionFigure : Intersection → Figure
 unfolding larger absoluteEnd
 intersectionFigure x = each (λ k so-far. larger so-far (absoluteEnd (differenceBernstein ends x k))) 0 6 (figure +0)
 
--- The segment from a to b with the coefficients p, and the interval from s to s′ with the waypoints y and y′. left is the larger of a and s, right the
--- smaller of b and s′; of equal ones (0 and -0 are) either will do, since every difference is moved outward.
+-- The segment from a to b with the coefficients p, and the interval from s to s′ with the waypoints y and y′. left is the larger of a and
+-- s, right the smaller of b and s′; of equal ones (0 and -0 are) either will do, since every difference is moved outward.
 abbrev pub meeting : Float → Float → (ℕ → Float) → Float → Float → Float → Float → Intersection
 meeting a b p s s′ y y′ =
     record {
@@ -59,15 +59,17 @@ pub record Axis : Type 0 where
 module _ (x : Axis) where
   -- interval i with segment m
   unfoldable pub intersection : ℕ → ℕ → Intersection
-  intersection i m = meeting (x .break m) (x .break (m + 1)) (x .coefficient m) (x .parameter i) (x .parameter (i + 1)) (x .waypoint i) (x .waypoint (i + 1))
+  intersection i m = meeting (x .break m) (x .break (m + 1)) (x .coefficient m) (x .parameter i) (x .parameter (i + 1)) (x .waypoint i)
+      (x .waypoint (i + 1))
 
   -- the largest so far with that of interval i and segment m, if "left below right"
   unfoldable pub withIntersection : ℕ → ℕ → Figure → Figure
   unfolding intersection larger intersectionFigure
-  withIntersection i m so-far = cond (lt (intersection i m .left) (intersection i m .right)) (larger so-far (intersectionFigure (intersection i m))) so-far
+  withIntersection i m so-far = cond (lt (intersection i m .left) (intersection i m .right))
+      (larger so-far (intersectionFigure (intersection i m))) so-far
 
-  -- The figure: the largest over all intersections, interval after interval and in each segment after segment. An absolute end is at least 0, so the
-  -- largest is taken from 0 on.
+  -- The figure: the largest over all intersections, interval after interval and in each segment after segment. An absolute end is at least
+  -- 0, so the largest is taken from 0 on.
   unfoldable pub figureOf : Figure
   unfolding withIntersection
   figureOf = each (λ i. each (withIntersection i) 0 (x .segments)) 0 (x .intervals) (figure +0)

@@ -59,12 +59,14 @@ module _ {A : Type 0} (o : Operations A) where
     abbrev pub lineAtLeft : A
     lineAtLeft =
         o .plus (o .number (x .first))
-        (o .times (o .over (o .minus (o .number (x .left)) (o .number (x .from))) (o .minus (o .number (x .to)) (o .number (x .from)))) (o .minus (o .number (x .second)) (o .number (x .first))))
+        (o .times (o .over (o .minus (o .number (x .left)) (o .number (x .from))) (o .minus (o .number (x .to)) (o .number (x .from))))
+        (o .minus (o .number (x .second)) (o .number (x .first))))
 
     -- "power 1 loses ((right - left)/L)·D"
     abbrev pub lineRise : A
     lineRise =
-        o .times (o .over (o .minus (o .number (x .right)) (o .number (x .left))) (o .minus (o .number (x .to)) (o .number (x .from)))) (o .minus (o .number (x .second)) (o .number (x .first)))
+        o .times (o .over (o .minus (o .number (x .right)) (o .number (x .left))) (o .minus (o .number (x .to)) (o .number (x .from))))
+        (o .minus (o .number (x .second)) (o .number (x .first)))
 
     -- the powers of curve minus line
     abbrev pub differencePower : ℕ → A

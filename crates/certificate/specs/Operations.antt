@@ -1,5 +1,5 @@
--- The operations that the certified figure is computed with, over any type of numbers. Its formulas (Intersection) are written once over them: at
--- `ends` they are document 01's, in pairs of ends; at exact fractions they are what these pairs enclose.
+-- The operations that the certified figure is computed with, over any type of numbers. Its formulas (Intersection) are written once over
+-- them: at `ends` they are document 01's, in pairs of ends; at exact fractions they are what these pairs enclose.
 use Prim.Native.Nat.{ℕ}
 use mathlib.Core.Bool.{false}
 use lib.Ieee.{Float, binary64, round}
@@ -15,7 +15,8 @@ pub record Operations (A : Type 0) : Type 0 where
   pub times : A → A → A
   pub over : A → A → A
 
--- End pairs: "Every number read, and every binomial, 0 and 1 below, enters as a pair of equal ends." A number read that is not finite is no pair:
+-- End pairs: "Every number read, and every binomial, 0 and 1 below, enters as a pair of equal ends." A number read that is not finite is no
+-- pair:
 -- "An end not finite .. gives no figure".
 abbrev pub ends : Operations Ends
 ends =

@@ -56,7 +56,8 @@ fn checked(
     parameters: &[f64],
     axis: usize,
 ) -> Certificate
-    ensures { λ r. ⌜ outcomeOf r ≡ certifyOf curve (slices (now (breaks .entry)) (now (coefficients .entry)) (now («other_breaks» .entry)) (now («other_coefficients» .entry)))
+    ensures { λ r. ⌜ outcomeOf r ≡ certifyOf curve (slices (now (breaks .entry)) (now (coefficients .entry)) (now («other_breaks» .entry))
+        (now («other_coefficients» .entry)))
         (now (points .entry)) n spacing (now (parameters .entry)) axis ⌝ }
 {
     let d = curve.d;
@@ -122,9 +123,11 @@ pub fn certify(
     parameters: &[f64],
     axis: usize,
 ) -> Certificate
-    ensures { λ r. ⌜ outcomeOf r ≡ certifyOf curve (slices (now (breaks .entry)) (now (coefficients .entry)) (now («other_breaks» .entry)) (now («other_coefficients» .entry)))
+    ensures { λ r. ⌜ outcomeOf r ≡ certifyOf curve (slices (now (breaks .entry)) (now (coefficients .entry)) (now («other_breaks» .entry))
+        (now («other_coefficients» .entry)))
         (now (points .entry)) n spacing (now (parameters .entry)) axis ⌝ }
-    ensures { λ r. ⌜ ((F : Float) → outcomeOf r ≡ outcome 0 (figure F) → Certified curve (slices (now (breaks .entry)) (now (coefficients .entry)) (now («other_breaks» .entry)) (now («other_coefficients» .entry)))
+    ensures { λ r. ⌜ ((F : Float) → outcomeOf r ≡ outcome 0 (figure F) → Certified curve (slices (now (breaks .entry))
+        (now (coefficients .entry)) (now («other_breaks» .entry)) (now («other_coefficients» .entry)))
         (now (points .entry)) n spacing (now (parameters .entry)) axis F) ⌝ }
 {
     checked(

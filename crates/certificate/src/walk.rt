@@ -48,8 +48,10 @@ fn intersect(
     from: f64,
     to: f64,
 ) -> Intersection
-    requires { ⌜ (m + 1 < length (now breaks)) × (place < k) × (6 * (m * k + k) ≤ length (now coefficients)) × (axis < d) × (i < 20000) × ((i + 1) * d + d ≤ length (now points)) ⌝ }
-    ensures { λ r. ⌜ intersectionOf r ≡ meeting (at (now (breaks .entry)) m) (at (now (breaks .entry)) (m + 1)) (at (take 6 (drop (6 * (m * k + place)) (now (coefficients .entry)))))
+    requires { ⌜ (m + 1 < length (now breaks)) × (place < k) × (6 * (m * k + k) ≤ length (now coefficients)) × (axis < d) × (i < 20000)
+        × ((i + 1) * d + d ≤ length (now points)) ⌝ }
+    ensures { λ r. ⌜ intersectionOf r ≡ meeting (at (now (breaks .entry)) m) (at (now (breaks .entry)) (m + 1))
+        (at (take 6 (drop (6 * (m * k + place)) (now (coefficients .entry)))))
         from to (at (now (points .entry)) (i * d + axis)) (at (now (points .entry)) ((i + 1) * d + axis)) ⌝ }
 {
     Intersection {
@@ -67,7 +69,8 @@ fn intersect(
 
 // The largest so far with that of an intersection, if "left below right".
 fn with_intersection(x: Intersection, so_far: Figure) -> Figure
-    ensures { λ r. ⌜ figureIn r ≡ cond (lt (x .left) (x .right)) (larger (figureIn «so_far») (intersectionFigure (intersectionOf x))) (figureIn «so_far») ⌝ }
+    ensures { λ r. ⌜ figureIn r ≡ cond (lt (x .left) (x .right)) (larger (figureIn «so_far») (intersectionFigure (intersectionOf x)))
+        (figureIn «so_far») ⌝ }
 {
     if x.left < x.right {
         return intersection::larger(so_far, intersection::intersection_figure(x));
@@ -99,10 +102,12 @@ pub(crate) fn walk(
     spacing: Spacing,
     parameters: &[f64],
 ) -> Figure
-    requires { ⌜ (place < k) × (k ≤ 16) × (2 ≤ length (now breaks)) × (length (now breaks) ≤ 20001) × (length (now coefficients) ≡ 6 * ((length (now breaks) - 1) * k))
+    requires { ⌜ (place < k) × (k ≤ 16) × (2 ≤ length (now breaks)) × (length (now breaks) ≤ 20001)
+        × (length (now coefficients) ≡ 6 * ((length (now breaks) - 1) * k))
         × (axis < d) × (d ≤ 16) × (2 ≤ n) × (n ≤ 20000) × (length (now points) ≡ d * n) × (spacing ≡ Listed → length (now parameters) ≡ n) ⌝ }
     requires { ⌜ Rises (length (now breaks) - 1) (at (now breaks)) × Rises (n - 1) (normalisedOf spacing (now parameters) n) ⌝ }
-    ensures { λ r. ⌜ figureIn r ≡ figureOf (axisOf (now (breaks .entry)) (now (coefficients .entry)) k place (now (points .entry)) d axis n spacing (now (parameters .entry))) ⌝ }
+    ensures { λ r. ⌜ figureIn r ≡ figureOf (axisOf (now (breaks .entry)) (now (coefficients .entry)) k place (now (points .entry)) d axis n
+        spacing (now (parameters .entry))) ⌝ }
 {
     let mut so_far = Figure::Known(0.0);
     let mut i = 0;

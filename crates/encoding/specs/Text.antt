@@ -1,4 +1,5 @@
--- An f64 as text: 16 upper-case hex digits of its bits, as document 01 has them in the output of `lane`; `NaN` for a NaN, whose bits the language does not see.
+-- An f64 as text: 16 upper-case hex digits of its bits, as document 01 has them in the output of `lane`; `NaN` for a NaN, whose bits the
+-- language does not see.
 use Prim.Native.Nat.{ℕ, zero, suc, _+_, _/_, _%_}
 use mathlib.Core.Bool.{cond}
 use mathlib.Core.List.{List, [], _∷_}

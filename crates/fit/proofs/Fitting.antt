@@ -24,8 +24,10 @@ use Rattle.fit.proofs.Placing.{front-kept, back-written}
 
 module _ (x : Arrays) (a z : ℕ) (strength : Float) where
   -- the three loops, one after the other
-  pub assembly-is : (s₁ s₂ s₃ s₄ : System) (r₂ r₃ : ℕ) → assembled r₂ s₂ ≡ samplesOf x a z (below (x .s) (low x a z)) (atOrBelow (x .s) (high x a z)) (assembled 0 s₁)
-      → assembled r₃ s₃ ≡ sparseOf x a z (assembled r₂ s₂) → s₄ ≡ penaltiesOf x a z strength s₃ → assembled r₃ s₄ ≡ assembledOf x a z strength s₁
+  pub assembly-is : (s₁ s₂ s₃ s₄ : System) (r₂ r₃ : ℕ) → assembled r₂ s₂ ≡ samplesOf x a z (below (x .s) (low x a z)) (atOrBelow (x .s)
+      (high x a z)) (assembled 0 s₁)
+      → assembled r₃ s₃ ≡ sparseOf x a z (assembled r₂ s₂) → s₄ ≡ penaltiesOf x a z strength s₃ → assembled r₃ s₄
+      ≡ assembledOf x a z strength s₁
   unfolding assembledOf
   assembly-is s₁ s₂ s₃ s₄ r₂ r₃ e f g =
       ap (assembled r₃) g ∙ ap (λ (n : Assembled). assembled (n .rows) (penaltiesOf x a z strength (n .system))) (f ∙ ap (sparseOf x a z) e)
@@ -64,7 +66,8 @@ module _ (p : Place) (k : ℕ) (w : List Float) (long : p .system + sizeOf k (p 
       let size : length (window g e w) ≡ sizeOf k (p .axes) = length-window g e w (omega arith) (omega arith) ∙ omega arith in
       sym (take-append-drop g w)
       ∙ ap (λ (n : ℕ). take n w ++ drop g w) zero
-      ∙ ap (λ (l : List Float). before p w ++ l) (sym (take-all (e - g) (drop g w) (simp length-drop (omega arith))) ∙ all-cells k (p .axes) (window g e w) size)
+      ∙ ap (λ (l : List Float). before p w ++ l) (sym (take-all (e - g) (drop g w) (simp length-drop (omega arith)))
+      ∙ all-cells k (p .axes) (window g e w) size)
 
   module _ (w₀ : List Float) (s : System) (b : before p w ≡ before p w₀) (e : systemAt p k w ≡ s) where
     parts : w ≡ before p w₀ ++ cellsOf s
@@ -77,7 +80,8 @@ module _ (p : Place) (k : ℕ) (w : List Float) (long : p .system + sizeOf k (p 
 
     -- with other controls
     pub cells-done : (u : List Float) → p .controls + p .count * p .axes ≤ p .system
-        → splice (p .controls) (p .controls + p .count * p .axes) u w ≡ splice (p .controls) (p .controls + p .count * p .axes) u (before p w₀) ++ cellsOf s
+        → splice (p .controls) (p .controls + p .count * p .axes) u w ≡ splice (p .controls) (p .controls + p .count * p .axes) u
+        (before p w₀) ++ cellsOf s
     cells-done u h =
         let l = length-window 0 (p .system) w (omega arith) (omega arith) in
         let m = ap length b in
@@ -88,7 +92,8 @@ module _ (p : Place) (k : ℕ) (w : List Float) (long : p .system + sizeOf k (p 
 module _ (p : Place) (a z : ℕ) (strength : Float) (w₀ w₁ v : List Float) (rows : ℕ) (b : before p w₁ ≡ before p w₀)
     (e : assembled rows (systemAt p (z - a) w₁) ≡ assembledOf (arraysAt p (before p w₀)) a z strength (newOf (z - a) (p .axes)))
     (s : systemOf (z - a) (p .axes) v ≡ solveOf (z - a) (p .axes) (systemAt p (z - a) w₁) .system)
-    (long : p .system + sizeOf (z - a) (p .axes) ≡ length w₁) (fills : length v ≡ sizeOf (z - a) (p .axes)) (lies : p .controls + p .count * p .axes ≤ p .system) where
+    (long : p .system + sizeOf (z - a) (p .axes) ≡ length w₁) (fills : length v ≡ sizeOf (z - a) (p .axes))
+    (lies : p .controls + p .count * p .axes ≤ p .system) where
   abbrev x : Arrays
   x = arraysAt p (before p w₀)
 
@@ -99,7 +104,8 @@ module _ (p : Place) (a z : ℕ) (strength : Float) (w₀ w₁ v : List Float) (
   front = front-kept (p .system) (p .system + sizeOf (z - a) (p .axes)) v w₁ (omega arith) long (omega arith) ∙ b
 
   solved : systemAt p (z - a) w₂ ≡ solveOf (z - a) (p .axes) (systemAt p (z - a) w₁) .system
-  solved = ap (systemOf (z - a) (p .axes)) (back-written (p .system) (p .system + sizeOf (z - a) (p .axes)) v w₁ (omega arith) long (omega arith)) ∙ s
+  solved = ap (systemOf (z - a) (p .axes)) (back-written (p .system) (p .system + sizeOf (z - a) (p .axes)) v w₁ (omega arith) long
+      (omega arith)) ∙ s
 
   size : p .system + sizeOf (z - a) (p .axes) ≡ length w₂
   size = long ∙ sym (length-splice (p .system) (p .system + sizeOf (z - a) (p .axes)) v w₁ (omega arith) (omega arith) (omega arith))
@@ -107,18 +113,24 @@ module _ (p : Place) (a z : ℕ) (strength : Float) (w₀ w₁ v : List Float) (
   pub after-refusal : (number : ℕ) → number ≡ solveOf (z - a) (p .axes) (systemAt p (z - a) w₁) .number → eqb number 0 ≡ false
       → (answer number 0 0 0 ≡ fitOf x a z strength .answered) × (w₂ ≡ cellsAfter p (fitOf x a z strength) w₀)
   after-refusal number h f =
-      let is = fit-refused x a z strength rows (systemAt p (z - a) w₁) e number h f in
-      (ap (λ (k : Fit). k .answered) (sym is), cells-refused p (z - a) w₂ size w₀ _ front solved ∙ ap (λ (k : Fit). cellsAfter p k w₀) (sym is))
+      let is = fit-refused x a z strength rows (systemAt p (z - a) w₁) e number h f in (
+        ap (λ (k : Fit). k .answered) (sym is),
+        cells-refused p (z - a) w₂ size w₀ _ front solved
+            ∙ ap (λ (k : Fit). cellsAfter p k w₀) (sym is),
+      )
 
-  pub after-solution : (first last : ℕ) → first ≡ below (x .s) (low x a z) → last ≡ atOrBelow (x .s) (high x a z) → 0 ≡ solveOf (z - a) (p .axes) (systemAt p (z - a) w₁) .number
+  pub after-solution : (first last : ℕ) → first ≡ below (x .s) (low x a z) → last ≡ atOrBelow (x .s) (high x a z) → 0
+      ≡ solveOf (z - a) (p .axes) (systemAt p (z - a) w₁) .number
       → (answer 0 first last rows ≡ fitOf x a z strength .answered)
-      × (splice (p .controls) (p .controls + p .count * p .axes) (addedTo (systemAt p (z - a) w₂ .right) (a * p .axes) ((z - a) * p .axes) (arraysAt p (before p w₂) .c)) w₂ ≡ cellsAfter p (fitOf x a z strength) w₀)
+      × (splice (p .controls) (p .controls + p .count * p .axes) (addedTo (systemAt p (z - a) w₂ .right) (a * p .axes) ((z - a) * p .axes)
+      (arraysAt p (before p w₂) .c)) w₂ ≡ cellsAfter p (fitOf x a z strength) w₀)
   after-solution first last f l h =
       let is = fit-done x a z strength rows (systemAt p (z - a) w₁) e h in
       let added = addedTo (solveOf (z - a) (p .axes) (systemAt p (z - a) w₁) .system .right) (a * p .axes) ((z - a) * p .axes) (x .c) in
       let same : addedTo (systemAt p (z - a) w₂ .right) (a * p .axes) ((z - a) * p .axes) (arraysAt p (before p w₂) .c) ≡ added =
       ap (λ (t : System). addedTo (t .right) (a * p .axes) ((z - a) * p .axes) (arraysAt p (before p w₂) .c)) solved
-      ∙ ap (λ (t : List Float). addedTo (solveOf (z - a) (p .axes) (systemAt p (z - a) w₁) .system .right) (a * p .axes) ((z - a) * p .axes) (arraysAt p t .c)) front in (
+      ∙ ap (λ (t : List Float). addedTo (solveOf (z - a) (p .axes) (systemAt p (z - a) w₁) .system .right) (a * p .axes) ((z - a) * p .axes)
+      (arraysAt p t .c)) front in (
         rw (f, l) (ap (λ (k : Fit). k .answered) (sym is)),
         ap (λ (u : List Float). splice (p .controls) (p .controls + p .count * p .axes) u w₂) same
             ∙ cells-done p (z - a) w₂ size w₀ _ front solved added lies

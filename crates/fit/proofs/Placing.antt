@@ -23,4 +23,12 @@ module _ (g e : ℕ) (v w : List Float) (lies : g ≤ e) (long : e ≡ length w)
 -- the arrays of a fit lie in the cells before its system
 pub placed : (p : Place) (a z : ℕ) (w : List Float) → Laid p a z (length w) → Placed p (length (before p w))
 placed p a z w h =
-    let e = length-window 0 (p .system) w (omega arith) (omega arith) in (omega arith, omega arith, omega arith, omega arith, omega arith, omega arith, omega arith)
+    let e = length-window 0 (p .system) w (omega arith) (omega arith) in (
+      omega arith,
+      omega arith,
+      omega arith,
+      omega arith,
+      omega arith,
+      omega arith,
+      omega arith,
+    )

@@ -93,11 +93,19 @@ module _ (x : Arrays) (a z : ℕ) where
 
 -- the answer of a fit at a place, with the bounds of its counts
 pub answer-bounded : {C : Type 0} (p : Place) (a z : ℕ) (strength : Float) (l : List Float) {k : Answer} → Laid p a z (length l)
-    → (k ≡ fitOf (arraysAt p (before p l)) a z strength .answered) × C → (k ≡ fitOf (arraysAt p (before p l)) a z strength .answered) × (C × Bounded (p .samples) (p .count) k)
+    → (k ≡ fitOf (arraysAt p (before p l)) a z strength .answered) × C → (k ≡ fitOf (arraysAt p (before p l)) a z strength .answered)
+    × (C × Bounded (p .samples) (p .count) k)
 answer-bounded p a z strength l h e =
     let x = arraysAt p (before p l) in
     let b : length (before p l) ≡ p .system = length-window 0 (p .system) l (omega arith) (omega arith) ∙ omega arith in
-    let n : length (x .s) ≡ p .samples = length-window (p .parameters) (p .parameters + p .samples) (before p l) (omega arith) (omega arith) ∙ omega arith in
+    let n : length (x .s) ≡ p .samples = length-window (p .parameters) (p .parameters + p .samples) (before p l) (omega arith) (omega arith)
+    ∙ omega arith in
     let r = fit-reach x a z strength in
-    let given : Bounded (length (x .s)) (p .count) (fitOf x a z strength .answered) = (r .0, r .1, fit-rows x a z strength) in
-    (e .0, (e .1, subst (Bounded (p .samples) (p .count)) (sym (e .0)) (subst (λ (i : ℕ). Bounded i (p .count) (fitOf x a z strength .answered)) n given)))
+    let given : Bounded (length (x .s)) (p .count) (fitOf x a z strength .answered) = (r .0, r .1, fit-rows x a z strength) in (
+      e .0,
+      (
+        e .1,
+        subst (Bounded (p .samples) (p .count)) (sym (e .0))
+            (subst (λ (i : ℕ). Bounded i (p .count) (fitOf x a z strength .answered)) n given),
+      ),
+    )

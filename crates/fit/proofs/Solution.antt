@@ -10,8 +10,10 @@ use Rattle.window.specs.Cells.{at}
 use Rattle.window.proofs.Windows.{length-window, window-cell, window-same, window-after, splice-splice}
 use Rattle.fit.specs.Fit.{addTurn}
 
--- The controls lie from c up to e, the solution behind them, from `right` on. w is w₀ with other controls, and its control `from` + i gets cell i of the solution.
-module _ (c e right count : ℕ) (w w₀ : List Float) (lies : c ≤ e) (apart : e ≤ right) (room : right + count ≤ length w₀) (same : length w ≡ length w₀)
+-- The controls lie from c up to e, the solution behind them, from `right` on. w is w₀ with other controls, and its control `from` + i gets
+-- cell i of the solution.
+module _ (c e right count : ℕ) (w w₀ : List Float) (lies : c ≤ e) (apart : e ≤ right) (room : right + count ≤ length w₀)
+    (same : length w ≡ length w₀)
     (kept : w ≡ splice c e (window c e w) w₀) (from i : ℕ) (h : i < count) where
   abbrev written : List Float
   written = set (window c e w) (from + i) (add binary64 (at (window c e w) (from + i)) (at w (right + i)))
@@ -22,7 +24,8 @@ module _ (c e right count : ℕ) (w w₀ : List Float) (lies : c ≤ e) (apart :
   solution-kept : at w (right + i) ≡ at (window right (right + count) w₀) i
   solution-kept =
       sym (window-cell right (right + count) w i nan (omega arith))
-      ∙ ap (λ (l : List Float). at l i) (ap (window right (right + count)) kept ∙ window-after c e (window c e w) w₀ right (right + count) apart lies (omega arith) long)
+      ∙ ap (λ (l : List Float). at l i) (ap (window right (right + count)) kept ∙ window-after c e (window c e w) w₀ right (right +
+      count) apart lies (omega arith) long)
 
   pub controls-added : window c e (splice c e written w) ≡ addTurn (window right (right + count) w₀) from i (window c e w)
   unfolding addTurn

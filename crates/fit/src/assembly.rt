@@ -18,7 +18,8 @@ use fitting_rows::samples;
 fn add_row(work: &mut [f64], p: Place, a: usize, z: usize, row: normal::Row)
     requires { ⌜ Laid p a z (length (now work)) × (row .start < p .count) ⌝ }
     ensures { λ _. ⌜ before p (now (work .exit)) ≡ before p (now (work .entry)) ⌝ }
-    ensures { λ _. ⌜ systemAt p (z - a) (now (work .exit)) ≡ added (arraysAt p (before p (now (work .entry)))) a z row (systemAt p (z - a) (now (work .entry))) ⌝ }
+    ensures { λ _. ⌜ systemAt p (z - a) (now (work .exit)) ≡ added (arraysAt p (before p (now (work .entry)))) a z row
+        (systemAt p (z - a) (now (work .entry))) ⌝ }
 {
     let g = p.system;
     let d = p.axes;
@@ -31,7 +32,8 @@ fn add_row(work: &mut [f64], p: Place, a: usize, z: usize, row: normal::Row)
 fn add_sample(work: &mut [f64], p: Place, a: usize, z: usize, i: usize, span: usize)
     requires { ⌜ Laid p a z (length (now work)) × (i < p .samples) × (5 ≤ span) × (span < p .count) ⌝ }
     ensures { λ _. ⌜ before p (now (work .exit)) ≡ before p (now (work .entry)) ⌝ }
-    ensures { λ _. ⌜ systemAt p (z - a) (now (work .exit)) ≡ added (arraysAt p (before p (now (work .entry)))) a z (sampleRowOf (arraysAt p (before p (now (work .entry)))) i span) (systemAt p (z - a) (now (work .entry))) ⌝ }
+    ensures { λ _. ⌜ systemAt p (z - a) (now (work .exit)) ≡ added (arraysAt p (before p (now (work .entry)))) a z
+        (sampleRowOf (arraysAt p (before p (now (work .entry)))) i span) (systemAt p (z - a) (now (work .entry))) ⌝ }
 {
     let g = p.system;
     let row = samples::sample_row_at(&work[0..g], p, i, span);
@@ -49,7 +51,8 @@ pub fn add_samples(
 ) -> usize
     requires { ⌜ Laid p a z (length (now work)) × (last ≤ p .samples) ⌝ }
     ensures { λ _. ⌜ before p (now (work .exit)) ≡ before p (now (work .entry)) ⌝ }
-    ensures { λ r. ⌜ assembled r (systemAt p (z - a) (now (work .exit))) ≡ samplesOf (arraysAt p (before p (now (work .entry)))) a z first last (assembled 0 (systemAt p (z - a) (now (work .entry)))) ⌝ }
+    ensures { λ r. ⌜ assembled r (systemAt p (z - a) (now (work .exit)))
+        ≡ samplesOf (arraysAt p (before p (now (work .entry)))) a z first last (assembled 0 (systemAt p (z - a) (now (work .entry)))) ⌝ }
     ensures { λ r. ⌜ r ≤ p .samples ⌝ }
 {
     let g = p.system;
@@ -71,7 +74,8 @@ pub fn add_samples(
 fn add_node(work: &mut [f64], p: Place, a: usize, z: usize, from: f64, h: f64, r: usize)
     requires { ⌜ Laid p a z (length (now work)) × (r < 6) ⌝ }
     ensures { λ _. ⌜ before p (now (work .exit)) ≡ before p (now (work .entry)) ⌝ }
-    ensures { λ _. ⌜ systemAt p (z - a) (now (work .exit)) ≡ added (arraysAt p (before p (now (work .entry)))) a z (nodeRowOf (arraysAt p (before p (now (work .entry)))) from h r) (systemAt p (z - a) (now (work .entry))) ⌝ }
+    ensures { λ _. ⌜ systemAt p (z - a) (now (work .exit)) ≡ added (arraysAt p (before p (now (work .entry)))) a z
+        (nodeRowOf (arraysAt p (before p (now (work .entry)))) from h r) (systemAt p (z - a) (now (work .entry))) ⌝ }
 {
     let g = p.system;
     let row = pieces::node_row(&work[0..g], p, from, h, r);
@@ -90,7 +94,8 @@ fn add_piece(
 ) -> usize
     requires { ⌜ Laid p a z (length (now work)) × (rows ≤ 0xffff_ffff_ffff) ⌝ }
     ensures { λ _. ⌜ before p (now (work .exit)) ≡ before p (now (work .entry)) ⌝ }
-    ensures { λ r. ⌜ assembled r (systemAt p (z - a) (now (work .exit))) ≡ pieceOf (arraysAt p (before p (now (work .entry)))) a z from to (assembled rows (systemAt p (z - a) (now (work .entry)))) ⌝ }
+    ensures { λ r. ⌜ assembled r (systemAt p (z - a) (now (work .exit)))
+        ≡ pieceOf (arraysAt p (before p (now (work .entry)))) a z from to (assembled rows (systemAt p (z - a) (now (work .entry)))) ⌝ }
     ensures { λ r. ⌜ r ≡ rows + 6 ⌝ }
 {
     let h = to - from;
@@ -114,9 +119,11 @@ fn add_mesh_piece(
     j: usize,
     rows: usize,
 ) -> usize
-    requires { ⌜ Laid p a z (length (now work)) × (mesh .begin ≤ j) × (j ≤ mesh .end) × (mesh .end ≤ p .samples) × (rows ≤ 0xffff_ffff_ffff) ⌝ }
+    requires { ⌜ Laid p a z (length (now work)) × (mesh .begin ≤ j) × (j ≤ mesh .end) × (mesh .end ≤ p .samples)
+        × (rows ≤ 0xffff_ffff_ffff) ⌝ }
     ensures { λ _. ⌜ before p (now (work .exit)) ≡ before p (now (work .entry)) ⌝ }
-    ensures { λ r. ⌜ assembled r (systemAt p (z - a) (now (work .exit))) ≡ meshTurn (arraysAt p (before p (now (work .entry)))) a z mesh j (assembled rows (systemAt p (z - a) (now (work .entry)))) ⌝ }
+    ensures { λ r. ⌜ assembled r (systemAt p (z - a) (now (work .exit)))
+        ≡ meshTurn (arraysAt p (before p (now (work .entry)))) a z mesh j (assembled rows (systemAt p (z - a) (now (work .entry)))) ⌝ }
     ensures { λ r. ⌜ r ≡ rows + 6 ⌝ }
 {
     let g = p.system;
@@ -128,7 +135,8 @@ fn add_mesh_piece(
 fn add_mesh(work: &mut [f64], p: Place, a: usize, z: usize, mesh: Mesh, rows: usize) -> usize
     requires { ⌜ Laid p a z (length (now work)) × (mesh .end ≤ p .samples) × (rows ≤ 0xffff_0000_0000) ⌝ }
     ensures { λ _. ⌜ before p (now (work .exit)) ≡ before p (now (work .entry)) ⌝ }
-    ensures { λ r. ⌜ assembled r (systemAt p (z - a) (now (work .exit))) ≡ meshOf (arraysAt p (before p (now (work .entry)))) a z mesh (assembled rows (systemAt p (z - a) (now (work .entry)))) ⌝ }
+    ensures { λ r. ⌜ assembled r (systemAt p (z - a) (now (work .exit)))
+        ≡ meshOf (arraysAt p (before p (now (work .entry)))) a z mesh (assembled rows (systemAt p (z - a) (now (work .entry)))) ⌝ }
     ensures { λ r. ⌜ r ≤ rows + 6 * (p .samples + 1) ⌝ }
 {
     let mut count = rows;
@@ -155,7 +163,8 @@ fn add_span(
     requires { ⌜ Laid p a z (length (now work)) × (span < p .count) × (rows ≤ 0xffff_0000_0000) ⌝ }
     requires { ⌜ (lo ≡ low (arraysAt p (before p (now work))) a z) × (hi ≡ high (arraysAt p (before p (now work))) a z) ⌝ }
     ensures { λ _. ⌜ before p (now (work .exit)) ≡ before p (now (work .entry)) ⌝ }
-    ensures { λ r. ⌜ assembled r (systemAt p (z - a) (now (work .exit))) ≡ sparseTurn (arraysAt p (before p (now (work .entry)))) a z span (assembled rows (systemAt p (z - a) (now (work .entry)))) ⌝ }
+    ensures { λ r. ⌜ assembled r (systemAt p (z - a) (now (work .exit)))
+        ≡ sparseTurn (arraysAt p (before p (now (work .entry)))) a z span (assembled rows (systemAt p (z - a) (now (work .entry)))) ⌝ }
     ensures { λ r. ⌜ r ≤ rows + 6 * (p .samples + 1) ⌝ }
 {
     let g = p.system;
@@ -179,7 +188,8 @@ pub fn add_sparse(
     requires { ⌜ Laid p a z (length (now work)) × (rows ≤ 65536) ⌝ }
     requires { ⌜ (lo ≡ low (arraysAt p (before p (now work))) a z) × (hi ≡ high (arraysAt p (before p (now work))) a z) ⌝ }
     ensures { λ _. ⌜ before p (now (work .exit)) ≡ before p (now (work .entry)) ⌝ }
-    ensures { λ r. ⌜ assembled r (systemAt p (z - a) (now (work .exit))) ≡ sparseOf (arraysAt p (before p (now (work .entry)))) a z (assembled rows (systemAt p (z - a) (now (work .entry)))) ⌝ }
+    ensures { λ r. ⌜ assembled r (systemAt p (z - a) (now (work .exit)))
+        ≡ sparseOf (arraysAt p (before p (now (work .entry)))) a z (assembled rows (systemAt p (z - a) (now (work .entry)))) ⌝ }
 {
     let m = p.count;
     let mut count = rows;
@@ -203,7 +213,8 @@ fn add_penalty_node(
 )
     requires { ⌜ Laid p a z (length (now work)) × (5 ≤ span) × (span < p .count) × (r < 3) ⌝ }
     ensures { λ _. ⌜ before p (now (work .exit)) ≡ before p (now (work .entry)) ⌝ }
-    ensures { λ _. ⌜ systemAt p (z - a) (now (work .exit)) ≡ added (arraysAt p (before p (now (work .entry)))) a z (penaltyRowOf (arraysAt p (before p (now (work .entry)))) strength span r) (systemAt p (z - a) (now (work .entry))) ⌝ }
+    ensures { λ _. ⌜ systemAt p (z - a) (now (work .exit)) ≡ added (arraysAt p (before p (now (work .entry)))) a z
+        (penaltyRowOf (arraysAt p (before p (now (work .entry)))) strength span r) (systemAt p (z - a) (now (work .entry))) ⌝ }
 {
     let g = p.system;
     let row = fitting_rows::penalty::penalty_row_at(&work[0..g], p, strength, span, r);
@@ -214,7 +225,8 @@ fn add_penalty_node(
 fn add_penalty_nodes(work: &mut [f64], p: Place, a: usize, z: usize, strength: f64, span: usize)
     requires { ⌜ Laid p a z (length (now work)) × (5 ≤ span) × (span < p .count) ⌝ }
     ensures { λ _. ⌜ before p (now (work .exit)) ≡ before p (now (work .entry)) ⌝ }
-    ensures { λ _. ⌜ systemAt p (z - a) (now (work .exit)) ≡ nodesOf (arraysAt p (before p (now (work .entry)))) a z strength span (systemAt p (z - a) (now (work .entry))) ⌝ }
+    ensures { λ _. ⌜ systemAt p (z - a) (now (work .exit)) ≡ nodesOf (arraysAt p (before p (now (work .entry)))) a z strength span
+        (systemAt p (z - a) (now (work .entry))) ⌝ }
 {
     let mut r = 0;
     while r < 3 {
@@ -237,7 +249,8 @@ fn add_penalty(
     requires { ⌜ Laid p a z (length (now work)) × (5 ≤ span) × (span < p .count) ⌝ }
     requires { ⌜ (lo ≡ low (arraysAt p (before p (now work))) a z) × (hi ≡ high (arraysAt p (before p (now work))) a z) ⌝ }
     ensures { λ _. ⌜ before p (now (work .exit)) ≡ before p (now (work .entry)) ⌝ }
-    ensures { λ _. ⌜ systemAt p (z - a) (now (work .exit)) ≡ penaltyTurn (arraysAt p (before p (now (work .entry)))) a z strength span (systemAt p (z - a) (now (work .entry))) ⌝ }
+    ensures { λ _. ⌜ systemAt p (z - a) (now (work .exit)) ≡ penaltyTurn (arraysAt p (before p (now (work .entry)))) a z strength span
+        (systemAt p (z - a) (now (work .entry))) ⌝ }
 {
     let g = p.system;
     if fitting_rows::penalty::is_left_out(&work[0..g], p, lo, hi, span) {
@@ -259,7 +272,8 @@ pub fn add_penalties(
     requires { ⌜ Laid p a z (length (now work)) ⌝ }
     requires { ⌜ (lo ≡ low (arraysAt p (before p (now work))) a z) × (hi ≡ high (arraysAt p (before p (now work))) a z) ⌝ }
     ensures { λ _. ⌜ before p (now (work .exit)) ≡ before p (now (work .entry)) ⌝ }
-    ensures { λ _. ⌜ systemAt p (z - a) (now (work .exit)) ≡ penaltiesOf (arraysAt p (before p (now (work .entry)))) a z strength (systemAt p (z - a) (now (work .entry))) ⌝ }
+    ensures { λ _. ⌜ systemAt p (z - a) (now (work .exit)) ≡ penaltiesOf (arraysAt p (before p (now (work .entry)))) a z strength
+        (systemAt p (z - a) (now (work .entry))) ⌝ }
 {
     let m = p.count;
     let mut span = 5;

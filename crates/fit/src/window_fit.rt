@@ -43,7 +43,8 @@ struct Reach {
 fn reach_of(cells: &[f64], p: Place, a: usize, z: usize) -> Reach
     requires { ⌜ Placed p (length (now cells)) × (a ≤ z) × (z ≤ p .count) ⌝ }
     ensures { λ r. ⌜ (r .lo ≡ low (arraysAt p (now (cells .entry))) a z) × (r .hi ≡ high (arraysAt p (now (cells .entry))) a z) ⌝ }
-    ensures { λ r. ⌜ (r .first ≡ below (arraysAt p (now (cells .entry)) .s) (low (arraysAt p (now (cells .entry))) a z)) × (r .last ≡ atOrBelow (arraysAt p (now (cells .entry)) .s) (high (arraysAt p (now (cells .entry))) a z)) ⌝ }
+    ensures { λ r. ⌜ (r .first ≡ below (arraysAt p (now (cells .entry)) .s) (low (arraysAt p (now (cells .entry))) a z))
+        × (r .last ≡ atOrBelow (arraysAt p (now (cells .entry)) .s) (high (arraysAt p (now (cells .entry))) a z)) ⌝ }
     ensures { λ r. ⌜ r .last ≤ p .samples ⌝ }
 {
     let t = p.knots;
@@ -77,8 +78,10 @@ fn clear_system(work: &mut [f64], p: Place, a: usize, z: usize)
 fn assemble(work: &mut [f64], p: Place, a: usize, z: usize, strength: f64) -> Counts
     requires { ⌜ Laid p a z (length (now work)) ⌝ }
     ensures { λ _. ⌜ before p (now (work .exit)) ≡ before p (now (work .entry)) ⌝ }
-    ensures { λ r. ⌜ assembled (r .rows) (systemAt p (z - a) (now (work .exit))) ≡ assembledOf (arraysAt p (before p (now (work .entry)))) a z strength (newOf (z - a) (p .axes)) ⌝ }
-    ensures { λ r. ⌜ (r .first ≡ below (arraysAt p (before p (now (work .entry))) .s) (low (arraysAt p (before p (now (work .entry)))) a z)) × (r .last ≡ atOrBelow (arraysAt p (before p (now (work .entry))) .s) (high (arraysAt p (before p (now (work .entry)))) a z)) ⌝ }
+    ensures { λ r. ⌜ assembled (r .rows) (systemAt p (z - a) (now (work .exit))) ≡ assembledOf (arraysAt p
+        (before p (now (work .entry)))) a z strength (newOf (z - a) (p .axes)) ⌝ }
+    ensures { λ r. ⌜ (r .first ≡ below (arraysAt p (before p (now (work .entry))) .s) (low (arraysAt p (before p (now (work .entry)))) a z))
+        × (r .last ≡ atOrBelow (arraysAt p (before p (now (work .entry))) .s) (high (arraysAt p (before p (now (work .entry)))) a z)) ⌝ }
 {
     clear_system(work, p, a, z);
     let g = p.system;
@@ -104,7 +107,9 @@ fn add_cell(c: &mut [f64], k: usize, v: f64)
 // Adds the solution, in the system's right sides, to the active controls.
 fn add_solution(work: &mut [f64], p: Place, a: usize, z: usize)
     requires { ⌜ Laid p a z (length (now work)) ⌝ }
-    ensures { λ _. ⌜ now (work .exit) ≡ splice (p .controls) (p .controls + p .count * p .axes) (addedTo (systemAt p (z - a) (now (work .entry)) .right) (a * p .axes) ((z - a) * p .axes) (arraysAt p (before p (now (work .entry))) .c)) (now (work .entry)) ⌝ }
+    ensures { λ _. ⌜ now (work .exit) ≡ splice (p .controls) (p .controls + p .count * p .axes)
+        (addedTo (systemAt p (z - a) (now (work .entry)) .right) (a * p .axes) ((z - a) * p .axes)
+        (arraysAt p (before p (now (work .entry))) .c)) (now (work .entry)) ⌝ }
 {
     let d = p.axes;
     let c = p.controls;

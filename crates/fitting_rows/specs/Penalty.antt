@@ -16,7 +16,8 @@ use Rattle.fitting_rows.specs.Arrays.{Arrays}
 
 -- the three nodes and their weights, `5. / 18.`, `4. / 9.`, `5. / 18.`
 abbrev pub thirdNodes : List Float
-thirdNodes = floats .literal 1127016653792583 10000000000000000 ∷ floats .literal 1 2 ∷ floats .literal 8872983346207417 10000000000000000 ∷ []
+thirdNodes = floats .literal 1127016653792583 10000000000000000 ∷ floats .literal 1 2 ∷ floats .literal 8872983346207417 10000000000000000 ∷
+    []
 
 abbrev pub thirdWeights : List Float
 thirdWeights =
@@ -33,7 +34,8 @@ thirdOf powers = each (λ i b. set b i (mul binary64 (floats .literal 6 1) (at p
 unfoldable pub penaltyRowOf : Arrays → Float → ℕ → ℕ → Row
 penaltyRowOf x strength span r =
     let h = spanWidth floats (x .t) span in
-    rowOf (x .c) (x .d) (span - 5) (thirdOf (powersOf floats (x .t) span (add binary64 (at (x .t) span) (mul binary64 (at thirdNodes r) h))))
+    rowOf (x .c) (x .d) (span - 5) (thirdOf (powersOf floats (x .t) span (add binary64 (at (x .t) span)
+    (mul binary64 (at thirdNodes r) h))))
     (mul binary64 (mul binary64 strength (powerOf floats h 7)) (at thirdWeights r)) (zeros 16)
 
 -- `h <= 0. || left >= hi || b.t[span + 1] <= lo`: whether the span is left out, for the window from lo to hi

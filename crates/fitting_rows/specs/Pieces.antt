@@ -1,5 +1,5 @@
--- The rows of sparse spans: the source's `fit`, "Sparse spans are split wherever the piecewise-linear reference changes. Six quadrature rows per
--- intersection".
+-- The rows of sparse spans: the source's `fit`, "Sparse spans are split wherever the piecewise-linear reference changes. Six quadrature
+-- rows per intersection".
 use Prim.Native.Nat.{ℕ, _+_, _-_, _*_, min}
 use mathlib.Core.Bool.{Bool, _||_, cond, false}
 use mathlib.Core.List.{List, [], _∷_}

@@ -30,7 +30,8 @@ two = ofBits binary64 0x4000_0000_0000_0000
 unfoldable pub weightOf : List Float → ℕ → ℕ → Float
 weightOf s n i =
     cond (eqb i 0) (div binary64 (sub binary64 (at s 1) (at s 0)) two)
-    (cond (eqb (i + 1) n) (div binary64 (sub binary64 (at s i) (at s (i - 1))) two) (div binary64 (sub binary64 (at s (i + 1)) (at s (i - 1))) two))
+    (cond (eqb (i + 1) n) (div binary64 (sub binary64 (at s i) (at s (i - 1))) two)
+    (div binary64 (sub binary64 (at s (i + 1)) (at s (i - 1))) two))
 
 -- `&y[i * b.d..(i + 1) * b.d]`, with +0 up to 16 cells
 unfoldable pub pointOf : List Float → ℕ → ℕ → List Float

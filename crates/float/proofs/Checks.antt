@@ -1,5 +1,5 @@
--- The whole number nearest to a root: what confirms it, how it comes from the root's whole part, and that it gives the bits of the rounded root, which
--- it does since it lies between the middles.
+-- The whole number nearest to a root: what confirms it, how it comes from the root's whole part, and that it gives the bits of the rounded
+-- root, which it does since it lies between the middles.
 use mathlib.Core.Path.{_≡_, sym, ap, _∙_, subst}
 use mathlib.Core.Logic.{inl, inr}
 use Prim.Native.Nat.{ℕ, zero, suc, _+_, _-_, _*_, _/_, _%_, _^_, _≤_, _<_}
@@ -71,11 +71,14 @@ module _ (h M j x : ℕ) (H : 0 < h) (low : h * h ≤ M) (high : M < 2 * h * (2 
   is-root = record { lower = inl (below x from upto r); upper = inl above }
     where
       -- at x = h the number before is nearer than a unit
-      below : (x : ℕ) → h ≤ x → x ≤ 2 * h → Nearest M x → (magnitude h (j * h + x - 1) + magnitude h (j * h + x)) * (magnitude h (j * h + x - 1) + magnitude h (j * h + x)) < 4 * (M * (U * U))
+      below : (x : ℕ) → h ≤ x → x ≤ 2 * h → Nearest M x → (magnitude h (j * h + x - 1) + magnitude h (j * h + x)) *
+          (magnitude h (j * h + x - 1) + magnitude h (j * h + x)) < 4 * (M * (U * U))
       below zero l g r = absurd (omega arith)
       below (suc y) l g r = elim (eq-or-lt-of-le l) [
-        | inl e ↦ under-floor (magnitude h (j * h + suc y - 1)) (magnitude h (j * h + suc y)) (suc y * U) (M * (U * U)) before (le-of-eq (at (suc y) l g)) (first e)
-        | inr k ↦ rw (ap (magnitude h) (back (j * h)) ∙ at y (fewer k) (le-trans (le-suc y) g), at (suc y) l g) (under-middle M U (pow-pos j) y r)
+        | inl e ↦ under-floor (magnitude h (j * h + suc y - 1)) (magnitude h (j * h + suc y)) (suc y * U) (M * (U * U)) before
+            (le-of-eq (at (suc y) l g)) (first e)
+        | inr k ↦ rw (ap (magnitude h) (back (j * h)) ∙ at y (fewer k) (le-trans (le-suc y) g), at (suc y) l g)
+            (under-middle M U (pow-pos j) y r)
       ]
         where
           back : (a : ℕ) → a + suc y - 1 ≡ a + y
@@ -88,23 +91,28 @@ module _ (h M j x : ℕ) (H : 0 < h) (low : h * h ≤ M) (high : M < 2 * h * (2 
           fewer k = omega arith
 
           before : magnitude h (j * h + suc y - 1) < magnitude h (j * h + suc y)
-          before = subst (λ (z : ℕ). magnitude h (j * h + suc y - 1) < magnitude h z) (next (j * h)) (magnitude-lt h (j * h + suc y - 1) 0 H)
+          before = subst (λ (z : ℕ). magnitude h (j * h + suc y - 1) < magnitude h z) (next (j * h))
+              (magnitude-lt h (j * h + suc y - 1) 0 H)
 
           first : h ≡ suc y → suc y * U * (suc y * U) ≤ M * (U * U)
           first e = rw (← e) (omega (arith, mul-le-mul-right (U * U) low))
 
       -- at x = 2 * h the number after is farther than a unit
-      above : 4 * (M * (U * U)) < (magnitude h (j * h + x) + magnitude h (suc (j * h + x))) * (magnitude h (j * h + x) + magnitude h (suc (j * h + x)))
+      above : 4 * (M * (U * U)) < (magnitude h (j * h + x) + magnitude h (suc (j * h + x))) *
+          (magnitude h (j * h + x) + magnitude h (suc (j * h + x)))
       above = elim (eq-or-lt-of-le upto) [
-        | inl e ↦ over-floor (magnitude h (j * h + x)) (magnitude h (suc (j * h + x))) (M * (U * U)) (magnitude-step h (j * h + x) H) (last e)
-        | inr l ↦ rw (at x from upto, ap (magnitude h) (sym (add-suc (j * h) x)) ∙ at (suc x) (le-trans from (le-suc x)) l) (over-middle M U (pow-pos j) x r)
+        | inl e ↦ over-floor (magnitude h (j * h + x)) (magnitude h (suc (j * h + x))) (M * (U * U)) (magnitude-step h (j * h + x) H)
+            (last e)
+        | inr l ↦ rw (at x from upto, ap (magnitude h) (sym (add-suc (j * h) x)) ∙ at (suc x) (le-trans from (le-suc x)) l)
+            (over-middle M U (pow-pos j) x r)
       ]
         where
           last : x ≡ 2 * h → M * (U * U) < magnitude h (j * h + x) * magnitude h (j * h + x)
           last e = rw (at x from upto, e) (omega (arith, mul-lt-mul-of-pos-right high (mul-pos (pow-pos j) (pow-pos j))))
 
 -- ---- the bits of the root of m * 2 ^ k, from the whole number x nearest to the root of its digits
-module _ (b m k x : ℕ) (some : 0 < b) (small : b < ones binary64 * hid binary64) (n : Scaling b m k) (r : Nearest (m * (1 + k % 2) * 0x10_0000_0000_0000) x) where
+module _ (b m k x : ℕ) (some : 0 < b) (small : b < ones binary64 * hid binary64) (n : Scaling b m k)
+    (r : Nearest (m * (1 + k % 2) * 0x10_0000_0000_0000) x) where
   abbrev h : ℕ
   h = 0x10_0000_0000_0000
 

@@ -26,7 +26,8 @@ use Rattle.float.proofs.Rounding.{root-bits}
 abbrev pub Upto : Type 0 → ℕ → ℕ → Type 0
 Upto ev a b = (a < b) ⊎ ((a ≤ b) × ev)
 
--- n lies between the squares of the middles of the number at place b and its neighbours, and on one only where ev holds; doubled, to have no fractions
+-- n lies between the squares of the middles of the number at place b and its neighbours, and on one only where ev holds; doubled, to have
+-- no fractions
 pub record Between (ev : Type 0) (h n b : ℕ) : Type 0 where
   pub lower : Upto ev ((magnitude h (b - 1) + magnitude h b) * (magnitude h (b - 1) + magnitude h b)) (4 * n)
   pub upper : Upto ev (4 * n) ((magnitude h b + magnitude h (suc b)) * (magnitude h b + magnitude h (suc b)))
@@ -49,18 +50,22 @@ circle a b c p q r = omega arith
 one-side : (h n b d : ℕ) → 0 < h → IsRoot h n b → IsRoot h n (suc b + d) → ⊥
 one-side h n b zero H r t = go (r .upper) (t .lower)
   where
-    same : (magnitude h b + magnitude h (suc b)) * (magnitude h b + magnitude h (suc b)) ≡ (magnitude h (suc b + 0 - 1) + magnitude h (suc b + 0)) * (magnitude h (suc b + 0 - 1) + magnitude h (suc b + 0))
+    same : (magnitude h b + magnitude h (suc b)) * (magnitude h b + magnitude h (suc b)) ≡ (magnitude h (suc b + 0 - 1) + magnitude h
+        (suc b + 0)) * (magnitude h (suc b + 0 - 1) + magnitude h (suc b + 0))
     same =
         let p : suc b + 0 - 1 ≡ b = omega arith in
         let q : suc b + 0 ≡ suc b = omega arith in
         rw (p, q)
 
-    go : Upto (b % 2 ≡ 0) (4 * n) ((magnitude h b + magnitude h (suc b)) * (magnitude h b + magnitude h (suc b))) → Upto ((suc b + 0) % 2 ≡ 0) ((magnitude h (suc b + 0 - 1) + magnitude h (suc b + 0)) * (magnitude h (suc b + 0 - 1) + magnitude h (suc b + 0))) (4 * n) → ⊥
+    go : Upto (b % 2 ≡ 0) (4 * n) ((magnitude h b + magnitude h (suc b)) * (magnitude h b + magnitude h (suc b)))
+        → Upto ((suc b + 0) % 2 ≡ 0) ((magnitude h (suc b + 0 - 1) + magnitude h (suc b + 0)) *
+        (magnitude h (suc b + 0 - 1) + magnitude h (suc b + 0))) (4 * n) → ⊥
     go (inl l) (inl k) = omega (arith, same)
     go (inl l) (inr k) = omega (arith, same, k .0)
     go (inr l) (inl k) = omega (arith, same, l .0)
     go (inr l) (inr k) = omega (arith, l .1, k .1)
-one-side h n b (suc d) H r t = circle (4 * n) (x * x) (y * y) (upto-le (r .upper)) (square-lt x y (less (magnitude-le h b (suc d) H) (magnitude-lt h (suc b) d H))) (upto-le (t .lower))
+one-side h n b (suc d) H r t = circle (4 * n) (x * x) (y * y) (upto-le (r .upper))
+    (square-lt x y (less (magnitude-le h b (suc d) H) (magnitude-lt h (suc b) d H))) (upto-le (t .lower))
   where
     x : ℕ
     x = magnitude h b + magnitude h (suc b)
@@ -92,10 +97,13 @@ only-root h n b c H r t = elim (decLt b c) [
 -- ---- the numbers above 0 that are finite, by their place
 pub magnitude-some : (f : Format) (b : ℕ) → 0 < b → 0 < magnitude (hid f) b
 magnitude-some f zero h = absurd (omega arith)
-magnitude-some f (suc b) h = lt-of-le-of-lt zero-le (subst (λ (z : ℕ). magnitude (hid f) 0 < magnitude (hid f) z) (one-add b) (magnitude-lt (hid f) 0 b (hidden-pos f)))
+magnitude-some f (suc b) h = lt-of-le-of-lt zero-le (subst (λ (z : ℕ). magnitude (hid f) 0 < magnitude (hid f) z) (one-add b)
+    (magnitude-lt (hid f) 0 b (hidden-pos f)))
 
 pub magnitude-small : (f : Format) (b : ℕ) → b < ones f * hid f → magnitude (hid f) b < overflow f
-magnitude-small f b h = subst (λ (z : ℕ). magnitude (hid f) b < z) (magnitude-infinity f) (subst (λ (z : ℕ). magnitude (hid f) b < magnitude (hid f) z) (rest (ones f * hid f) h) (magnitude-lt (hid f) b (ones f * hid f - suc b) (hidden-pos f)))
+magnitude-small f b h = subst (λ (z : ℕ). magnitude (hid f) b < z) (magnitude-infinity f)
+    (subst (λ (z : ℕ). magnitude (hid f) b < magnitude (hid f) z) (rest (ones f * hid f) h)
+    (magnitude-lt (hid f) b (ones f * hid f - suc b) (hidden-pos f)))
   where
     rest : (i : ℕ) → b < i → suc b + (i - suc b) ≡ i
     rest i h = omega arith
@@ -135,10 +143,12 @@ no-square q w T J P W l h = elim (decLe T J) [ yes k ↦ few (J - T) (same k) | 
     same : T ≤ J → w ≡ c * c * 2 ^ (J - T)
     same k =
         eq-of-mul-eq-mul-right (2 ^ T) (pow-pos T) w (c * c * 2 ^ (J - T))
-        (h ∙ ap (λ (z : ℕ). c * c * 2 ^ z) (sym (back J T k)) ∙ ap (λ (z : ℕ). c * c * z) (pow-add 2 (J - T) T) ∙ sym (mul-assoc (c * c) (2 ^ (J - T)) (2 ^ T)))
+        (h ∙ ap (λ (z : ℕ). c * c * 2 ^ z) (sym (back J T k)) ∙ ap (λ (z : ℕ). c * c * z) (pow-add 2 (J - T) T)
+        ∙ sym (mul-assoc (c * c) (2 ^ (J - T)) (2 ^ T)))
 
     few : (d : ℕ) → w ≡ c * c * 2 ^ d → ⊥
-    few d e = circle w (2 * q) (c * c * 2 ^ d) (omega arith) (lt-of-lt-of-le more (le-trans (le-of-eq (sym (mul-one (c * c)))) (mul-le-mul-left (c * c) (pow-pos d)))) (le-of-eq (sym e))
+    few d e = circle w (2 * q) (c * c * 2 ^ d) (omega arith)
+        (lt-of-lt-of-le more (le-trans (le-of-eq (sym (mul-one (c * c)))) (mul-le-mul-left (c * c) (pow-pos d)))) (le-of-eq (sym e))
       where
         more : 2 * q < (2 * q + 1) * (2 * q + 1)
         more = omega arith
@@ -147,7 +157,8 @@ no-square q w T J P W l h = elim (decLe T J) [ yes k ↦ few (J - T) (same k) | 
     other k =
         eq-of-mul-eq-mul-right (2 ^ J) (pow-pos J) (w * (2 * 2 ^ (T - J - 1))) (c * c)
         (mul-assoc w (2 * 2 ^ (T - J - 1)) (2 ^ J)
-        ∙ ap (λ (z : ℕ). w * z) (ap (λ (z : ℕ). z * 2 ^ J) (mul-comm 2 (2 ^ (T - J - 1)) ∙ sym (pow-suc 2 (T - J - 1))) ∙ sym (pow-add 2 (suc (T - J - 1)) J) ∙ ap (λ (z : ℕ). 2 ^ z) (whole k)) ∙ h)
+        ∙ ap (λ (z : ℕ). w * z) (ap (λ (z : ℕ). z * 2 ^ J) (mul-comm 2 (2 ^ (T - J - 1)) ∙ sym (pow-suc 2 (T - J - 1)))
+        ∙ sym (pow-add 2 (suc (T - J - 1)) J) ∙ ap (λ (z : ℕ). 2 ^ z) (whole k)) ∙ h)
       where
         whole : ¬ (T ≤ J) → suc (T - J - 1) + J ≡ T
         whole k = omega arith
@@ -176,7 +187,10 @@ module _ (f : Format) (n : ℕ) (some : 0 < n) (small : n < overflow f) where
   one-le binary64 = lit≤ tt
 
   many : prec f < size s
-  many = size-gt s (prec f) (le-trans (pow-mono (fine f)) (le-of (side-lt (2 ^ (low f / 2)) (suc s) N (le-trans (le-of-eq (sym (pow-add 2 (low f / 2) (low f / 2)))) (le-trans (pow-mono (half (low f))) (le-trans (le-of-eq (sym (one-mul (2 ^ low f)))) (mul-le-mul-right (2 ^ low f) some)))) (isqrt-lt N))))
+  many = size-gt s (prec f) (le-trans (pow-mono (fine f))
+      (le-of (side-lt (2 ^ (low f / 2)) (suc s) N (le-trans (le-of-eq (sym (pow-add 2 (low f / 2) (low f / 2))))
+      (le-trans (pow-mono (half (low f))) (le-trans (le-of-eq (sym (one-mul (2 ^ low f)))) (mul-le-mul-right (2 ^ low f) some))))
+      (isqrt-lt N))))
     where
       half : (l : ℕ) → l / 2 + l / 2 ≤ l
       half l = omega arith
@@ -185,7 +199,10 @@ module _ (f : Format) (n : ℕ) (some : 0 < n) (small : n < overflow f) where
       le-of h = omega arith
 
   few : size s ≤ low f + emax f
-  few = size-le s (low f + emax f) (side-lt s (2 ^ (low f + emax f)) N (isqrt-le N) (lt-of-lt-of-le (mul-lt-mul-of-pos-right small (pow-pos (low f))) (le-trans (le-of-eq (sym (pow-add 2 (low f + suc (emax f)) (low f)))) (le-trans (pow-mono (room (low f) (emax f) (one-le f))) (le-of-eq (pow-add 2 (low f + emax f) (low f + emax f)))))))
+  few = size-le s (low f + emax f) (side-lt s (2 ^ (low f + emax f)) N (isqrt-le N)
+      (lt-of-lt-of-le (mul-lt-mul-of-pos-right small (pow-pos (low f)))
+      (le-trans (le-of-eq (sym (pow-add 2 (low f + suc (emax f)) (low f)))) (le-trans (pow-mono (room (low f) (emax f) (one-le f)))
+      (le-of-eq (pow-add 2 (low f + emax f) (low f + emax f)))))))
     where
       room : (l e : ℕ) → 1 ≤ e → l + suc e + l ≤ l + e + (l + e)
       room l e h = omega arith
@@ -206,7 +223,8 @@ module _ (f : Format) (n : ℕ) (some : 0 < n) (small : n < overflow f) where
   hi = subst (λ (g : ℕ). s / 2 ^ g < 2 ^ prec f) (sym suc-j) (kept-lt (prec f) s)
 
   lo : hid f ≤ q
-  lo = le-div-iff-mul-le (pow-pos (suc j)) .1 (le-trans (le-of-eq (sym (pow-add 2 (prec f - 1) (suc j)))) (size-reaches s (prec f - 1 + suc j) (go (size s) (prec f) many (two-le-pos (prec f) (two f)))))
+  lo = le-div-iff-mul-le (pow-pos (suc j)) .1 (le-trans (le-of-eq (sym (pow-add 2 (prec f - 1) (suc j))))
+      (size-reaches s (prec f - 1 + suc j) (go (size s) (prec f) many (two-le-pos (prec f) (two f)))))
     where
       go : (z p : ℕ) → p < z → 0 < p → p - 1 + suc (z - p - 1) < z
       go z p h P = omega arith
@@ -234,7 +252,8 @@ module _ (f : Format) (n : ℕ) (some : 0 < n) (small : n < overflow f) where
 
   -- the values at the two places
   at : (k : ℕ) → hid f ≤ k → k ≤ 2 ^ prec f → magnitude (hid f) (suc j * hid f + k) ≡ k * 2 ^ suc j
-  at k l h = magnitude-at (hid f) k (suc j) (hidden-pos f) (inl l) (le-trans h (le-of-eq (power-twice (prec f) (two-le-pos (prec f) (two f)))))
+  at k l h = magnitude-at (hid f) k (suc j) (hidden-pos f) (inl l)
+      (le-trans h (le-of-eq (power-twice (prec f) (two-le-pos (prec f) (two f)))))
 
   dbl : 2 ^ suc j ≡ 2 * 2 ^ j
   dbl = pow-suc 2 j ∙ mul-comm (2 ^ j) 2
@@ -265,14 +284,18 @@ module _ (f : Format) (n : ℕ) (some : 0 < n) (small : n < overflow f) where
   down t c =
       let b = suc j * hid f + q in
       let e : magnitude (hid f) b ≡ q * 2 ^ suc j = at q lo (le-trans (le-suc q) hi) in
-      let e′ : magnitude (hid f) (suc b) ≡ suc q * 2 ^ suc j = ap (magnitude (hid f)) (sym (add-suc (suc j * hid f) q)) ∙ at (suc q) (le-trans lo (le-suc q)) hi in
+      let e′ : magnitude (hid f) (suc b) ≡ suc q * 2 ^ suc j = ap (magnitude (hid f)) (sym (add-suc (suc j * hid f) q))
+      ∙ at (suc q) (le-trans lo (le-suc q)) hi in
       record {
-        lower = inl (under-floor (magnitude (hid f) (b - 1)) (magnitude (hid f) b) s N (before (suc j * hid f) q lo) (le-trans (le-of-eq e) below) (isqrt-le N));
-        upper = under-mid t (magnitude (hid f) b) (magnitude (hid f) (suc b)) m N (ap (λ (z : ℕ). z + magnitude (hid f) (suc b)) e ∙ ap (λ (z : ℕ). q * 2 ^ suc j + z) e′ ∙ sum-is) c;
+        lower = inl (under-floor (magnitude (hid f) (b - 1)) (magnitude (hid f) b) s N (before (suc j * hid f) q lo)
+            (le-trans (le-of-eq e) below) (isqrt-le N));
+        upper = under-mid t (magnitude (hid f) b) (magnitude (hid f) (suc b)) m N (ap (λ (z : ℕ). z + magnitude (hid f) (suc b)) e ∙ ap
+            (λ (z : ℕ). q * 2 ^ suc j + z) e′ ∙ sum-is) c;
       }
     where
       before : (g q : ℕ) → hid f ≤ q → magnitude (hid f) (g + q - 1) < magnitude (hid f) (g + q)
-      before g q l = subst (λ (z : ℕ). magnitude (hid f) (g + q - 1) < magnitude (hid f) z) (go (hid f) (hidden-pos f) l) (magnitude-lt (hid f) (g + q - 1) 0 (hidden-pos f))
+      before g q l = subst (λ (z : ℕ). magnitude (hid f) (g + q - 1) < magnitude (hid f) z) (go (hid f) (hidden-pos f) l)
+          (magnitude-lt (hid f) (g + q - 1) 0 (hidden-pos f))
         where
           go : (h : ℕ) → 0 < h → h ≤ q → suc (g + q - 1) + 0 ≡ g + q
           go h H l = omega arith
@@ -282,10 +305,13 @@ module _ (f : Format) (n : ℕ) (some : 0 < n) (small : n < overflow f) where
   up t c =
       let b = suc j * hid f + suc q in
       let e : magnitude (hid f) b ≡ suc q * 2 ^ suc j = at (suc q) (le-trans lo (le-suc q)) hi in
-      let e′ : magnitude (hid f) (b - 1) ≡ q * 2 ^ suc j = ap (magnitude (hid f)) (back (suc j * hid f) q) ∙ at q lo (le-trans (le-suc q) hi) in
+      let e′ : magnitude (hid f) (b - 1) ≡ q * 2 ^ suc j = ap (magnitude (hid f)) (back (suc j * hid f) q)
+      ∙ at q lo (le-trans (le-suc q) hi) in
       record {
-        lower = over-mid t (magnitude (hid f) (b - 1)) (magnitude (hid f) b) m N (ap (λ (z : ℕ). z + magnitude (hid f) b) e′ ∙ ap (λ (z : ℕ). q * 2 ^ suc j + z) e ∙ sum-is) c;
-        upper = inl (over-ceil (magnitude (hid f) b) (magnitude (hid f) (suc b)) s N (lt-of-lt-of-le above (le-of-eq (sym e))) (magnitude-step (hid f) b (hidden-pos f)) (isqrt-lt N));
+        lower = over-mid t (magnitude (hid f) (b - 1)) (magnitude (hid f) b) m N (ap (λ (z : ℕ). z + magnitude (hid f) b) e′ ∙ ap
+            (λ (z : ℕ). q * 2 ^ suc j + z) e ∙ sum-is) c;
+        upper = inl (over-ceil (magnitude (hid f) b) (magnitude (hid f) (suc b)) s N (lt-of-lt-of-le above (le-of-eq (sym e)))
+            (magnitude-step (hid f) b (hidden-pos f)) (isqrt-lt N));
       }
     where
       back : (g q : ℕ) → g + suc q - 1 ≡ g + q
@@ -298,8 +324,10 @@ module _ (f : Format) (n : ℕ) (some : 0 < n) (small : n < overflow f) where
       go Ordering·lt h = down (even q) (inl h)
       go Ordering·gt h = up (even (suc q)) (inl h)
       go Ordering·eq h = elim (decLt 0 (q % 2)) [
-        | yes l ↦ subst (λ (k : ℕ). IsRoot (hid f) N (suc j * hid f + k)) (sym (odd-up q l)) (up (even (suc q)) (inr (le-of-eq (sym h), odd-next q l)))
-        | no l ↦ subst (λ (k : ℕ). IsRoot (hid f) N (suc j * hid f + k)) (sym (even-down q l)) (down (even q) (inr (le-of-eq h, even-same q l)))
+        | yes l ↦ subst (λ (k : ℕ). IsRoot (hid f) N (suc j * hid f + k)) (sym (odd-up q l))
+            (up (even (suc q)) (inr (le-of-eq (sym h), odd-next q l)))
+        | no l ↦ subst (λ (k : ℕ). IsRoot (hid f) N (suc j * hid f + k)) (sym (even-down q l))
+            (down (even q) (inr (le-of-eq h, even-same q l)))
       ]
         where
           odd-up : (q : ℕ) → 0 < q % 2 → q + q % 2 ≡ suc q
@@ -318,8 +346,10 @@ module _ (f : Format) (n : ℕ) (some : 0 < n) (small : n < overflow f) where
   module _ (w t : ℕ) (W : w < 2 ^ prec f) (e : n ≡ w * 2 ^ t) where
     no-tie : N ≡ m * m → ⊥
     no-tie h =
-        no-square q w (t + low f) (j + j) (2 ^ prec f) W (le-trans (le-of-eq (power-twice (prec f) (two-le-pos (prec f) (two f)))) (mul-le-mul-left 2 lo))
-        (ap (λ (z : ℕ). w * z) (pow-add 2 t (low f)) ∙ sym (mul-assoc w (2 ^ t) (2 ^ low f)) ∙ ap (λ (z : ℕ). z * 2 ^ low f) (sym e) ∙ h ∙ flat (2 * q + 1) (2 ^ j) ∙ ap (λ (z : ℕ). (2 * q + 1) * (2 * q + 1) * z) (sym (pow-add 2 j j)))
+        no-square q w (t + low f) (j + j) (2 ^ prec f) W (le-trans (le-of-eq (power-twice (prec f) (two-le-pos (prec f) (two f))))
+        (mul-le-mul-left 2 lo))
+        (ap (λ (z : ℕ). w * z) (pow-add 2 t (low f)) ∙ sym (mul-assoc w (2 ^ t) (2 ^ low f)) ∙ ap (λ (z : ℕ). z * 2 ^ low f) (sym e) ∙ h
+        ∙ flat (2 * q + 1) (2 ^ j) ∙ ap (λ (z : ℕ). (2 * q + 1) * (2 * q + 1) * z) (sym (pow-add 2 j j)))
       where
         flat : (c g : ℕ) → c * g * (c * g) ≡ c * c * (g * g)
         flat c g = omega arith
@@ -334,7 +364,8 @@ module _ (f : Format) (n : ℕ) (some : 0 < n) (small : n < overflow f) where
 
   -- the root is no subnormal number, and far from the largest
   pub bits-some : 0 < toBits f (rootOf f n)
-  bits-some = subst (λ (z : ℕ). 0 < z) (sym bits-is) (go (suc j * hid f) (hid f) (nearest q (compare N (m * m))) (hidden-pos f) (le-trans lo (nearest-ge q (compare N (m * m)))))
+  bits-some = subst (λ (z : ℕ). 0 < z) (sym bits-is) (go (suc j * hid f) (hid f) (nearest q (compare N (m * m))) (hidden-pos f)
+      (le-trans lo (nearest-ge q (compare N (m * m)))))
     where
       go : (g h k : ℕ) → 0 < h → h ≤ k → 0 < g + k
       go g h k H l = omega arith
@@ -342,7 +373,9 @@ module _ (f : Format) (n : ℕ) (some : 0 < n) (small : n < overflow f) where
   pub bits-room : suc (toBits f (rootOf f n)) < ones f * hid f
   bits-room =
       subst (λ (z : ℕ). suc z < ones f * hid f) (sym bits-is)
-      (go (prec f) (emax f) (suc j) (hid f) (nearest q (compare N (m * m))) (two f) (pow-mono {i = 1} {j = prec f - 1} (pr (prec f) (two f))) (le-trans (le-trans (nearest-le q (compare N (m * m))) hi) (le-of-eq (power-twice (prec f) (two-le-pos (prec f) (two f))))) room)
+      (go (prec f) (emax f) (suc j) (hid f) (nearest q (compare N (m * m))) (two f) (pow-mono {i = 1} {j = prec f - 1}
+      (pr (prec f) (two f))) (le-trans (le-trans (nearest-le q (compare N (m * m))) hi)
+      (le-of-eq (power-twice (prec f) (two-le-pos (prec f) (two f))))) room)
     where
       pr : (p : ℕ) → 2 ≤ p → 1 ≤ p - 1
       pr p h = omega arith

@@ -13,7 +13,8 @@ unfoldable pub product : {A : Type 0} → Arith A → A → ℕ → A
 product F base zero = F .one
 product F base (suc n) = F .times base (product F base n)
 
-module _ {A : Type 0} (F : Arith A) (assoc : (a b c : A) → F .times (F .times a b) c ≡ F .times a (F .times b c)) (unit : (a : A) → F .times a (F .one) ≡ a) where
+module _ {A : Type 0} (F : Arith A) (assoc : (a b c : A) → F .times (F .times a b) c ≡ F .times a (F .times b c))
+    (unit : (a : A) → F .times a (F .one) ≡ a) where
   square : (b : A) (n : ℕ) → product F (F .times b b) n ≡ product F b (2 * n)
   unfolding product
   square b zero = refl
@@ -41,7 +42,8 @@ module _ {A : Type 0} (F : Arith A) (assoc : (a b c : A) → F .times (F .times 
       even : (n % 2 ≡ 1 → ⊥) → 2 * (n / 2) ≡ n
       even h = omega arith
 
-      go : (t : Bool) → (T t → n % 2 ≡ 1) → (n % 2 ≡ 1 → T t) → F .times (cond t (F .times r b) r) (product F b (2 * (n / 2))) ≡ F .times r (product F b n)
+      go : (t : Bool) → (T t → n % 2 ≡ 1) → (n % 2 ≡ 1 → T t) → F .times (cond t (F .times r b) r) (product F b (2 * (n / 2)))
+          ≡ F .times r (product F b n)
       go true h k = assoc r b (product F b (2 * (n / 2))) ∙ ap (λ (z : ℕ). F .times r (product F b z)) (odd (h tt))
       go false h k = ap (λ (z : ℕ). F .times r (product F b z)) (even k)
 

@@ -35,14 +35,16 @@ module _ (f : Format) (m : ℕ) (e : ℤ) (F : T (fits f (fin false (suc m) e)))
       E = encoded f x F tt
 
       has : (s : Bool) (p : ℕ) → toBits f x ≡ cond s (top f) 0 + p → p < ones f * hid f → HasValue x s (magnitude (hid f) p) (2 ^ low f)
-      has s p h l = subst (λ (y : Float). HasValue y s (magnitude (hid f) p) (2 ^ low f)) (ap (ofBits f) (sym h) ∙ ofBits-toBits f x F) (ofBits-value f s p l)
+      has s p h l = subst (λ (y : Float). HasValue y s (magnitude (hid f) p) (2 ^ low f)) (ap (ofBits f) (sym h) ∙ ofBits-toBits f x F)
+          (ofBits-value f s p l)
 
       none : (h : ℕ) → 0 < h → magnitude h 0 ≡ 0
       none h H = ap (λ (z : ℕ). (0 - (z - 1) * h) * 2 ^ (z - 1)) (div-eq-of-lt H) ∙ omega arith
 
       at : (p : ℕ) → toBits f x ≡ p → p < ones f * hid f → suc m * up e * 2 ^ low f ≡ magnitude (hid f) p * down e → Placed
       at zero h l v =
-          absurd (lt-irrefl 0 (subst (λ (z : ℕ). 0 < z) (v ∙ ap (λ (z : ℕ). z * down e) (none (hid f) (hidden-pos f)) ∙ zero-mul (down e)) (mul-pos (mul-pos (zero-lt-suc m) (up-pos e)) (pow-pos (low f)))))
+          absurd (lt-irrefl 0 (subst (λ (z : ℕ). 0 < z) (v ∙ ap (λ (z : ℕ). z * down e) (none (hid f) (hidden-pos f)) ∙ zero-mul (down e))
+          (mul-pos (mul-pos (zero-lt-suc m) (up-pos e)) (pow-pos (low f)))))
       at (suc p) h l v = record { some = rw h (zero-lt-suc p); small = rw h l; exact = rw h v }
 
       go : (s : Bool) (p : ℕ) → toBits f x ≡ cond s (top f) 0 + p → p < ones f * hid f → Placed
@@ -51,7 +53,8 @@ module _ (f : Format) (m : ℕ) (e : ℤ) (F : T (fits f (fin false (suc m) e)))
 
   pub root-of-bits : rootOf f (magnitude (hid f) (toBits f x)) ≡ sqrtOf f x
   unfolding sqrtOf
-  root-of-bits = ap (rootOf f) (sym (ap (λ (z : ℕ). z / down e) (placed .exact) ∙ mul-div-cancel (magnitude (hid f) (toBits f x)) (down-pos e)))
+  root-of-bits = ap (rootOf f) (sym (ap (λ (z : ℕ). z / down e) (placed .exact) ∙ mul-div-cancel (magnitude (hid f) (toBits f x)) (down-pos
+      e)))
 
 -- ---- the rounded root is no NaN, and its bits read back
 round-no-nan : (f : Format) (s : Bool) (a c : ℕ) → isNan (round f s a c) ≡ false
@@ -80,7 +83,8 @@ pub bits-no-nan : (f : Format) (b : ℕ) → nanBits f (rootBits f b) ≡ false
 bits-no-nan f b = nanBits-is f (rootBits f b) ∙ ap isNan (bits-back f b) ∙ no-nan (magnitude (hid f) b)
   where
     no-nan : (n : ℕ) → isNan (rootOf f n) ≡ false
-    no-nan n = unfold rootOf in round-no-nan f false (2 * isqrt (n * 2 ^ low f) + sticky (isqrt (n * 2 ^ low f)) (n * 2 ^ low f)) (2 * 2 ^ low f)
+    no-nan n = unfold rootOf in round-no-nan f false (2 * isqrt (n * 2 ^ low f) + sticky (isqrt (n * 2 ^ low f)) (n * 2 ^ low f))
+        (2 * 2 ^ low f)
 
 -- ---- the tests of the code
 -- a number above 0, or +infinity
@@ -145,4 +149,5 @@ root-none x h k = go x (ap (λ (z : Float). lt z x) (sym zero-is) ∙ h) k
     go (inf false) h k = absurd (true≢false h)
     go (fin s zero e) h k = clash (zero-eq s e) k
     go (fin true (suc m) e) h k = refl
-    go (fin false (suc m) e) h k = clash (is-true (ltb (0 * 1 * down e) (suc m * up e * 1)) (lt→ltb (0 * 1 * down e) (suc m * up e * 1) (more m e (mul-pos (zero-lt-suc m) (up-pos e))))) h
+    go (fin false (suc m) e) h k = clash (is-true (ltb (0 * 1 * down e) (suc m * up e * 1))
+        (lt→ltb (0 * 1 * down e) (suc m * up e * 1) (more m e (mul-pos (zero-lt-suc m) (up-pos e))))) h

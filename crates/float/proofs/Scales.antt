@@ -12,7 +12,8 @@ use Rattle.float.specs.RootSteps.{Scaling, radicand}
 pub halves : (k : ℕ) → 52 ≤ k → 2 ^ k ≡ (1 + k % 2) * 0x10_0000_0000_0000 * (2 ^ (k / 2 - 26) * 2 ^ (k / 2 - 26))
 halves k h =
     ap (λ (z : ℕ). 2 ^ z) split ∙ pow-add 2 (k % 2) (52 + (j + j)) ∙ ap (λ (z : ℕ). z * 2 ^ (52 + (j + j))) (small (k % 2) (omega arith))
-    ∙ ap (λ (z : ℕ). (1 + k % 2) * z) (pow-add 2 52 (j + j) ∙ ap (λ (z : ℕ). 2 ^ 52 * z) (pow-add 2 j j)) ∙ sym (mul-assoc (1 + k % 2) 0x10_0000_0000_0000 (2 ^ j * 2 ^ j))
+    ∙ ap (λ (z : ℕ). (1 + k % 2) * z) (pow-add 2 52 (j + j) ∙ ap (λ (z : ℕ). 2 ^ 52 * z) (pow-add 2 j j))
+    ∙ sym (mul-assoc (1 + k % 2) 0x10_0000_0000_0000 (2 ^ j * 2 ^ j))
   where
     j : ℕ
     j = k / 2 - 26
@@ -54,12 +55,15 @@ low-value b l z h =
     one : (b : ℕ) → (b - 0) * 1 ≡ b
     one b = omega arith
 
-high-value : (b x : ℕ) → b / 0x10_0000_0000_0000 ≡ suc x → b % 0x10_0000_0000_0000 + 0x10_0000_0000_0000 ≡ b - x * 0x10_0000_0000_0000 → (b % 0x10_0000_0000_0000 + 0x10_0000_0000_0000) * 2 ^ (1073 + suc x) ≡ radicand b
+high-value : (b x : ℕ) → b / 0x10_0000_0000_0000 ≡ suc x → b % 0x10_0000_0000_0000 + 0x10_0000_0000_0000 ≡ b - x * 0x10_0000_0000_0000
+    → (b % 0x10_0000_0000_0000 + 0x10_0000_0000_0000) * 2 ^ (1073 + suc x) ≡ radicand b
 unfolding radicand
 high-value b x e h =
-    ap (λ (z : ℕ). z * 2 ^ (1073 + suc x)) h ∙ ap (λ (z : ℕ). (b - x * 0x10_0000_0000_0000) * z) (ap (λ (z : ℕ). 2 ^ z) (flip x) ∙ pow-add 2 x 1074)
+    ap (λ (z : ℕ). z * 2 ^ (1073 + suc x)) h ∙ ap (λ (z : ℕ). (b - x * 0x10_0000_0000_0000) * z)
+    (ap (λ (z : ℕ). 2 ^ z) (flip x) ∙ pow-add 2 x 1074)
     ∙ sym (mul-assoc (b - x * 0x10_0000_0000_0000) (2 ^ x) (2 ^ 1074))
-    ∙ ap (λ (z : ℕ). z * 2 ^ 1074) (sym (ap (λ (z : ℕ). (b - (z - 1) * 0x10_0000_0000_0000) * 2 ^ (z - 1)) e ∙ ap (λ (z : ℕ). (b - z * 0x10_0000_0000_0000) * 2 ^ z) (pr x)))
+    ∙ ap (λ (z : ℕ). z * 2 ^ 1074) (sym (ap (λ (z : ℕ). (b - (z - 1) * 0x10_0000_0000_0000) * 2 ^ (z - 1)) e
+    ∙ ap (λ (z : ℕ). (b - z * 0x10_0000_0000_0000) * 2 ^ z) (pr x)))
   where
     flip : (x : ℕ) → 1073 + suc x ≡ x + 1074
     flip x = omega arith
@@ -76,7 +80,8 @@ scale-low b p l = go (leading b p l)
         let e : b * 2 ^ z % 2 ^ 64 ≡ b * 2 ^ z = shl-exact (suc (d .j)) z 64 (d .high) (omega arith) in
         subst (λ (m : ℕ). Scaling b m (1074 - z)) (sym e)
         (record {
-          low = le-trans (le-of-eq (ap (λ (x : ℕ). 2 ^ x) (sym (flip z (d .j) (d .is))) ∙ pow-add 2 (d .j) z)) (mul-le-mul-right (2 ^ z) (d .low));
+          low = le-trans (le-of-eq (ap (λ (x : ℕ). 2 ^ x) (sym (flip z (d .j) (d .is))) ∙ pow-add 2 (d .j) z))
+              (mul-le-mul-right (2 ^ z) (d .low));
           high = lt-of-lt-of-le (shl-lt (suc (d .j)) z (d .high)) (le-of-eq (ap (λ (x : ℕ). 2 ^ x) (flip′ z (d .j) (d .is))));
           from = omega arith;
           upto = omega arith;
@@ -89,7 +94,8 @@ scale-low b p l = go (leading b p l)
         flip′ : (z j : ℕ) → z + j ≡ 52 → suc j + z ≡ 53
         flip′ z j e = omega arith
 
-pub scale-high : (b : ℕ) → (b / 0x10_0000_0000_0000 ≡ 0 → ⊥) → b < 2047 * 0x10_0000_0000_0000 → Scaling b (b % 0x10_0000_0000_0000 + 0x10_0000_0000_0000) (1073 + b / 0x10_0000_0000_0000)
+pub scale-high : (b : ℕ) → (b / 0x10_0000_0000_0000 ≡ 0 → ⊥) → b < 2047 * 0x10_0000_0000_0000
+    → Scaling b (b % 0x10_0000_0000_0000 + 0x10_0000_0000_0000) (1073 + b / 0x10_0000_0000_0000)
 scale-high b n l = go (b / 0x10_0000_0000_0000) refl n
   where
     go : (x : ℕ) → b / 0x10_0000_0000_0000 ≡ x → (x ≡ 0 → ⊥) → Scaling b (b % 0x10_0000_0000_0000 + 0x10_0000_0000_0000) (1073 + x)

@@ -30,7 +30,8 @@ use Rattle.float.proofs.RootCases.{placed, root-of-bits, root-fits}
 
 -- ---- the square of the middle of u / l and v / l against n / l, on whole numbers
 same-test : (x y a b k : ℕ) → 0 < k → x ≡ a * k → y ≡ b * k → leb x y ≡ leb a b
-same-test x y a b k K p q = same-tests (leb x y) (leb a b) (λ t. le→leb a b (le-of-mul-le-mul-right (rw (p, q) at (leb→le x y t)) K)) (λ t. le→leb x y (rw (p, q) (mul-le-mul-right k (leb→le a b t))))
+same-test x y a b k K p q = same-tests (leb x y) (leb a b) (λ t. le→leb a b (le-of-mul-le-mul-right (rw (p, q) at (leb→le x y t)) K))
+    (λ t. le→leb x y (rw (p, q) (mul-le-mul-right k (leb→le a b t))))
 
 module _ (u v n l : ℕ) (L : 0 < l) where
   abbrev square : ℚ
@@ -42,11 +43,13 @@ module _ (u v n l : ℕ) (L : 0 < l) where
 
   square-le : atMostq square (fraction (pos n) l L) ≡ leb ((u + v) * (u + v)) (4 * (n * l))
   unfolding atMostq _+q_ _*q_
-  square-le = same-test (1 * (u * l + v * l) * (1 * (u * l + v * l)) * l + 0) (n * (2 * (l * l) * (2 * (l * l))) + 0) ((u + v) * (u + v)) (4 * (n * l)) (l * l * l) cube (omega arith) (omega arith)
+  square-le = same-test (1 * (u * l + v * l) * (1 * (u * l + v * l)) * l + 0) (n * (2 * (l * l) * (2 * (l * l))) + 0) ((u + v) * (u + v))
+      (4 * (n * l)) (l * l * l) cube (omega arith) (omega arith)
 
   le-square : atMostq (fraction (pos n) l L) square ≡ leb (4 * (n * l)) ((u + v) * (u + v))
   unfolding atMostq _+q_ _*q_
-  le-square = same-test (n * (2 * (l * l) * (2 * (l * l))) + 0) (1 * (u * l + v * l) * (1 * (u * l + v * l)) * l + 0) (4 * (n * l)) ((u + v) * (u + v)) (l * l * l) cube (omega arith) (omega arith)
+  le-square = same-test (n * (2 * (l * l) * (2 * (l * l))) + 0) (1 * (u * l + v * l) * (1 * (u * l + v * l)) * l + 0) (4 * (n * l))
+      ((u + v) * (u + v)) (l * l * l) cube (omega arith) (omega arith)
 
 -- what a test says, either way round
 upto-of : {E : Type 0} (x y : Bool) (a b : ℕ) → x ≡ leb b a → y ≡ leb a b → Upto E a b → T (not x) ⊎ (T y × E)
@@ -119,7 +122,8 @@ module _ (f : Format) where
         less z l = omega arith
 
 -- ---- squares on fractions and on whole numbers
-module _ (f : Format) (r : Float) (F : T (fits f r)) (some : 0 < toBits f r) (room : suc (toBits f r) < ones f * hid f) (x : Float) (n : ℕ) (is : value x ≡ fraction (pos n) (2 ^ low f) (pow-pos (low f))) where
+module _ (f : Format) (r : Float) (F : T (fits f r)) (some : 0 < toBits f r) (room : suc (toBits f r) < ones f * hid f) (x : Float) (n : ℕ)
+    (is : value x ≡ fraction (pos n) (2 ^ low f) (pow-pos (low f))) where
   abbrev u : ℕ
   u = magnitude (hid f) (toBits f r - 1)
 
@@ -160,7 +164,11 @@ module _ (f : Format) (r : Float) (F : T (fits f r)) (some : 0 < toBits f r) (ro
       }
 
   strict-of : Between ⊥ (hid f) (n * 2 ^ low f) (toBits f r) → (middle² (nextDown f r) r <q value x) × (value x <q middle² r (nextUp f r))
-  strict-of t = (less (upto-of _ _ ((u + v) * (u + v)) (4 * (n * 2 ^ low f)) le-lower lower-le (t .lower)), less (upto-of _ _ (4 * (n * 2 ^ low f)) ((v + w) * (v + w)) upper-le le-upper (t .upper)))
+  strict-of t = (
+    less (upto-of _ _ ((u + v) * (u + v)) (4 * (n * 2 ^ low f)) le-lower lower-le (t .lower)),
+    less
+        (upto-of _ _ (4 * (n * 2 ^ low f)) ((v + w) * (v + w)) upper-le le-upper (t .upper)),
+  )
     where
       less : {A B : Type 0} → A ⊎ (B × ⊥) → A
       less (inl a) = a
@@ -190,7 +198,8 @@ module _ (f : Format) (m : ℕ) (e : ℤ) (F : T (fits f (fin false (suc m) e)))
   root = rootOf f n
 
   is-nearest : NearestRoot f number root
-  is-nearest = nearest-of f root (root-fits f n) (bits-some f n some bounded) (bits-room f n some bounded) number n value-x (nearest-root f n some bounded)
+  is-nearest = nearest-of f root (root-fits f n) (bits-some f n some bounded) (bits-room f n some bounded) number n value-x
+      (nearest-root f n some bounded)
 
   is-only : (r′ : Float) → NearestRoot f number r′ → r′ ≡ root
   is-only r′ t = go r′ (t .held) (t .above) (t .inside) t
@@ -198,15 +207,19 @@ module _ (f : Format) (m : ℕ) (e : ℤ) (F : T (fits f (fin false (suc m) e)))
       at : (r′ : Float) → T (fits f r′) → 0 < toBits f r′ → suc (toBits f r′) < ones f * hid f → NearestRoot f number r′ → r′ ≡ root
       at r′ G p q t =
           sym (ofBits-toBits f r′ G)
-          ∙ ap (ofBits f) (only-root (hid f) (n * 2 ^ low f) (toBits f r′) (toBits f root) (hidden-pos f) (of-nearest f r′ G p q number n value-x t) (nearest-root f n some bounded))
+          ∙ ap (ofBits f) (only-root (hid f) (n * 2 ^ low f) (toBits f r′) (toBits f root) (hidden-pos f)
+          (of-nearest f r′ G p q number n value-x t) (nearest-root f n some bounded))
           ∙ ofBits-toBits f root (root-fits f n)
 
       -- the number after r′ is finite, so its place is below the infinity's
-      below : (k : ℕ) (d : ℤ) (G : T (fits f (fin false (suc k) d))) → T (finite (nextUp f (fin false (suc k) d))) → suc (toBits f (fin false (suc k) d)) < ones f * hid f
+      below : (k : ℕ) (d : ℤ) (G : T (fits f (fin false (suc k) d))) → T (finite (nextUp f (fin false (suc k) d)))
+          → suc (toBits f (fin false (suc k) d)) < ones f * hid f
       below k d G h = elim (eq-or-lt-of-le (placed f k d G .small)) [ inl e ↦ absurd (never e) | inr l ↦ l ]
         where
           never : suc (toBits f (fin false (suc k) d)) ≡ ones f * hid f → ⊥
-          never e = subst (λ (z : Float). T (finite z)) (next-up-finite f (fin false (suc k) d) tt ∙ ap (ofBits f) (up-positive f (toBits f (fin false (suc k) d)) (placed f k d G .small) ∙ e ∙ sym (zero-add (ones f * hid f))) ∙ ofBits-infinity f false) h
+          never e = subst (λ (z : Float). T (finite z)) (next-up-finite f (fin false (suc k) d) tt ∙ ap (ofBits f)
+              (up-positive f (toBits f (fin false (suc k) d)) (placed f k d G .small) ∙ e ∙ sym (zero-add (ones f * hid f)))
+              ∙ ofBits-infinity f false) h
 
       go : (r′ : Float) → T (fits f r′) → T (positive r′) → T (finite (nextUp f r′)) → NearestRoot f number r′ → r′ ≡ root
       go nan G p q t = absurd p
@@ -219,7 +232,9 @@ module _ (f : Format) (m : ℕ) (e : ℤ) (F : T (fits f (fin false (suc m) e)))
   is-strict =
       let h = hid f in
       strict-of f root (root-fits f n) (bits-some f n some bounded) (bits-room f n some bounded) number n value-x
-      (strict-root f n some bounded (bits - (bits / h - 1) * h) (bits / h - 1) (lt-of-lt-of-le (digits h (bits / h) (hidden-pos f) (lt-div-mul-add {a = bits} (hidden-pos f))) (le-of-eq (sym (power-twice (prec f) (two-le-pos (prec f) (two f)))))) refl)
+      (strict-root f n some bounded (bits - (bits / h - 1) * h) (bits / h - 1)
+      (lt-of-lt-of-le (digits h (bits / h) (hidden-pos f) (lt-div-mul-add {a = bits} (hidden-pos f)))
+      (le-of-eq (sym (power-twice (prec f) (two-le-pos (prec f) (two f)))))) refl)
     where
       digits : (h q : ℕ) → 0 < h → bits < q * h + h → bits - (q - 1) * h < 2 * h
       digits h zero H l = omega arith
@@ -250,9 +265,11 @@ sqrt-only f (fin true (suc m) e) r F h = h
 sqrt-only f (fin false (suc m) e) r F h = is-only f m e F r h ∙ root-of-bits f m e F
 
 -- and no tie occurs: a finite number above 0 lies strictly between the squares of the two middles
-pub sqrt-strict : (f : Format) (x : Float) → T (fits f x) → T (positive x) → (middle² (nextDown f (sqrtOf f x)) (sqrtOf f x) <q value x) × (value x <q middle² (sqrtOf f x) (nextUp f (sqrtOf f x)))
+pub sqrt-strict : (f : Format) (x : Float) → T (fits f x) → T (positive x) → (middle² (nextDown f (sqrtOf f x)) (sqrtOf f x) <q value x)
+    × (value x <q middle² (sqrtOf f x) (nextUp f (sqrtOf f x)))
 sqrt-strict f nan F p = absurd p
 sqrt-strict f (inf s) F p = absurd p
 sqrt-strict f (fin true m e) F p = absurd p
 sqrt-strict f (fin false zero e) F p = absurd p
-sqrt-strict f (fin false (suc m) e) F p = subst (λ (r : Float). (middle² (nextDown f r) r <q value (fin false (suc m) e)) × (value (fin false (suc m) e) <q middle² r (nextUp f r))) (root-of-bits f m e F) (is-strict f m e F)
+sqrt-strict f (fin false (suc m) e) F p = subst (λ (r : Float). (middle² (nextDown f r) r <q value (fin false (suc m) e))
+    × (value (fin false (suc m) e) <q middle² r (nextUp f r))) (root-of-bits f m e F) (is-strict f m e F)

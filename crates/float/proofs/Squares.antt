@@ -52,9 +52,11 @@ cmp-is o a b h = go o (compare a b) h (cmp a b)
     go Ordering·gt Ordering·gt h k = refl
 
 -- ---- `isqrt`, a digit at a time
-grow-law : (n m r : ℕ) → n / 4 ≡ m → r * r ≤ m → m < suc r * suc r → (grow n (2 * r) * grow n (2 * r) ≤ n) × (n < suc (grow n (2 * r)) * suc (grow n (2 * r)))
+grow-law : (n m r : ℕ) → n / 4 ≡ m → r * r ≤ m → m < suc r * suc r → (grow n (2 * r) * grow n (2 * r) ≤ n)
+    × (n < suc (grow n (2 * r)) * suc (grow n (2 * r)))
 unfolding grow
-grow-law n m r e lo hi = go (leb (suc (2 * r) * suc (2 * r)) n) (leb→le (suc (2 * r) * suc (2 * r)) n) (nleb→lt (suc (2 * r) * suc (2 * r)) n)
+grow-law n m r e lo hi = go (leb (suc (2 * r) * suc (2 * r)) n) (leb→le (suc (2 * r) * suc (2 * r)) n)
+    (nleb→lt (suc (2 * r) * suc (2 * r)) n)
   where
     go : (b : Bool) → (T b → suc (2 * r) * suc (2 * r) ≤ n) → (T (not b) → n < suc (2 * r) * suc (2 * r))
         → ((2 * r + cond b 1 0) * (2 * r + cond b 1 0) ≤ n) × (n < suc (2 * r + cond b 1 0) * suc (2 * r + cond b 1 0))
@@ -65,7 +67,8 @@ floor-law : (k n : ℕ) → n < 2 ^ (2 * k) → (floorIn k n * floorIn k n ≤ n
 unfolding floorIn
 floor-law zero n h = (omega arith, omega arith)
 floor-law (suc k) n h =
-    let g = floor-law k (n / 4) (quarter (2 ^ (2 * k)) (lt-of-lt-of-le h (le-of-eq (ap (λ (z : ℕ). 2 ^ z) (two k) ∙ pow-add 2 (2 * k) 2)))) in
+    let g = floor-law k (n / 4) (quarter (2 ^ (2 * k))
+    (lt-of-lt-of-le h (le-of-eq (ap (λ (z : ℕ). 2 ^ z) (two k) ∙ pow-add 2 (2 * k) 2)))) in
     grow-law n (n / 4) (floorIn k (n / 4)) refl (g .0) (g .1)
   where
     two : (k : ℕ) → 2 * suc k ≡ 2 * k + 2

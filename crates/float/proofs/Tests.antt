@@ -62,7 +62,8 @@ zero-of s e nan h = absurd (true≢false (sym h))
 zero-of s e (inf t) h = absurd (true≢false (sym h))
 zero-of s e (fin t zero d) h = a-zero t d
 zero-of s e (fin t (suc n) d) h =
-    absurd (not-zero n d e (sym (eqb→eq (0 * up e * down d) (suc n * up d * down e) (and-l (eqb (0 * up e * down d) (suc n * up d * down e)) (Bool·beq s t || eqb (0 * up e * down d) 0) (holds h))) ∙ none (up e) (down d)))
+    absurd (not-zero n d e (sym (eqb→eq (0 * up e * down d) (suc n * up d * down e) (and-l (eqb (0 * up e * down d) (suc n * up d * down e))
+    (Bool·beq s t || eqb (0 * up e * down d) 0) (holds h))) ∙ none (up e) (down d)))
   where
     none : (a b : ℕ) → 0 * a * b ≡ 0
     none a b = omega arith
@@ -79,14 +80,16 @@ is-zero x h = go x (ap (eq x) (sym zero-is) ∙ h)
     go (inf s) h = absurd (true≢false (sym h))
     go (fin s zero e) h = a-zero s e
     go (fin s (suc m) e) h =
-        absurd (not-zero m e (pos 0) (eqb→eq (suc m * up e * 1) (0 * 1 * down e) (and-l (eqb (suc m * up e * 1) (0 * 1 * down e)) (Bool·beq s false || eqb (suc m * up e * 1) 0) (holds h)) ∙ none (down e)))
+        absurd (not-zero m e (pos 0) (eqb→eq (suc m * up e * 1) (0 * 1 * down e) (and-l (eqb (suc m * up e * 1) (0 * 1 * down e))
+        (Bool·beq s false || eqb (suc m * up e * 1) 0) (holds h)) ∙ none (down e)))
 
 pub zero-eq : (s : Bool) (e : ℤ) → eq (fin s zero e) +0 ≡ true
 unfolding eq
 zero-eq s e =
     let p : 0 * up e * 1 ≡ 0 * 1 * down e = omega arith in
     let q : 0 * up e * 1 ≡ 0 = omega arith in
-    ap (eq (fin s zero e)) zero-is ∙ both (eqb (0 * up e * 1) (0 * 1 * down e)) (Bool·beq s false) (eqb (0 * up e * 1) 0) (eq→eqb p) (eq→eqb q)
+    ap (eq (fin s zero e)) zero-is ∙ both (eqb (0 * up e * 1) (0 * 1 * down e)) (Bool·beq s false) (eqb (0 * up e * 1) 0) (eq→eqb p)
+    (eq→eqb q)
   where
     both : (a b c : Bool) → T a → T c → (a && (b || c)) ≡ true
     both true true c t u = refl
@@ -113,4 +116,6 @@ pub bits-plain : (n : ℕ) → n % 0x8000_0000_0000_0000 ≤ 0x7ff0_0000_0000_00
 bits-plain n h = rw (nanBits-above binary64 n) (le→nltb 0x7ff0_0000_0000_0000 (n % 0x8000_0000_0000_0000) h)
 
 pub plain-bits : (x : Float) → T (fits binary64 x) → isNan x ≡ false → toBits binary64 x % 0x8000_0000_0000_0000 ≤ 0x7ff0_0000_0000_0000
-plain-bits x F h = nltb→le 0x7ff0_0000_0000_0000 (toBits binary64 x % 0x8000_0000_0000_0000) (subst (λ (b : Bool). T (not b)) (sym (sym (nanBits-above binary64 (toBits binary64 x)) ∙ nanBits-is binary64 (toBits binary64 x) ∙ ap isNan (ofBits-toBits binary64 x F) ∙ h)) tt)
+plain-bits x F h = nltb→le 0x7ff0_0000_0000_0000 (toBits binary64 x % 0x8000_0000_0000_0000)
+    (subst (λ (b : Bool). T (not b)) (sym (sym (nanBits-above binary64 (toBits binary64 x)) ∙ nanBits-is binary64 (toBits binary64 x)
+    ∙ ap isNan (ofBits-toBits binary64 x F) ∙ h)) tt)

@@ -1,5 +1,5 @@
--- The total order is one: of two values one comes before the other or is it, the order is transitive, and two values of a format that come before
--- each other are the same.
+-- The total order is one: of two values one comes before the other or is it, the order is transitive, and two values of a format that come
+-- before each other are the same.
 use mathlib.Core.Path.{_≡_, refl, sym, ap, _∙_, subst}
 use mathlib.Core.Bool.{Bool, true, false, not, _&&_, _||_, Bool·beq, cond, true≢false}
 use Prim.Native.Nat.{ℕ, _+_, _*_, _^_, _≤_, _<_}
@@ -120,10 +120,12 @@ fails e = subst (λ (b : Bool). T (not b)) (sym e) tt
 
 le-number : (s t : Bool) (m n : ℕ) (e d : ℤ) → value (fin s m e) ≤q value (fin t n d) → lt (fin t n d) (fin s m e) ≡ false
 unfolding lt atMostq
-le-number s t m n e d h = go s t (m * up e * down d) (n * up d * down e) (signed-order s t (m * up e * down d) (n * up d * down e) (rw (signed-mul s (m * up e) (down d), signed-mul t (n * up d) (down e)) at cross))
+le-number s t m n e d h = go s t (m * up e * down d) (n * up d * down e) (signed-order s t (m * up e * down d) (n * up d * down e)
+    (rw (signed-mul s (m * up e) (down d), signed-mul t (n * up d) (down e)) at cross))
   where
     cross : signed s (m * up e) *ℤ pos (down d) ≤ℤ signed t (n * up d) *ℤ pos (down e)
-    cross = fraction-at-most (record { numerator = signed s (m * up e); denominator = down e; positive = down-pos e }) (record { numerator = signed t (n * up d); denominator = down d; positive = down-pos d }) h
+    cross = fraction-at-most (record { numerator = signed s (m * up e); denominator = down e; positive = down-pos e })
+        (record { numerator = signed t (n * up d); denominator = down d; positive = down-pos d }) h
 
     go : (s t : Bool) (a b : ℕ) → cond s (cond t (b ≤ a) (Unit {0})) (cond t ((a ≡ 0) × (b ≡ 0)) (a ≤ b)) → below t b s a ≡ false
     go false false a b h = is-false (ltb b a) (le→nltb b a h)
@@ -147,7 +149,8 @@ le-trans (number s m e) (number t l g) (infinite true) h k = absurd (true≢fals
 le-trans (number s m e) (number t l g) (infinite false) h k = refl
 le-trans (number s m e) (number t l g) (number u n d) h k =
     le-number s u m n e d
-    (≤q-trans (value (fin s m e)) (value (fin t l g)) (value (fin u n d)) (value-le-of-not-lt (fin s m e) (fin t l g) tt tt (fails h)) (value-le-of-not-lt (fin t l g) (fin u n d) tt tt (fails k)))
+    (≤q-trans (value (fin s m e)) (value (fin t l g)) (value (fin u n d)) (value-le-of-not-lt (fin s m e) (fin t l g) tt tt (fails h))
+    (value-le-of-not-lt (fin t l g) (fin u n d) tt tt (fails k)))
 
 -- ---- what `totalLe` says of two that are no NaN
 abbrev signs : Float → Float → Bool
@@ -225,7 +228,8 @@ total x y = go (isNan x) (isNan y) refl refl
     go false false n m =
         let p = real x n in
         let q = real y m in
-        rw (le-is x q, le-is y p) (either (lt x y) (eq x y) (lt y x) (eq y x) (signs x y) (signs y x) (tri p q) (tri q p) (one-sign (negative x) (negative y)))
+        rw (le-is x q, le-is y p) (either (lt x y) (eq x y) (lt y x) (eq y x) (signs x y) (signs y x) (tri p q) (tri q p)
+        (one-sign (negative x) (negative y)))
 
 pub transitive : (x y z : Float) → totalLe x y ≡ true → totalLe y z ≡ true → totalLe x z ≡ true
 transitive x y z h k = go (isNan z) refl
@@ -246,7 +250,8 @@ transitive x y z h k = go (isNan z) refl
         said p r
         (record {
           upto = le-trans p q r (a .upto) (b .upto);
-          sign = λ l. signs-on (negative x) (negative y) (negative z) (a .sign (le-trans q r p (b .upto) l)) (b .sign (le-trans r p q l (a .upto)));
+          sign = λ l. signs-on (negative x) (negative y) (negative z) (a .sign (le-trans q r p (b .upto) l))
+              (b .sign (le-trans r p q l (a .upto)));
         })
 
 -- values of a format that come before each other are the same
@@ -269,15 +274,21 @@ antisymmetric f x y fx fy h k = go (isNan y) refl
     bits (infinite s) (number t m d) e n = unfold eq in absurd (true≢false (sym e))
     bits (number s m e) (infinite t) h n = unfold eq in absurd (true≢false (sym h))
     bits (number s m e) (number t l d) h n = unfold toBits eq negative in
-        let w : m * up e * down d ≡ l * up d * down e = eqb→eq (m * up e * down d) (l * up d * down e) (and-l (eqb (m * up e * down d) (l * up d * down e)) (Bool·beq s t || eqb (m * up e * down d) 0) (holds h)) in
-        rw (n, div-same (m * up e * 2 ^ low f) (down e) (l * up d * 2 ^ low f) (down d) (down-pos e) (down-pos d) (omega (arith, ap (λ (z : ℕ). z * 2 ^ low f) w)))
+        let w : m * up e * down d ≡ l * up d * down e = eqb→eq (m * up e * down d) (l * up d * down e)
+        (and-l (eqb (m * up e * down d) (l * up d * down e)) (Bool·beq s t || eqb (m * up e * down d) 0) (holds h)) in
+        rw (
+          n,
+          div-same (m * up e * 2 ^ low f) (down e) (l * up d * 2 ^ low f) (down d) (down-pos e) (down-pos d)
+              (omega (arith, ap (λ (z : ℕ). z * 2 ^ low f) w)),
+        )
 
     both : Real x → Real y → x ≡ y
     both p q =
         let a = says p q h in
         let b = says q p k in
         sym (ofBits-toBits f x fx)
-        ∙ ap (ofBits f) (bits p q (level-of (lt x y) (eq x y) (lt y x) (tri p q) (b .upto) (a .upto)) (one-sign (negative x) (negative y) (a .sign (b .upto)) (b .sign (a .upto))))
+        ∙ ap (ofBits f) (bits p q (level-of (lt x y) (eq x y) (lt y x) (tri p q) (b .upto) (a .upto))
+        (one-sign (negative x) (negative y) (a .sign (b .upto)) (b .sign (a .upto))))
         ∙ ofBits-toBits f y fy
 
     go : (b : Bool) → isNan y ≡ b → x ≡ y

@@ -1,6 +1,6 @@
--- The square root of a float, as IEEE 754 has it (squareRoot, clause 5.4.1, and roundTiesToEven, clause 4.3.1): of the numbers of the format the one
--- nearest to the exact root, a tie to the even one. `SquareRoot` says so, how the root rounds being told by comparing squares of exact fractions
--- (document 01); `sqrtOf` is a function that computes it. That each is the other is proved: `proofs/SquareRoot`.
+-- The square root of a float, as IEEE 754 has it (squareRoot, clause 5.4.1, and roundTiesToEven, clause 4.3.1): of the numbers of the
+-- format the one nearest to the exact root, a tie to the even one. `SquareRoot` says so, how the root rounds being told by comparing
+-- squares of exact fractions (document 01); `sqrtOf` is a function that computes it. That each is the other is proved: `proofs/SquareRoot`.
 use mathlib.Core.Path.{_≡_}
 use mathlib.Core.Bool.{true, false, cond}
 use mathlib.Core.Logic.{_⊎_}
@@ -29,8 +29,8 @@ Even f r = toBits f r % 2 ≡ 0
 abbrev pub Before : Format → Float → ℚ → ℚ → Type 0
 Before f r a b = (a <q b) ⊎ ((a ≤q b) × Even f r)
 
--- r is the number nearest to the root of x, a finite number above 0: r is above 0, it and the number after it are finite, and x lies between the
--- squares of the middles between r and its two neighbours
+-- r is the number nearest to the root of x, a finite number above 0: r is above 0, it and the number after it are finite, and x lies
+-- between the squares of the middles between r and its two neighbours
 pub record NearestRoot (f : Format) (x r : Float) : Type 0 where
   pub held : T (fits f r)
   pub above : T (positive r)
@@ -67,9 +67,10 @@ isqrt n = floorIn (size n) n
 abbrev pub sticky : ℕ → ℕ → ℕ
 sticky s n = cond (eqb (s * s) n) 0 1
 
--- The root of n units, where a unit is the format's smallest number, 2 ^ -low. In units the root is that of n * 2 ^ low: from s to below s + 1.
--- It is handed to the model's rounding as s, or as s and a half where it is not s itself: no number of the format, and no middle of two, lies
--- between s and s + 1, since the root has more digits than the format keeps.
+-- The root of n units, where a unit is the format's smallest number, 2 ^ -low. In units the root is that of n * 2 ^ low: from s to below s
+-- + 1.
+-- It is handed to the model's rounding as s, or as s and a half where it is not s itself: no number of the format, and no middle of two,
+-- lies between s and s + 1, since the root has more digits than the format keeps.
 unfoldable pub rootOf : Format → ℕ → Float
 unfolding isqrt round
 rootOf f n =

@@ -1,5 +1,5 @@
--- Document 01's starred lines ("Lanes to try") about the float leaves, as the rows of a table. A line's answer is a list of whole numbers, a float
--- standing by its bits, so that lines about other definitions can join the table.
+-- Document 01's starred lines ("Lanes to try") about the float leaves, as the rows of a table. A line's answer is a list of whole numbers,
+-- a float standing by its bits, so that lines about other definitions can join the table.
 use mathlib.Core.List.{List, [], _∷_}
 use Prim.Native.Nat.{ℕ}
 use lib.Ieee.{Float, binary64, toBits, ofBits}

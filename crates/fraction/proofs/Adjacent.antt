@@ -159,7 +159,8 @@ module _ (f : Format) where
         subst (λ (b : ℕ). T (lt x (ofBits f b))) (sym (ap (upBits f) (add-zero (top f)) ∙ up-when-minus-zero f (top f) refl))
         (to-top true zero is 1 l (λ o. omega arith))
     above-at true (suc b) is l =
-        subst (λ (b : ℕ). T (lt x (ofBits f b))) (sym (up-negative f b)) (to-higher true (suc b) is true b (le-trans (le-suc (suc b)) l) (nearer b))
+        subst (λ (b : ℕ). T (lt x (ofBits f b))) (sym (up-negative f b)) (to-higher true (suc b) is true b (le-trans (le-suc (suc b)) l)
+        (nearer b))
 
     below-at : (s : Bool) (p : ℕ) → value x ≡ worth s p → p < end → T (lt (ofBits f (downBits f (cond s (top f) 0 + p))) x)
     below-at true p is l = subst (λ (b : ℕ). T (lt (ofBits f b) x)) (sym (down-negative f p l)) (to-bottom true p is (suc p) l (nearer p))
@@ -167,7 +168,8 @@ module _ (f : Format) where
         subst (λ (b : ℕ). T (lt (ofBits f b) x)) (sym (down-when-plus-zero f (0 + 0) refl ∙ suc-one (top f)))
         (to-bottom false zero is 1 l (λ o. omega (arith, parts-neg (pos 1) .0, parts-neg (pos 1) .1)))
     below-at false (suc b) is l =
-        subst (λ (b : ℕ). T (lt (ofBits f b) x)) (sym (ap (downBits f) (zero-add (suc b)) ∙ down-positive f b (finite-below-sign f l) ∙ sym (zero-add b)))
+        subst (λ (b : ℕ). T (lt (ofBits f b) x)) (sym (ap (downBits f) (zero-add (suc b)) ∙ down-positive f b (finite-below-sign f l) ∙ sym
+        (zero-add b)))
         (to-lower false (suc b) is false b (le-trans (le-suc (suc b)) l) (λ o. omega arith))
 
     module _ (fx : T (fits f x)) where

@@ -15,7 +15,8 @@ choose-absorb zero (suc k) = zero′ k
 choose-absorb (suc n) zero = omega (arith, choose-absorb n zero)
 choose-absorb (suc n) (suc k) = go (choose n k) (choose n (suc k)) (choose n (suc (suc k))) (choose-absorb n k) (choose-absorb n (suc k))
   where
-    go : (a b c : ℕ) → suc k * (a + b) ≡ suc n * a → suc (suc k) * (b + c) ≡ suc n * b → suc (suc k) * ((a + b) + (b + c)) ≡ suc (suc n) * (a + b)
+    go : (a b c : ℕ) → suc k * (a + b) ≡ suc n * a → suc (suc k) * (b + c) ≡ suc n * b → suc (suc k) * ((a + b) + (b + c))
+        ≡ suc (suc n) * (a + b)
     go a b c h k′ = omega arith
 
 -- C(j, k) is 0 for a k above j
@@ -25,7 +26,8 @@ choose-above j zero h = absurd (bad h)
     bad : suc j ≤ 0 → ⊥
     bad x = omega arith
 choose-above zero (suc k) h = refl
-choose-above (suc j) (suc k) h = go (choose-above j k (le-of-suc-le-suc h)) (choose-above j (suc k) (le-trans (le-of-suc-le-suc h) (le-suc k)))
+choose-above (suc j) (suc k) h = go (choose-above j k (le-of-suc-le-suc h))
+    (choose-above j (suc k) (le-trans (le-of-suc-le-suc h) (le-suc k)))
   where
     go : choose j k ≡ 0 → choose j (suc k) ≡ 0 → choose j k + choose j (suc k) ≡ 0
     go a b = omega arith

@@ -25,7 +25,8 @@ signed-le : (s u : Bool) (m n : ℕ) (e d : ℤ) → value (fin s m e) ≤q valu
     → signed s (m * up e * down d) ≤ℤ signed u (n * up d * down e)
 signed-le s u m n e d h =
     subst (λ (z : ℤ). signed s (m * up e * down d) ≤ℤ z) (signed-mul u (n * up d) (down e))
-    (subst (λ (z : ℤ). z ≤ℤ signed u (n * up d) *ℤ pos (down e)) (signed-mul s (m * up e) (down d)) (≤q-means-≤f (exactFraction (fin s m e)) (exactFraction (fin u n d)) h))
+    (subst (λ (z : ℤ). z ≤ℤ signed u (n * up d) *ℤ pos (down e)) (signed-mul s (m * up e) (down d))
+    (≤q-means-≤f (exactFraction (fin s m e)) (exactFraction (fin u n d)) h))
 
 -- the test `lt` is true: x < y
 pub lt-value : (x y : Float) → T (finite x) → T (finite y) → T (lt x y) → value x <q value y

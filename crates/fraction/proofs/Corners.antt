@@ -23,8 +23,13 @@ ends x a b y l u = elim (≤q-cases (𝟘) y) [
 ]
 
 -- what is at most the four products of ends is at most x * y
-pub product-above : (x a b y c d : ℚ) → a ≤q x → x ≤q b → c ≤q y → y ≤q d → (w : ℚ) → w ≤q a *q c → w ≤q a *q d → w ≤q b *q c → w ≤q b *q d → w ≤q x *q y
-product-above x a b y c d l u m v w h₁ h₂ h₃ h₄ = elim (ends x a b y l u) [ inl p ↦ ≤q-trans w (a *q y) (x *q y) (side a h₁ h₂) p | inr p ↦ ≤q-trans w (b *q y) (x *q y) (side b h₃ h₄) p ]
+pub product-above : (x a b y c d : ℚ) → a ≤q x → x ≤q b → c ≤q y → y ≤q d → (w : ℚ) → w ≤q a *q c → w ≤q a *q d → w ≤q b *q c → w ≤q b *q d
+    → w ≤q x *q y
+product-above x a b y c d l u m v w h₁ h₂ h₃ h₄ = elim (ends x a b y l u) [
+  | inl p ↦ ≤q-trans w (a *q y) (x *q y) (side a h₁ h₂) p
+  | inr p ↦
+      ≤q-trans w (b *q y) (x *q y) (side b h₃ h₄) p
+]
   where
     turn : (p q : ℚ) → p *q q ≡ q *q p
     turn p q = solve rationalRing (p ∷ q ∷ []) (v0 ⊗ v1) (v1 ⊗ v0) tt
@@ -42,8 +47,13 @@ ends-up x a b y l u = elim (≤q-cases (𝟘) y) [
 ]
 
 -- what is at least the four products of ends is at least x * y
-pub product-below : (x a b y c d : ℚ) → a ≤q x → x ≤q b → c ≤q y → y ≤q d → (w : ℚ) → a *q c ≤q w → a *q d ≤q w → b *q c ≤q w → b *q d ≤q w → x *q y ≤q w
-product-below x a b y c d l u m v w h₁ h₂ h₃ h₄ = elim (ends-up x a b y l u) [ inl p ↦ ≤q-trans (x *q y) (a *q y) w p (side a h₁ h₂) | inr p ↦ ≤q-trans (x *q y) (b *q y) w p (side b h₃ h₄) ]
+pub product-below : (x a b y c d : ℚ) → a ≤q x → x ≤q b → c ≤q y → y ≤q d → (w : ℚ) → a *q c ≤q w → a *q d ≤q w → b *q c ≤q w → b *q d ≤q w
+    → x *q y ≤q w
+product-below x a b y c d l u m v w h₁ h₂ h₃ h₄ = elim (ends-up x a b y l u) [
+  | inl p ↦ ≤q-trans (x *q y) (a *q y) w p (side a h₁ h₂)
+  | inr p
+      ↦ ≤q-trans (x *q y) (b *q y) w p (side b h₃ h₄)
+]
   where
     turn : (p q : ℚ) → p *q q ≡ q *q p
     turn p q = solve rationalRing (p ∷ q ∷ []) (v0 ⊗ v1) (v1 ⊗ v0) tt
@@ -58,15 +68,19 @@ module _ (x a b y c d : ℚ) (l : a ≤q x) (u : x ≤q b) (m : c ≤q y) (v : y
   -- x + y lies between the sums of ends
   pub sum-spans : Spans (a +q c) (a +q d) (b +q c) (b +q d) (x +q y)
   sum-spans = record {
-    low = λ w p q r s. ≤q-trans w (a +q c) (x +q y) p (le-two rationalRing _≤q_ rationalOrder (a ∷ x ∷ c ∷ y ∷ []) (v0 ⊕ v2) (v1 ⊕ v3) (con (pos 1)) v0 v1 (con (pos 1)) v2 v3 tt (≤q-whole 1) l (≤q-whole 1) m);
-    high = λ w p q r s. ≤q-trans (x +q y) (b +q d) w (le-two rationalRing _≤q_ rationalOrder (x ∷ b ∷ y ∷ d ∷ []) (v0 ⊕ v2) (v1 ⊕ v3) (con (pos 1)) v0 v1 (con (pos 1)) v2 v3 tt (≤q-whole 1) u (≤q-whole 1) v) s;
+    low = λ w p q r s. ≤q-trans w (a +q c) (x +q y) p (le-two rationalRing _≤q_ rationalOrder (a ∷ x ∷ c ∷ y ∷ []) (v0 ⊕ v2) (v1 ⊕ v3)
+        (con (pos 1)) v0 v1 (con (pos 1)) v2 v3 tt (≤q-whole 1) l (≤q-whole 1) m);
+    high = λ w p q r s. ≤q-trans (x +q y) (b +q d) w (le-two rationalRing _≤q_ rationalOrder (x ∷ b ∷ y ∷ d ∷ []) (v0 ⊕ v2) (v1 ⊕ v3)
+        (con (pos 1)) v0 v1 (con (pos 1)) v2 v3 tt (≤q-whole 1) u (≤q-whole 1) v) s;
   }
 
   -- x - y lies between the differences of ends
   pub difference-spans : Spans (a -q c) (a -q d) (b -q c) (b -q d) (x -q y)
   difference-spans = record {
-    low = λ w p q r s. ≤q-trans w (a -q d) (x -q y) q (le-two rationalRing _≤q_ rationalOrder (a ∷ x ∷ y ∷ d ∷ []) (v0 ⊖ v3) (v1 ⊖ v2) (con (pos 1)) v0 v1 (con (pos 1)) v2 v3 tt (≤q-whole 1) l (≤q-whole 1) v);
-    high = λ w p q r s. ≤q-trans (x -q y) (b -q c) w (le-two rationalRing _≤q_ rationalOrder (x ∷ b ∷ c ∷ y ∷ []) (v0 ⊖ v3) (v1 ⊖ v2) (con (pos 1)) v0 v1 (con (pos 1)) v2 v3 tt (≤q-whole 1) u (≤q-whole 1) m) r;
+    low = λ w p q r s. ≤q-trans w (a -q d) (x -q y) q (le-two rationalRing _≤q_ rationalOrder (a ∷ x ∷ y ∷ d ∷ []) (v0 ⊖ v3) (v1 ⊖ v2)
+        (con (pos 1)) v0 v1 (con (pos 1)) v2 v3 tt (≤q-whole 1) l (≤q-whole 1) v);
+    high = λ w p q r s. ≤q-trans (x -q y) (b -q c) w (le-two rationalRing _≤q_ rationalOrder (x ∷ b ∷ c ∷ y ∷ []) (v0 ⊖ v3) (v1 ⊖ v2)
+        (con (pos 1)) v0 v1 (con (pos 1)) v2 v3 tt (≤q-whole 1) u (≤q-whole 1) m) r;
   }
 
   -- x * y lies between the products of ends
@@ -78,7 +92,9 @@ pub quotient-spans : (x a b y c d : ℚ) → a ≤q x → x ≤q b → Above c �
 quotient-spans x a b y c d l u C m v =
     let Y = <q-≤q-trans 𝟘 c y C m in
     let D = <q-≤q-trans 𝟘 y d Y v in
-    let i = inverse-antitone y d (inverse y) (inverse d) (inverse-is y Y) (inverse-is d D) (inverse-nonnegative y (<q-weaken 𝟘 y Y)) (inverse-nonnegative d (<q-weaken 𝟘 d D)) v in
-    let j = inverse-antitone c y (inverse c) (inverse y) (inverse-is c C) (inverse-is y Y) (inverse-nonnegative c (<q-weaken 𝟘 c C)) (inverse-nonnegative y (<q-weaken 𝟘 y Y)) m in
+    let i = inverse-antitone y d (inverse y) (inverse d) (inverse-is y Y) (inverse-is d D) (inverse-nonnegative y (<q-weaken 𝟘 y Y))
+    (inverse-nonnegative d (<q-weaken 𝟘 d D)) v in
+    let j = inverse-antitone c y (inverse c) (inverse y) (inverse-is c C) (inverse-is y Y) (inverse-nonnegative c (<q-weaken 𝟘 c C))
+    (inverse-nonnegative y (<q-weaken 𝟘 y Y)) m in
     let S = product-spans x a b (inverse y) (inverse d) (inverse c) l u i j in
     record { low = λ w p q r s. S .low w q p s r; high = λ w p q r s. S .high w q p s r }

@@ -23,9 +23,11 @@ use Rattle.fraction.proofs.Magnitude.{magnitude-at, magnitude-le, power
 pub hidden-pos : (f : Format) → 0 < hid f
 hidden-pos f = pow-pos (prec f - 1)
 
-fields-value : (f : Format) (s : Bool) (x t : ℕ) → x < ones f → HasValue (ofFields f s x t) s ((x * hid f + t - (x - 1) * hid f) * 2 ^ (x - 1)) (2 ^ low f)
+fields-value : (f : Format) (s : Bool) (x t : ℕ) → x < ones f → HasValue (ofFields f s x t) s
+    ((x * hid f + t - (x - 1) * hid f) * 2 ^ (x - 1)) (2 ^ low f)
 unfolding ofFields
-fields-value f s zero t X = subst (λ (z : ℕ). HasValue (odd (prec f) s t 0 (low f)) s z (2 ^ low f)) (same (hid f)) (odd-sign (prec f) s t 0 (low f))
+fields-value f s zero t X = subst (λ (z : ℕ). HasValue (odd (prec f) s t 0 (low f)) s z (2 ^ low f)) (same (hid f))
+    (odd-sign (prec f) s t 0 (low f))
   where
     same : (h : ℕ) → t * 1 ≡ (0 * h + t - 0 * h) * 1
     same h = omega arith
@@ -40,27 +42,36 @@ fields-value f s (suc x) t X = go (eqb (suc x) (ones f)) (eqb→eq (suc x) (ones
     never : suc x ≡ ones f → suc x < ones f → ⊥
     never e l = omega arith
 
-    go : (b : Bool) → (T b → suc x ≡ ones f) → HasValue (cond b (cond (eqb t 0) (inf s) nan) (odd (prec f) s (hid f + t) x (low f))) s ((suc x * hid f + t - (suc x - 1) * hid f) * 2 ^ (suc x - 1)) (2 ^ low f)
+    go : (b : Bool) → (T b → suc x ≡ ones f) → HasValue (cond b (cond (eqb t 0) (inf s) nan) (odd (prec f) s (hid f + t) x (low f))) s
+        ((suc x * hid f + t - (suc x - 1) * hid f) * 2 ^ (suc x - 1)) (2 ^ low f)
     go true e = absurd (never (e tt) X)
     go false e =
-        subst (λ (k : ℕ). HasValue (odd (prec f) s (hid f + t) x (low f)) s ((suc x * hid f + t - k * hid f) * 2 ^ k) (2 ^ low f)) (sym (pr x))
-        (subst (λ (z : ℕ). HasValue (odd (prec f) s (hid f + t) x (low f)) s (z * 2 ^ x) (2 ^ low f)) (cut (hid f)) (odd-sign (prec f) s (hid f + t) x (low f)))
+        subst (λ (k : ℕ). HasValue (odd (prec f) s (hid f + t) x (low f)) s ((suc x * hid f + t - k * hid f) * 2 ^ k) (2 ^ low f))
+        (sym (pr x))
+        (subst (λ (z : ℕ). HasValue (odd (prec f) s (hid f + t) x (low f)) s (z * 2 ^ x) (2 ^ low f)) (cut (hid f))
+        (odd-sign (prec f) s (hid f + t) x (low f)))
 
-read : (f : Format) (s t : Bool) (b B : ℕ) → b < ones f * hid f → t ≡ s → B % top f ≡ b → B % hid f ≡ b % hid f → HasValue (ofFields f t (B % top f / hid f) (B % hid f)) s (magnitude (hid f) b) (2 ^ low f)
+read : (f : Format) (s t : Bool) (b B : ℕ) → b < ones f * hid f → t ≡ s → B % top f ≡ b → B % hid f ≡ b % hid f
+    → HasValue (ofFields f t (B % top f / hid f) (B % hid f)) s (magnitude (hid f) b) (2 ^ low f)
 read f s t b B l e x y =
     let h = hid f in
     let v = fields-value f s (b / h) (b % h) (div-lt-iff-lt-mul (hidden-pos f) .1 l) in
-    rw (e, x, y) (subst (λ (z : ℕ). HasValue (ofFields f s (b / h) (b % h)) s ((z - (b / h - 1) * h) * 2 ^ (b / h - 1)) (2 ^ low f)) (div-add-mod' b h) v)
+    rw (e, x, y) (subst (λ (z : ℕ). HasValue (ofFields f s (b / h) (b % h)) s ((z - (b / h - 1) * h) * 2 ^ (b / h - 1)) (2 ^ low f))
+    (div-add-mod' b h) v)
 
 -- a finite pattern, of sign s and place b, stands for b's magnitude, in the format's smallest unit
-pub ofBits-value : (f : Format) (s : Bool) (b : ℕ) → b < ones f * hid f → HasValue (ofBits f (cond s (top f) 0 + b)) s (magnitude (hid f) b) (2 ^ low f)
+pub ofBits-value : (f : Format) (s : Bool) (b : ℕ) → b < ones f * hid f → HasValue (ofBits f (cond s (top f) 0 + b)) s (magnitude (hid f)
+    b) (2 ^ low f)
 unfolding ofBits
-ofBits-value f true b l = read f true (leb (top f) (top f + b)) b (top f + b) l (is-true (leb (top f) (top f + b)) (le→leb (top f) (top f + b) (le-add-right (top f) b)))
+ofBits-value f true b l = read f true (leb (top f) (top f + b)) b (top f + b) l (is-true (leb (top f) (top f + b))
+    (le→leb (top f) (top f + b) (le-add-right (top f) b)))
     (add-mod-left (top f) b ∙ mod-eq-of-lt (under (hid f) (ones f) l)) (mul-add-mod-self-left (hid f) (suc (ones f)) b)
   where
     under : (h o : ℕ) → b < o * h → b < h * suc o
     under h o l = omega arith
-ofBits-value f false b l = read f false (leb (top f) (0 + b)) b (0 + b) l (is-false (leb (top f) (0 + b)) (lt→nleb (top f) (0 + b) (under (hid f) (ones f) l))) (ap (λ (z : ℕ). z % top f) (zero-add b) ∙ mod-eq-of-lt (under′ (hid f) (ones f) l)) (ap (λ (z : ℕ). z % hid f) (zero-add b))
+ofBits-value f false b l = read f false (leb (top f) (0 + b)) b (0 + b) l (is-false (leb (top f) (0 + b))
+    (lt→nleb (top f) (0 + b) (under (hid f) (ones f) l))) (ap (λ (z : ℕ). z % top f) (zero-add b) ∙ mod-eq-of-lt
+    (under′ (hid f) (ones f) l)) (ap (λ (z : ℕ). z % hid f) (zero-add b))
   where
     under : (h o : ℕ) → b < o * h → 0 + b < h * suc o
     under h o l = omega arith
@@ -73,7 +84,8 @@ abbrev idx : ℕ → ℕ → ℕ
 idx p n = (size n - p) * 2 ^ (p - 1) + n / 2 ^ (size n - p)
 
 idx-low : (p q : ℕ) → q < 2 ^ p → idx p q ≡ q
-idx-low p q l = ap (λ (z : ℕ). z * 2 ^ (p - 1) + q / 2 ^ z) (none (size q) (size-le q p l)) ∙ ap (λ (z : ℕ). 0 * 2 ^ (p - 1) + z) (div-one q) ∙ zero′ (2 ^ (p - 1))
+idx-low p q l = ap (λ (z : ℕ). z * 2 ^ (p - 1) + q / 2 ^ z) (none (size q) (size-le q p l))
+    ∙ ap (λ (z : ℕ). 0 * 2 ^ (p - 1) + z) (div-one q) ∙ zero′ (2 ^ (p - 1))
   where
     none : (z : ℕ) → z ≤ p → z - p ≡ 0
     none z h = omega arith
@@ -96,7 +108,8 @@ idx-at p q k P side le = elim (eq-or-lt-of-le le) [ inl e ↦ last e | inr l ↦
   where
     inside : q < 2 ^ p → (2 ^ (p - 1) ≤ q) ⊎ (k ≡ 0) → idx p (q * 2 ^ k) ≡ k * 2 ^ (p - 1) + q
     inside l (inl g) = idx-mid p q k P g l
-    inside l (inr z) = subst (λ (j : ℕ). idx p (q * 2 ^ j) ≡ j * 2 ^ (p - 1) + q) (sym z) (ap (idx p) (mul-one q) ∙ idx-low p q l ∙ plain (2 ^ (p - 1)))
+    inside l (inr z) = subst (λ (j : ℕ). idx p (q * 2 ^ j) ≡ j * 2 ^ (p - 1) + q) (sym z) (ap (idx p) (mul-one q) ∙ idx-low p q l ∙ plain
+        (2 ^ (p - 1)))
       where
         plain : (h : ℕ) → q ≡ 0 * h + q
         plain h = omega arith
@@ -104,7 +117,8 @@ idx-at p q k P side le = elim (eq-or-lt-of-le le) [ inl e ↦ last e | inr l ↦
     last : q ≡ 2 ^ p → idx p (q * 2 ^ k) ≡ k * 2 ^ (p - 1) + q
     last e =
         let t : 2 ^ p ≡ 2 * 2 ^ (p - 1) = power-twice p P in
-        ap (idx p) (again (2 ^ (p - 1)) (e ∙ t)) ∙ idx-mid p (2 ^ (p - 1)) (suc k) P (le-refl (2 ^ (p - 1))) (half (2 ^ (p - 1)) (2 ^ p) t (pow-pos (p - 1))) ∙ fin′ (2 ^ (p - 1)) (e ∙ t)
+        ap (idx p) (again (2 ^ (p - 1)) (e ∙ t)) ∙ idx-mid p (2 ^ (p - 1)) (suc k) P (le-refl (2 ^ (p - 1)))
+        (half (2 ^ (p - 1)) (2 ^ p) t (pow-pos (p - 1))) ∙ fin′ (2 ^ (p - 1)) (e ∙ t)
       where
         again : (h : ℕ) → q ≡ 2 * h → q * 2 ^ k ≡ h * 2 ^ suc k
         again h e = omega (arith, ap (λ (x : ℕ). h * x) (pow-suc 2 k), ap (λ (x : ℕ). x * 2 ^ k) e)
@@ -116,7 +130,8 @@ idx-at p q k P side le = elim (eq-or-lt-of-le le) [ inl e ↦ last e | inr l ↦
         fin′ h e = omega arith
 
 -- the pattern of q * 2 ^ k units
-pub toBits-finite : (f : Format) (s : Bool) (m : ℕ) (e : ℤ) (q k : ℕ) → HasValue (fin s m e) s (q * 2 ^ k) (2 ^ low f) → (hid f ≤ q) ⊎ (k ≡ 0) → q ≤ 2 ^ prec f
+pub toBits-finite : (f : Format) (s : Bool) (m : ℕ) (e : ℤ) (q k : ℕ) → HasValue (fin s m e) s (q * 2 ^ k) (2 ^ low f) → (hid f ≤ q)
+    ⊎ (k ≡ 0) → q ≤ 2 ^ prec f
     → toBits f (fin s m e) ≡ cond s (top f) 0 + (k * hid f + q)
 unfolding toBits
 toBits-finite f s m e q k v side le =
@@ -127,15 +142,18 @@ toBits-finite f s m e q k v side le =
     ∙ ap (λ (z : ℕ). cond s (top f) 0 + z) (idx-at p q k (two-le-pos p (two f)) side le)
 
 -- the same of any float that has this value
-pub toBits-value : (f : Format) (x : Float) (s : Bool) (q k : ℕ) → HasValue x s (q * 2 ^ k) (2 ^ low f) → (hid f ≤ q) ⊎ (k ≡ 0) → q ≤ 2 ^ prec f → toBits f x ≡ cond s (top f) 0 + (k * hid f + q)
+pub toBits-value : (f : Format) (x : Float) (s : Bool) (q k : ℕ) → HasValue x s (q * 2 ^ k) (2 ^ low f) → (hid f ≤ q) ⊎ (k ≡ 0) → q
+    ≤ 2 ^ prec f → toBits f x ≡ cond s (top f) 0 + (k * hid f + q)
 toBits-value f nan s q k v side le = absurd v
 toBits-value f (inf t) s q k v side le = absurd v
-toBits-value f (fin t m e) s q k v side le = toBits-finite f t m e q k (refl, v .1) side le ∙ ap (λ (z : Bool). cond z (top f) 0 + (k * hid f + q)) (v .0)
+toBits-value f (fin t m e) s q k v side le = toBits-finite f t m e q k (refl, v .1) side le
+    ∙ ap (λ (z : Bool). cond z (top f) 0 + (k * hid f + q)) (v .0)
 
 -- the first infinity stands where the values would pass the largest
 pub magnitude-infinity : (f : Format) → magnitude (hid f) (ones f * hid f) ≡ overflow f
 magnitude-infinity f =
-    ap (magnitude (hid f)) (last (emax f) (hid f)) ∙ magnitude-at (hid f) (hid f) (2 * emax f) (hidden-pos f) (inl (le-refl (hid f))) (dbl (hid f))
+    ap (magnitude (hid f)) (last (emax f) (hid f)) ∙ magnitude-at (hid f) (hid f) (2 * emax f) (hidden-pos f) (inl (le-refl (hid f)))
+    (dbl (hid f))
     ∙ sym (pow-add 2 (prec f - 1) (2 * emax f)) ∙ ap (λ (z : ℕ). 2 ^ z) (same (emax f) (prec f) (two f))
   where
     last : (e h : ℕ) → (2 * e + 1) * h ≡ 2 * e * h + h
@@ -158,7 +176,9 @@ place-below-infinity f b l = elim (decLt b (ones f * hid f)) [ yes g ↦ g | no 
     rest x n = omega arith
 
     over : ¬ (b < ones f * hid f) → overflow f ≤ magnitude (hid f) b
-    over n = subst (λ (z : ℕ). z ≤ magnitude (hid f) b) (magnitude-infinity f) (subst (λ (z : ℕ). magnitude (hid f) (ones f * hid f) ≤ magnitude (hid f) z) (rest (ones f * hid f) n) (magnitude-le (hid f) (ones f * hid f) (b - ones f * hid f) (hidden-pos f)))
+    over n = subst (λ (z : ℕ). z ≤ magnitude (hid f) b) (magnitude-infinity f)
+        (subst (λ (z : ℕ). magnitude (hid f) (ones f * hid f) ≤ magnitude (hid f) z) (rest (ones f * hid f) n)
+        (magnitude-le (hid f) (ones f * hid f) (b - ones f * hid f) (hidden-pos f)))
 
 at-ones : (f : Format) (s : Bool) (x t : ℕ) → x ≡ ones f → t ≡ 0 → ofFields f s x t ≡ inf s
 unfolding ofFields
@@ -167,25 +187,30 @@ at-ones f s zero t e z = absurd (never (emax f) e)
     never : (m : ℕ) → 0 ≡ 2 * m + 1 → ⊥
     never m e = omega arith
 at-ones f s (suc x) t e z =
-    ap (λ (b : Bool). cond b (cond (eqb t 0) (inf s) nan) (lib.Ieee.odd (prec f) s (hid f + t) x (low f))) (is-true (eqb (suc x) (ones f)) (eq→eqb e))
+    ap (λ (b : Bool). cond b (cond (eqb t 0) (inf s) nan) (lib.Ieee.odd (prec f) s (hid f + t) x (low f)))
+    (is-true (eqb (suc x) (ones f)) (eq→eqb e))
     ∙ ap (λ (b : Bool). cond b (inf s) nan) (is-true (eqb t 0) (eq→eqb z))
 
 -- the infinities' patterns
 pub ofBits-infinity : (f : Format) (s : Bool) → ofBits f (cond s (top f) 0 + ones f * hid f) ≡ inf s
 unfolding ofBits
 ofBits-infinity f true =
-    ap (λ (b : Bool). ofFields f b ((top f + ones f * hid f) % top f / hid f) ((top f + ones f * hid f) % hid f)) (is-true (leb (top f) (top f + ones f * hid f)) (le→leb (top f) (top f + ones f * hid f) (le-add-right (top f) (ones f * hid f))))
+    ap (λ (b : Bool). ofFields f b ((top f + ones f * hid f) % top f / hid f) ((top f + ones f * hid f) % hid f))
+    (is-true (leb (top f) (top f + ones f * hid f)) (le→leb (top f) (top f + ones f * hid f) (le-add-right (top f) (ones f * hid f))))
     ∙ at-ones f true ((top f + ones f * hid f) % top f / hid f) ((top f + ones f * hid f) % hid f)
-    (ap (λ (z : ℕ). z / hid f) (add-mod-left (top f) (ones f * hid f) ∙ mod-eq-of-lt (under (hid f) (ones f) (hidden-pos f))) ∙ mul-div-cancel (ones f) (hidden-pos f))
+    (ap (λ (z : ℕ). z / hid f) (add-mod-left (top f) (ones f * hid f) ∙ mod-eq-of-lt (under (hid f) (ones f) (hidden-pos f)))
+    ∙ mul-div-cancel (ones f) (hidden-pos f))
     (mul-add-mod-self-left (hid f) (suc (ones f)) (ones f * hid f) ∙ mul-mod-left (ones f) (hid f))
   where
     under : (h o : ℕ) → 0 < h → o * h < h * suc o
     under h o l = omega arith
 ofBits-infinity f false =
     ap (ofBits f) (zero-add (ones f * hid f))
-    ∙ ap (λ (b : Bool). ofFields f b (ones f * hid f % top f / hid f) (ones f * hid f % hid f)) (is-false (leb (top f) (ones f * hid f)) (lt→nleb (top f) (ones f * hid f) (under (hid f) (ones f) (hidden-pos f))))
+    ∙ ap (λ (b : Bool). ofFields f b (ones f * hid f % top f / hid f) (ones f * hid f % hid f))
+    (is-false (leb (top f) (ones f * hid f)) (lt→nleb (top f) (ones f * hid f) (under (hid f) (ones f) (hidden-pos f))))
     ∙ at-ones f false (ones f * hid f % top f / hid f) (ones f * hid f % hid f)
-    (ap (λ (z : ℕ). z / hid f) (mod-eq-of-lt (under (hid f) (ones f) (hidden-pos f))) ∙ mul-div-cancel (ones f) (hidden-pos f)) (mul-mod-left (ones f) (hid f))
+    (ap (λ (z : ℕ). z / hid f) (mod-eq-of-lt (under (hid f) (ones f) (hidden-pos f))) ∙ mul-div-cancel (ones f) (hidden-pos f))
+    (mul-mod-left (ones f) (hid f))
   where
     under : (h o : ℕ) → 0 < h → o * h < h * suc o
     under h o l = omega arith
@@ -199,7 +224,8 @@ finite-below-sign f {b} l = go (hid f) (ones f) l
 
 -- a pattern at or below the infinity's is no NaN's
 pub bits-not-nan : (f : Format) (s : Bool) (p : ℕ) → p ≤ ones f * hid f → nanBits f (cond s (top f) 0 + p) ≡ false
-bits-not-nan f s p l = nanBits-above f (cond s (top f) 0 + p) ∙ is-false (ltb (ones f * hid f) ((cond s (top f) 0 + p) % top f)) (le→nltb (ones f * hid f) ((cond s (top f) 0 + p) % top f) (subst (λ (z : ℕ). z ≤ ones f * hid f) (sym (cut s)) l))
+bits-not-nan f s p l = nanBits-above f (cond s (top f) 0 + p) ∙ is-false (ltb (ones f * hid f) ((cond s (top f) 0 + p) % top f))
+    (le→nltb (ones f * hid f) ((cond s (top f) 0 + p) % top f) (subst (λ (z : ℕ). z ≤ ones f * hid f) (sym (cut s)) l))
   where
     under : (h o : ℕ) → 0 < h → p ≤ o * h → p < h * suc o
     under h o H l = omega arith

@@ -38,7 +38,8 @@ finite-not-minus nan F = tt
 finite-not-minus (inf s) F = absurd F
 finite-not-minus (fin s m e) F = tt
 
-highest-infinite : (x y : Float) → T (not (isNan x)) → T (not (plus-infinity (highest x y))) → T (not (plus-infinity x)) × T (not (plus-infinity y))
+highest-infinite : (x y : Float) → T (not (isNan x)) → T (not (plus-infinity (highest x y))) → T (not (plus-infinity x))
+    × T (not (plus-infinity y))
 unfolding highest lt isNan plus-infinity
 highest-infinite nan y n h = absurd n
 highest-infinite (inf true) nan n h = (tt, tt)
@@ -54,7 +55,8 @@ highest-infinite (fin s m e) (inf true) n h = (tt, tt)
 highest-infinite (fin s m e) (inf false) n h = absurd h
 highest-infinite (fin s m e) (fin t k d) n h = (tt, tt)
 
-lowest-infinite : (x y : Float) → T (not (isNan x)) → T (not (minus-infinity (lowest x y))) → T (not (minus-infinity x)) × T (not (minus-infinity y))
+lowest-infinite : (x y : Float) → T (not (isNan x)) → T (not (minus-infinity (lowest x y))) → T (not (minus-infinity x))
+    × T (not (minus-infinity y))
 unfolding lowest lt isNan minus-infinity
 lowest-infinite nan y n h = absurd n
 lowest-infinite (inf false) nan n h = (tt, tt)
@@ -83,7 +85,8 @@ unfolding lowest
 lowest-not-nan x y n k = either-not-nan (lt y x) y x k n
 
 -- if the lowest and the highest of four, none of them a NaN, are finite, then so are the four
-pub four-finite : (p q r s : Float) → T (not (isNan p)) → T (not (isNan q)) → T (not (isNan r)) → T (not (isNan s)) → T (finite (lowestOf p q r s)) → T (finite (highestOf p q r s))
+pub four-finite : (p q r s : Float) → T (not (isNan p)) → T (not (isNan q)) → T (not (isNan r)) → T (not (isNan s))
+    → T (finite (lowestOf p q r s)) → T (finite (highestOf p q r s))
     → T (finite p) × T (finite q) × T (finite r) × T (finite s)
 four-finite p q r s P Q R S L H =
     let h = highest-infinite (highest p q) (highest r s) (highest-not-nan p q P Q) (finite-not-plus (highestOf p q r s) H) in
@@ -131,15 +134,18 @@ either P false x y h k = k
 -- the lowest and the highest of four are among the four: what holds of all four holds of them
 pub lowest-among : (P : Float → Type 0) (p q r s : Float) → P p → P q → P r → P s → P (lowestOf p q r s)
 unfolding lowest
-lowest-among P p q r s a b c d = either P (lt (lowest r s) (lowest p q)) (lowest r s) (lowest p q) (either P (lt s r) s r d c) (either P (lt q p) q p b a)
+lowest-among P p q r s a b c d = either P (lt (lowest r s) (lowest p q)) (lowest r s) (lowest p q) (either P (lt s r) s r d c)
+    (either P (lt q p) q p b a)
 
 pub highest-among : (P : Float → Type 0) (p q r s : Float) → P p → P q → P r → P s → P (highestOf p q r s)
 unfolding highest
-highest-among P p q r s a b c d = either P (lt (highest p q) (highest r s)) (highest r s) (highest p q) (either P (lt r s) s r d c) (either P (lt p q) q p b a)
+highest-among P p q r s a b c d = either P (lt (highest p q) (highest r s)) (highest r s) (highest p q) (either P (lt r s) s r d c)
+    (either P (lt p q) q p b a)
 
 -- the lowest of four finite floats is at most each of them, and the highest at least each
 pub lowest-of-four : (p q r s : Float) → T (finite p) → T (finite q) → T (finite r) → T (finite s)
-    → (value (lowestOf p q r s) ≤q value p) × (value (lowestOf p q r s) ≤q value q) × (value (lowestOf p q r s) ≤q value r) × (value (lowestOf p q r s) ≤q value s)
+    → (value (lowestOf p q r s) ≤q value p) × (value (lowestOf p q r s) ≤q value q) × (value (lowestOf p q r s) ≤q value r)
+    × (value (lowestOf p q r s) ≤q value s)
 lowest-of-four p q r s P Q R S =
     let w = value (lowestOf p q r s) in
     let a = lowest-is p q P Q in
@@ -152,7 +158,8 @@ lowest-of-four p q r s P Q R S =
     )
 
 pub highest-of-four : (p q r s : Float) → T (finite p) → T (finite q) → T (finite r) → T (finite s)
-    → (value p ≤q value (highestOf p q r s)) × (value q ≤q value (highestOf p q r s)) × (value r ≤q value (highestOf p q r s)) × (value s ≤q value (highestOf p q r s))
+    → (value p ≤q value (highestOf p q r s)) × (value q ≤q value (highestOf p q r s)) × (value r ≤q value (highestOf p q r s))
+    × (value s ≤q value (highestOf p q r s))
 highest-of-four p q r s P Q R S =
     let w = value (highestOf p q r s) in
     let a = highest-is p q P Q in

@@ -65,12 +65,14 @@ magnitude-zero h H = ap (magnitude h) (plain h) ∙ magnitude-at h 0 0 H (inr re
     plain h = omega arith
 
 -- every b is such a k * h + q
-parts : (h b : ℕ) → 0 < h → (x : ℕ) → b / h ≡ x → ((h ≤ b - (x - 1) * h) ⊎ (x - 1 ≡ 0)) × (b - (x - 1) * h < 2 * h) × (b ≡ (x - 1) * h + (b - (x - 1) * h))
+parts : (h b : ℕ) → 0 < h → (x : ℕ) → b / h ≡ x → ((h ≤ b - (x - 1) * h) ⊎ (x - 1 ≡ 0)) × (b - (x - 1) * h < 2 * h)
+    × (b ≡ (x - 1) * h + (b - (x - 1) * h))
 parts h b H zero e = (inr refl, omega (arith, lt-div-mul-add {a = b} H, ap (λ (z : ℕ). z * h) e), omega arith)
 parts h b H (suc x) e =
     let lo : suc x * h ≤ b = le-trans (le-of-eq (ap (λ (z : ℕ). z * h) (sym e))) (div-mul-le-self b h) in
     let hi : b < suc x * h + h = subst (λ (z : ℕ). b < z * h + h) e (lt-div-mul-add {a = b} H) in
-    subst (λ (z : ℕ). ((h ≤ b - z * h) ⊎ (z ≡ 0)) × (b - z * h < 2 * h) × (b ≡ z * h + (b - z * h))) (sym (pr x)) (inl (omega arith), omega arith, omega arith)
+    subst (λ (z : ℕ). ((h ≤ b - z * h) ⊎ (z ≡ 0)) × (b - z * h < 2 * h) × (b ≡ z * h + (b - z * h))) (sym (pr x))
+    (inl (omega arith), omega arith, omega arith)
   where
     pr : (k : ℕ) → suc k - 1 ≡ k
     pr k = omega arith
@@ -92,15 +94,18 @@ magnitude-suc h b H =
 
 -- no less at the next pattern
 pub magnitude-step : (h b : ℕ) → 0 < h → magnitude h b ≤ magnitude h (suc b)
-magnitude-step h b H = subst (λ (z : ℕ). magnitude h b ≤ z) (sym (magnitude-suc h b H)) (mul-le-mul-right (2 ^ (b / h - 1)) (le-suc (b - (b / h - 1) * h)))
+magnitude-step h b H = subst (λ (z : ℕ). magnitude h b ≤ z) (sym (magnitude-suc h b H)) (mul-le-mul-right (2 ^ (b / h - 1))
+    (le-suc (b - (b / h - 1) * h)))
 
 -- no less at any later pattern
 pub magnitude-le : (h b d : ℕ) → 0 < h → magnitude h b ≤ magnitude h (b + d)
 magnitude-le h b zero H = le-of-eq (ap (magnitude h) (sym (add-zero b)))
-magnitude-le h b (suc d) H = le-trans (magnitude-le h b d H) (subst (λ (z : ℕ). magnitude h (b + d) ≤ magnitude h z) (sym (add-suc b d)) (magnitude-step h (b + d) H))
+magnitude-le h b (suc d) H = le-trans (magnitude-le h b d H) (subst (λ (z : ℕ). magnitude h (b + d) ≤ magnitude h z) (sym (add-suc b d))
+    (magnitude-step h (b + d) H))
 
 magnitude-next : (h b : ℕ) → 0 < h → magnitude h b < magnitude h (suc b)
-magnitude-next h b H = subst (λ (z : ℕ). magnitude h b < z) (sym (magnitude-suc h b H)) (mul-lt-mul-of-pos-right (le-refl (suc (b - (b / h - 1) * h))) (pow-pos (b / h - 1)))
+magnitude-next h b H = subst (λ (z : ℕ). magnitude h b < z) (sym (magnitude-suc h b H))
+    (mul-lt-mul-of-pos-right (le-refl (suc (b - (b / h - 1) * h))) (pow-pos (b / h - 1)))
 
 -- more at any later pattern
 pub magnitude-lt : (h b d : ℕ) → 0 < h → magnitude h b < magnitude h (suc b + d)

@@ -71,32 +71,37 @@ not-lt-of-le (fin s m e) (fin u n d) t = go s u (m * up e * down d) (n * up d * 
     up-to a b (inr e) = le-of-eq e
 
     go : (s u : Bool) (a b : ℕ) → T (below s a u b || level s a u b) → T (not (below u b s a))
-    go false false a b t = le→nltb b a (up-to a b (elim (or-cases (ltb a b) (level false a false b) t) [ inl l ↦ inl l | inr l ↦ inr (equal false false a b l) ]))
+    go false false a b t = le→nltb b a (up-to a b (elim (or-cases (ltb a b) (level false a false b) t)
+        [ inl l ↦ inl l | inr l ↦ inr (equal false false a b l) ]))
     go false true a b t = le→nltb 0 (b + a) (none (equal false true a b t) (eqb→eq a 0 (and-r (eqb a b) (eqb a 0) t)))
       where
         none : a ≡ b → a ≡ 0 → b + a ≤ 0
         none e z = omega arith
     go true false a b t = tt
-    go true true a b t = le→nltb a b (up-to b a (elim (or-cases (ltb b a) (level true a true b) t) [ inl l ↦ inl l | inr l ↦ inr (sym (equal true true a b l)) ]))
+    go true true a b t = le→nltb a b (up-to b a (elim (or-cases (ltb b a) (level true a true b) t)
+        [ inl l ↦ inl l | inr l ↦ inr (sym (equal true true a b l)) ]))
 
 -- ---- the sign of what is rounded
 units-neg : (f : Format) (q k : ℕ) → units f true q k ≡ neg (units f false q k)
 unfolding units odd neg
 units-neg f zero k = go (ltb (zero * 2 ^ k) (overflow f))
   where
-    go : (b : Bool) → cond b (odd (suc (prec f)) true zero k (low f)) (inf true) ≡ neg (cond b (odd (suc (prec f)) false zero k (low f)) (inf false))
+    go : (b : Bool) → cond b (odd (suc (prec f)) true zero k (low f)) (inf true) ≡ neg (cond b (odd (suc (prec f)) false zero k (low f))
+        (inf false))
     go true = refl
     go false = refl
 units-neg f (suc q) k = go (ltb (suc q * 2 ^ k) (overflow f))
   where
-    go : (b : Bool) → cond b (odd (suc (prec f)) true (suc q) k (low f)) (inf true) ≡ neg (cond b (odd (suc (prec f)) false (suc q) k (low f)) (inf false))
+    go : (b : Bool) → cond b (odd (suc (prec f)) true (suc q) k (low f)) (inf true)
+        ≡ neg (cond b (odd (suc (prec f)) false (suc q) k (low f)) (inf false))
     go true = refl
     go false = refl
 
 -- a fraction below 0 rounds to the negative of what its size rounds to
 pub round-neg : (f : Format) (a c : ℕ) → round f true a c ≡ neg (round f false a c)
 round-neg f a c =
-    round-is f true a c ∙ units-neg f (kept (prec f) (a * 2 ^ low f) c) (drop (prec f) (a * 2 ^ low f) c) ∙ ap neg (sym (round-is f false a c))
+    round-is f true a c ∙ units-neg f (kept (prec f) (a * 2 ^ low f) c) (drop (prec f) (a * 2 ^ low f) c)
+    ∙ ap neg (sym (round-is f false a c))
 
 plain : Float → Bool
 plain nan = false
@@ -117,7 +122,8 @@ units-plain f (suc q) k = go (ltb (suc q * 2 ^ k) (overflow f))
     go false = tt
 
 round-plain : (f : Format) (a c : ℕ) → T (plain (round f false a c))
-round-plain f a c = subst (λ (x : Float). T (plain x)) (sym (round-is f false a c)) (units-plain f (kept (prec f) (a * 2 ^ low f) c) (drop (prec f) (a * 2 ^ low f) c))
+round-plain f a c = subst (λ (x : Float). T (plain x)) (sym (round-is f false a c)) (units-plain f (kept (prec f) (a * 2 ^ low f) c)
+    (drop (prec f) (a * 2 ^ low f) c))
 
 not-below-negative : (x y : Float) → T (plain x) → T (plain y) → T (not (lt x (neg y)))
 unfolding lt neg plain
@@ -142,7 +148,8 @@ zeros-level binary64 = tt
 pub rounded-monotone : (f : Format) (r r′ : Float) (z z′ : ℚ) → Rounded f r z → Rounded f r′ z′ → z ≤q z′ → T (not (lt r′ r))
 rounded-monotone f r r′ z z′ R S h =
     rw (R .rounds, S .rounds) (go (R .sign) (S .sign) (R .over) (S .over) (R .under) (S .under) (R .positive) (S .positive)
-    (subst (λ (x : ℚ). x ≤q fraction (signed (S .sign) (S .over)) (S .under) (S .positive)) (R .exact) (subst (λ (x : ℚ). z ≤q x) (S .exact) h)))
+    (subst (λ (x : ℚ). x ≤q fraction (signed (S .sign) (S .over)) (S .under) (S .positive)) (R .exact)
+    (subst (λ (x : ℚ). z ≤q x) (S .exact) h)))
   where
     whole : (a d : ℕ) → 0 < d → a * d ≡ 0 → a ≡ 0
     whole zero d l e = refl
@@ -151,17 +158,23 @@ rounded-monotone f r r′ z z′ R S h =
         bad : suc a * d ≡ 0 → ⊥
         bad e = omega arith
 
-    order : (s t : Bool) (a b c d : ℕ) (C : 0 < c) (D : 0 < d) → fraction (signed s a) c C ≤q fraction (signed t b) d D → signed s (a * d) ≤ℤ signed t (b * c)
+    order : (s t : Bool) (a b c d : ℕ) (C : 0 < c) (D : 0 < d) → fraction (signed s a) c C ≤q fraction (signed t b) d D
+        → signed s (a * d) ≤ℤ signed t (b * c)
     order s t a b c d C D h =
         subst (λ (x : ℤ). x ≤ℤ signed t (b * c)) (signed-mul s a d) (subst (λ (x : ℤ). signed s a *ℤ pos d ≤ℤ x) (signed-mul t b c)
-        (≤q-means-≤f (record { numerator = signed s a; denominator = c; positive = C }) (record { numerator = signed t b; denominator = d; positive = D }) h))
+        (≤q-means-≤f (record { numerator = signed s a; denominator = c; positive = C })
+        (record { numerator = signed t b; denominator = d; positive = D }) h))
 
-    go : (s t : Bool) (a b c d : ℕ) (C : 0 < c) (D : 0 < d) → fraction (signed s a) c C ≤q fraction (signed t b) d D → T (not (lt (round f t b d) (round f s a c)))
-    go false false a b c d C D h = not-lt-of-le (round f false a c) (round f false b d) (round-mono f a c b d C D (signed-order false false (a * d) (b * c) (order false false a b c d C D h)))
-    go true false a b c d C D h = rw (round-neg f a c) (not-below-negative (round f false b d) (round f false a c) (round-plain f b d) (round-plain f a c))
+    go : (s t : Bool) (a b c d : ℕ) (C : 0 < c) (D : 0 < d) → fraction (signed s a) c C ≤q fraction (signed t b) d D
+        → T (not (lt (round f t b d) (round f s a c)))
+    go false false a b c d C D h = not-lt-of-le (round f false a c) (round f false b d) (round-mono f a c b d C D
+        (signed-order false false (a * d) (b * c) (order false false a b c d C D h)))
+    go true false a b c d C D h = rw (round-neg f a c) (not-below-negative (round f false b d) (round f false a c) (round-plain f b d)
+        (round-plain f a c))
     go true true a b c d C D h =
         rw (round-neg f a c, round-neg f b d, lt-neg (round f false b d) (round f false a c))
-        (not-lt-of-le (round f false b d) (round f false a c) (round-mono f b d a c D C (signed-order true true (a * d) (b * c) (order true true a b c d C D h))))
+        (not-lt-of-le (round f false b d) (round f false a c) (round-mono f b d a c D C
+        (signed-order true true (a * d) (b * c) (order true true a b c d C D h))))
     go false true a b c d C D h =
         let o = signed-order false true (a * d) (b * c) (order false true a b c d C D h) in
         let x = round-same f false a c 0 1 C (pow-pos 0) (nil a c (whole a d D (o .0))) in

@@ -27,26 +27,67 @@ use Rattle.fraction.proofs.Rational.{absolute-above, absolute-le, ratio
 use Rattle.fraction.proofs.RoundedPlace.{place, round-middle-above, round-middle-below}
 use Rattle.fraction.proofs.Value.{Encoded, encoded, fraction-le, places-order, signed-mul}
 
--- ---- in whole numbers: n is z in the format's units, times z's denominator; R and M are the magnitudes of r and of another number, times it
-sum-le : (s t : Bool) (R M n : ℕ) → cond s (cond t (2 * n ≤ R + M) ⊥) (cond t (R ≤ 2 * n) (M + R ≤ 2 * n)) → signed t M +ℤ signed s R ≤ℤ signed s n +ℤ signed s n
+-- ---- in whole numbers: n is z in the format's units, times z's denominator; R and M are the magnitudes of r and of another number, times
+-- it
+sum-le : (s t : Bool) (R M n : ℕ) → cond s (cond t (2 * n ≤ R + M) ⊥) (cond t (R ≤ 2 * n) (M + R ≤ 2 * n))
+    → signed t M +ℤ signed s R ≤ℤ signed s n +ℤ signed s n
 sum-le false false R M n h = omega (arith, parts-add (pos M) (pos R), parts-add (pos n) (pos n))
-sum-le false true R M n h = omega (arith, parts-add (negℤ (pos M)) (pos R), parts-add (pos n) (pos n), parts-neg (pos M) .0, parts-neg (pos M) .1)
+sum-le false true R M n h = omega (
+  arith,
+  parts-add (negℤ (pos M)) (pos R),
+  parts-add (pos n) (pos n),
+  parts-neg (pos M) .0,
+  parts-neg
+      (pos M) .1,
+)
 sum-le true false R M n h = absurd h
 sum-le true true R M n h =
-    omega (arith, parts-add (negℤ (pos M)) (negℤ (pos R)), parts-add (negℤ (pos n)) (negℤ (pos n)), parts-neg (pos M) .0, parts-neg (pos M) .1, parts-neg (pos R) .0, parts-neg (pos R) .1, parts-neg (pos n) .0, parts-neg (pos n) .1)
+    omega (
+      arith,
+      parts-add (negℤ (pos M)) (negℤ (pos R)),
+      parts-add (negℤ (pos n)) (negℤ (pos n)),
+      parts-neg (pos M) .0,
+      parts-neg
+          (pos M) .1,
+      parts-neg (pos R) .0,
+      parts-neg (pos R) .1,
+      parts-neg (pos n) .0,
+      parts-neg (pos n) .1,
+    )
 
-sum-ge : (s t : Bool) (R M n : ℕ) → cond s (cond t (R + M ≤ 2 * n) (R ≤ 2 * n)) (cond t ⊥ (2 * n ≤ R + M)) → signed s n +ℤ signed s n ≤ℤ signed s R +ℤ signed t M
+sum-ge : (s t : Bool) (R M n : ℕ) → cond s (cond t (R + M ≤ 2 * n) (R ≤ 2 * n)) (cond t ⊥ (2 * n ≤ R + M))
+    → signed s n +ℤ signed s n ≤ℤ signed s R +ℤ signed t M
 sum-ge false false R M n h = omega (arith, parts-add (pos R) (pos M), parts-add (pos n) (pos n))
 sum-ge false true R M n h = absurd h
-sum-ge true false R M n h = omega (arith, parts-add (negℤ (pos R)) (pos M), parts-add (negℤ (pos n)) (negℤ (pos n)), parts-neg (pos R) .0, parts-neg (pos R) .1, parts-neg (pos n) .0, parts-neg (pos n) .1)
+sum-ge true false R M n h = omega (
+  arith,
+  parts-add (negℤ (pos R)) (pos M),
+  parts-add (negℤ (pos n)) (negℤ (pos n)),
+  parts-neg (pos R) .0,
+  parts-neg (pos R) .1,
+  parts-neg (pos n) .0,
+  parts-neg (pos n) .1,
+)
 sum-ge true true R M n h =
-    omega (arith, parts-add (negℤ (pos R)) (negℤ (pos M)), parts-add (negℤ (pos n)) (negℤ (pos n)), parts-neg (pos M) .0, parts-neg (pos M) .1, parts-neg (pos R) .0, parts-neg (pos R) .1, parts-neg (pos n) .0, parts-neg (pos n) .1)
+    omega (
+      arith,
+      parts-add (negℤ (pos R)) (negℤ (pos M)),
+      parts-add (negℤ (pos n)) (negℤ (pos n)),
+      parts-neg (pos M) .0,
+      parts-neg
+          (pos M) .1,
+      parts-neg (pos R) .0,
+      parts-neg (pos R) .1,
+      parts-neg (pos n) .0,
+      parts-neg (pos n) .1,
+    )
 
 -- a sum of two fractions of one denominator
 fraction-add : (x y : ℤ) (c : ℕ) (C : 0 < c) → fraction x c C +q fraction y c C ≡ fraction (x +ℤ y) c C
 unfolding _+q_
 fraction-add x y c C =
-    eq/ (addFractions (record { numerator = x; denominator = c; positive = C }) (record { numerator = y; denominator = c; positive = C })) (record { numerator = x +ℤ y; denominator = c; positive = C })
+    eq/ (addFractions (record { numerator = x; denominator = c; positive = C }) (record { numerator = y; denominator = c; positive = C }))
+    (record { numerator = x +ℤ y; denominator = c; positive = C })
     (solve integerRing (x ∷ y ∷ pos c ∷ []) ((v0 ⊗ v2 ⊕ v1 ⊗ v2) ⊗ v2) ((v0 ⊕ v1) ⊗ (v2 ⊗ v2)) tt)
 
 -- ---- the middles
@@ -71,22 +112,38 @@ module _ (f : Format) (r w : Float) (z : ℚ) (R : Rounded f r z) (F : T (finite
       none (suc p) g = absurd (g (omega arith))
 
   below-place : (s t : Bool) (q : ℕ) → (signed s at ≤ℤ signed t q → ⊥)
-      → cond s (cond t (2 * (R .over * 2 ^ low f) ≤ magnitude (hid f) at * R .under + magnitude (hid f) q * R .under) ⊥) (cond t (magnitude (hid f) at * R .under ≤ 2 * (R .over * 2 ^ low f)) (magnitude (hid f) q * R .under + magnitude (hid f) at * R .under ≤ 2 * (R .over * 2 ^ low f)))
+      → cond s (cond t (2 * (R .over * 2 ^ low f) ≤ magnitude (hid f) at * R .under + magnitude (hid f) q * R .under) ⊥)
+      (cond t (magnitude (hid f) at * R .under ≤ 2 * (R .over * 2 ^ low f)) (magnitude (hid f) q * R .under + magnitude (hid f) at *
+      R .under ≤ 2 * (R .over * 2 ^ low f)))
   below-place false false q n = half-below q (elim (decLt q at) [ yes l ↦ l | no g ↦ absurd (n (omega arith)) ])
   below-place false true q n = double
   below-place true false q n = n (omega (arith, parts-neg (pos at) .0, parts-neg (pos at) .1))
-  below-place true true q n = half-above q (elim (decLt at q) [ yes l ↦ l | no g ↦ absurd (n (omega (arith, parts-neg (pos at) .0, parts-neg (pos at) .1, parts-neg (pos q) .0, parts-neg (pos q) .1))) ])
+  below-place true true q n = half-above q (elim (decLt at q) [
+    | yes l ↦ l
+    | no g ↦ absurd
+        (n (omega (arith, parts-neg (pos at) .0, parts-neg (pos at) .1, parts-neg (pos q) .0, parts-neg (pos q) .1)))
+  ])
 
   above-place : (s t : Bool) (q : ℕ) → (signed t q ≤ℤ signed s at → ⊥)
-      → cond s (cond t (magnitude (hid f) at * R .under + magnitude (hid f) q * R .under ≤ 2 * (R .over * 2 ^ low f)) (magnitude (hid f) at * R .under ≤ 2 * (R .over * 2 ^ low f))) (cond t ⊥ (2 * (R .over * 2 ^ low f) ≤ magnitude (hid f) at * R .under + magnitude (hid f) q * R .under))
+      → cond s (cond t (magnitude (hid f) at * R .under + magnitude (hid f) q * R .under ≤ 2 * (R .over * 2 ^ low f))
+      (magnitude (hid f) at * R .under ≤ 2 * (R .over * 2 ^ low f)))
+      (cond t ⊥ (2 * (R .over * 2 ^ low f) ≤ magnitude (hid f) at * R .under + magnitude (hid f) q * R .under))
   above-place false false q n = half-above q (elim (decLt at q) [ yes l ↦ l | no g ↦ absurd (n (omega arith)) ])
   above-place false true q n = n (omega (arith, parts-neg (pos q) .0, parts-neg (pos q) .1))
   above-place true false q n = double
   above-place true true q n =
-      omega (arith, half-below q (elim (decLt q at) [ yes l ↦ l | no g ↦ absurd (n (omega (arith, parts-neg (pos at) .0, parts-neg (pos at) .1, parts-neg (pos q) .0, parts-neg (pos q) .1))) ]))
+      omega (
+        arith,
+        half-below q (elim (decLt q at) [
+          | yes l ↦ l
+          | no g ↦ absurd
+              (n (omega (arith, parts-neg (pos at) .0, parts-neg (pos at) .1, parts-neg (pos q) .0, parts-neg (pos q) .1)))
+        ]),
+      )
 
   twice-is : z +q z ≡ fraction (signed (R .sign) (R .over) +ℤ signed (R .sign) (R .over)) (R .under) (R .positive)
-  twice-is = ap (λ (x : ℚ). x +q x) (R .exact) ∙ fraction-add (signed (R .sign) (R .over)) (signed (R .sign) (R .over)) (R .under) (R .positive)
+  twice-is = ap (λ (x : ℚ). x +q x) (R .exact) ∙ fraction-add (signed (R .sign) (R .over)) (signed (R .sign) (R .over)) (R .under)
+      (R .positive)
 
   spread : (x y : ℤ) (a b c : ℕ) (s t : Bool) → x ≡ signed s a → y ≡ signed t b → (x +ℤ y) *ℤ pos c ≡ signed s (a * c) +ℤ signed t (b * c)
   spread x y a b c s t e d =
@@ -102,9 +159,15 @@ module _ (f : Format) (r w : Float) (z : ℚ) (R : Rounded f r z) (F : T (finite
       let M = magnitude (hid f) (W .place) in
       let N = magnitude (hid f) at in
       rw (twice-is, W .exact, X .exact, fraction-add (signed (W .sign) M) (signed (R .sign) N) (2 ^ low f) (pow-pos (low f)))
-      (fraction-le (signed (W .sign) M +ℤ signed (R .sign) N) (signed (R .sign) (R .over) +ℤ signed (R .sign) (R .over)) (2 ^ low f) (R .under) (pow-pos (low f)) (R .positive)
-      (rw (spread (signed (W .sign) M) (signed (R .sign) N) M N (R .under) (W .sign) (R .sign) refl refl, spread (signed (R .sign) (R .over)) (signed (R .sign) (R .over)) (R .over) (R .over) (2 ^ low f) (R .sign) (R .sign) refl refl)
-      (sum-le (R .sign) (W .sign) (N * R .under) (M * R .under) (R .over * 2 ^ low f) (below-place (R .sign) (W .sign) (W .place) (places-order f w r W X l)))))
+      (fraction-le (signed (W .sign) M +ℤ signed (R .sign) N) (signed (R .sign) (R .over) +ℤ signed (R .sign) (R .over)) (2 ^ low f)
+      (R .under) (pow-pos (low f)) (R .positive)
+      (rw (
+        spread (signed (W .sign) M) (signed (R .sign) N) M N (R .under) (W .sign) (R .sign) refl refl,
+        spread
+            (signed (R .sign) (R .over)) (signed (R .sign) (R .over)) (R .over) (R .over) (2 ^ low f) (R .sign) (R .sign) refl refl,
+      )
+      (sum-le (R .sign) (W .sign) (N * R .under) (M * R .under) (R .over * 2 ^ low f) (below-place (R .sign) (W .sign) (W .place)
+      (places-order f w r W X l)))))
 
   -- r < w: z is at most the middle of r and w
   pub middle-above : value r <q value w → z +q z ≤q value r +q value w
@@ -114,9 +177,15 @@ module _ (f : Format) (r w : Float) (z : ℚ) (R : Rounded f r z) (F : T (finite
       let M = magnitude (hid f) (W .place) in
       let N = magnitude (hid f) at in
       rw (twice-is, W .exact, X .exact, fraction-add (signed (R .sign) N) (signed (W .sign) M) (2 ^ low f) (pow-pos (low f)))
-      (fraction-le (signed (R .sign) (R .over) +ℤ signed (R .sign) (R .over)) (signed (R .sign) N +ℤ signed (W .sign) M) (R .under) (2 ^ low f) (R .positive) (pow-pos (low f))
-      (rw (spread (signed (R .sign) N) (signed (W .sign) M) N M (R .under) (R .sign) (W .sign) refl refl, spread (signed (R .sign) (R .over)) (signed (R .sign) (R .over)) (R .over) (R .over) (2 ^ low f) (R .sign) (R .sign) refl refl)
-      (sum-ge (R .sign) (W .sign) (N * R .under) (M * R .under) (R .over * 2 ^ low f) (above-place (R .sign) (W .sign) (W .place) (places-order f r w X W l)))))
+      (fraction-le (signed (R .sign) (R .over) +ℤ signed (R .sign) (R .over)) (signed (R .sign) N +ℤ signed (W .sign) M) (R .under)
+      (2 ^ low f) (R .positive) (pow-pos (low f))
+      (rw (
+        spread (signed (R .sign) N) (signed (W .sign) M) N M (R .under) (R .sign) (W .sign) refl refl,
+        spread
+            (signed (R .sign) (R .over)) (signed (R .sign) (R .over)) (R .over) (R .over) (2 ^ low f) (R .sign) (R .sign) refl refl,
+      )
+      (sum-ge (R .sign) (W .sign) (N * R .under) (M * R .under) (R .over * 2 ^ low f) (above-place (R .sign) (W .sign) (W .place)
+      (places-order f r w X W l)))))
 
 nearer : (z r w : ℚ) → (w <q r → w +q r ≤q z +q z) → (r <q w → z +q z ≤q r +q w) → absolute (z -q r) ≤q absolute (z -q w)
 nearer z r w below above = absolute-le (z -q r) m (lower (atMostq r w) (λ t. t) below) (upper (atMostq w r) (λ t. t) above)
@@ -131,13 +200,19 @@ nearer z r w below above = absolute-le (z -q r) m (lower (atMostq r w) (λ t. t)
     one = ≤q-whole 1
 
     lower : (b : Bool) → (T b → r ≤q w) → (T (not b) → w +q r ≤q z +q z) → negq m ≤q z -q r
-    lower true h k = le-two rationalRing _≤q_ rationalOrder ρ (opposite v3) (v0 ⊖ v1) (con (pos 1)) (opposite (v0 ⊖ v2)) v3 (con (pos 1)) v1 v2 tt one (absolute-above (z -q w) .1) one (h tt)
-    lower false h k = le-two rationalRing _≤q_ rationalOrder ρ (opposite v3) (v0 ⊖ v1) (con (pos 1)) (v0 ⊖ v2) v3 (con (pos 1)) (v2 ⊕ v1) (v0 ⊕ v0) tt one (absolute-above (z -q w) .0) one (k tt)
+    lower true h k = le-two rationalRing _≤q_ rationalOrder ρ (opposite v3) (v0 ⊖ v1) (con (pos 1)) (opposite (v0 ⊖ v2)) v3 (con (pos 1)) v1
+        v2 tt one (absolute-above (z -q w) .1) one (h tt)
+    lower false h k = le-two rationalRing _≤q_ rationalOrder ρ (opposite v3) (v0 ⊖ v1) (con (pos 1)) (v0 ⊖ v2) v3 (con (pos 1)) (v2 ⊕ v1)
+        (v0 ⊕ v0) tt one (absolute-above (z -q w) .0) one (k tt)
 
     upper : (b : Bool) → (T b → w ≤q r) → (T (not b) → z +q z ≤q r +q w) → z -q r ≤q m
-    upper true h k = le-two rationalRing _≤q_ rationalOrder ρ (v0 ⊖ v1) v3 (con (pos 1)) (v0 ⊖ v2) v3 (con (pos 1)) v2 v1 tt one (absolute-above (z -q w) .0) one (h tt)
-    upper false h k = le-two rationalRing _≤q_ rationalOrder ρ (v0 ⊖ v1) v3 (con (pos 1)) (opposite (v0 ⊖ v2)) v3 (con (pos 1)) (v0 ⊕ v0) (v1 ⊕ v2) tt one (absolute-above (z -q w) .1) one (k tt)
+    upper true h k = le-two rationalRing _≤q_ rationalOrder ρ (v0 ⊖ v1) v3 (con (pos 1)) (v0 ⊖ v2) v3 (con (pos 1)) v2 v1 tt one
+        (absolute-above (z -q w) .0) one (h tt)
+    upper false h k = le-two rationalRing _≤q_ rationalOrder ρ (v0 ⊖ v1) v3 (con (pos 1)) (opposite (v0 ⊖ v2)) v3 (con (pos 1)) (v0 ⊕ v0)
+        (v1 ⊕ v2) tt one (absolute-above (z -q w) .1) one (k tt)
 
 -- r is z rounded, and finite: no number w of the format is nearer to z
-pub rounded-nearest : (f : Format) (r w : Float) (z : ℚ) → Rounded f r z → T (finite r) → T (fits f w) → T (finite w) → absolute (z -q value r) ≤q absolute (z -q value w)
-rounded-nearest f r w z R F fw G = nearer z (value r) (value w) (middle-below f r w z R F (encoded f w fw G)) (middle-above f r w z R F (encoded f w fw G))
+pub rounded-nearest : (f : Format) (r w : Float) (z : ℚ) → Rounded f r z → T (finite r) → T (fits f w) → T (finite w)
+    → absolute (z -q value r) ≤q absolute (z -q value w)
+rounded-nearest f r w z R F fw G = nearer z (value r) (value w) (middle-below f r w z R F (encoded f w fw G))
+    (middle-above f r w z R F (encoded f w fw G))

@@ -60,17 +60,20 @@ module _ (f : Format) where
   -- ---- the patterns, in the forms of the tests that the code makes
   -- a positive number, or +0
   pub up-when-positive : (b : ℕ) → b < ones f * hid f → upBits f b ≡ b + 1
-  up-when-positive b l = ap (λ (x : Bool). cond x (suc b) (cond (ltb b (top f)) b (cond (eqb b (top f)) 1 (b - 1)))) (is-true (ltb b (ones f * hid f)) (lt→ltb b (ones f * hid f) l)) ∙ suc-one b
+  up-when-positive b l = ap (λ (x : Bool). cond x (suc b) (cond (ltb b (top f)) b (cond (eqb b (top f)) 1 (b - 1))))
+      (is-true (ltb b (ones f * hid f)) (lt→ltb b (ones f * hid f) l)) ∙ suc-one b
 
   -- +∞
   pub up-when-infinity : (b : ℕ) → ones f * hid f ≤ b → b < top f → upBits f b ≡ b
   up-when-infinity b l g =
-      ap (λ (x : Bool). cond x (suc b) (cond (ltb b (top f)) b (cond (eqb b (top f)) 1 (b - 1)))) (is-false (ltb b (ones f * hid f)) (le→nltb b (ones f * hid f) l))
+      ap (λ (x : Bool). cond x (suc b) (cond (ltb b (top f)) b (cond (eqb b (top f)) 1 (b - 1))))
+      (is-false (ltb b (ones f * hid f)) (le→nltb b (ones f * hid f) l))
       ∙ ap (λ (x : Bool). cond x b (cond (eqb b (top f)) 1 (b - 1))) (is-true (ltb b (top f)) (lt→ltb b (top f) g))
 
   up-high : (b : ℕ) → top f ≤ b → upBits f b ≡ cond (eqb b (top f)) 1 (b - 1)
   up-high b l =
-      ap (λ (x : Bool). cond x (suc b) (cond (ltb b (top f)) b (cond (eqb b (top f)) 1 (b - 1)))) (is-false (ltb b (ones f * hid f)) (le→nltb b (ones f * hid f) (le-trans (le-of-lt infinity-below-sign) l)))
+      ap (λ (x : Bool). cond x (suc b) (cond (ltb b (top f)) b (cond (eqb b (top f)) 1 (b - 1))))
+      (is-false (ltb b (ones f * hid f)) (le→nltb b (ones f * hid f) (le-trans (le-of-lt infinity-below-sign) l)))
       ∙ ap (λ (x : Bool). cond x b (cond (eqb b (top f)) 1 (b - 1))) (is-false (ltb b (top f)) (le→nltb b (top f) l))
 
   -- -0
@@ -83,17 +86,20 @@ module _ (f : Format) where
 
   -- +0
   pub down-when-plus-zero : (b : ℕ) → b ≡ 0 → downBits f b ≡ suc (top f)
-  down-when-plus-zero b e = ap (λ (x : Bool). cond x (suc (top f)) (cond (ltb b (top f)) (b - 1) (cond (ltb b (top f + ones f * hid f)) (suc b) b))) (is-true (eqb b 0) (eq→eqb e))
+  down-when-plus-zero b e = ap (λ (x : Bool). cond x (suc (top f)) (cond (ltb b (top f)) (b - 1)
+      (cond (ltb b (top f + ones f * hid f)) (suc b) b))) (is-true (eqb b 0) (eq→eqb e))
 
   -- a positive number, or +∞
   pub down-when-positive : (b : ℕ) → (b ≡ 0 → ⊥) → b < top f → downBits f b ≡ b - 1
   down-when-positive b n l =
-      ap (λ (x : Bool). cond x (suc (top f)) (cond (ltb b (top f)) (b - 1) (cond (ltb b (top f + ones f * hid f)) (suc b) b))) (is-false (eqb b 0) (ne→neqb b 0 n))
+      ap (λ (x : Bool). cond x (suc (top f)) (cond (ltb b (top f)) (b - 1) (cond (ltb b (top f + ones f * hid f)) (suc b) b)))
+      (is-false (eqb b 0) (ne→neqb b 0 n))
       ∙ ap (λ (x : Bool). cond x (b - 1) (cond (ltb b (top f + ones f * hid f)) (suc b) b)) (is-true (ltb b (top f)) (lt→ltb b (top f) l))
 
   down-high : (b : ℕ) → top f ≤ b → downBits f b ≡ cond (ltb b (top f + ones f * hid f)) (suc b) b
   down-high b l =
-      ap (λ (x : Bool). cond x (suc (top f)) (cond (ltb b (top f)) (b - 1) (cond (ltb b (top f + ones f * hid f)) (suc b) b))) (is-false (eqb b 0) (ne→neqb b 0 (never (top f) l (lt-of-le-of-lt zero-le infinity-below-sign))))
+      ap (λ (x : Bool). cond x (suc (top f)) (cond (ltb b (top f)) (b - 1) (cond (ltb b (top f + ones f * hid f)) (suc b) b)))
+      (is-false (eqb b 0) (ne→neqb b 0 (never (top f) l (lt-of-le-of-lt zero-le infinity-below-sign))))
       ∙ ap (λ (x : Bool). cond x (b - 1) (cond (ltb b (top f + ones f * hid f)) (suc b) b)) (is-false (ltb b (top f)) (le→nltb b (top f) l))
     where
       never : (t : ℕ) → t ≤ b → 0 < t → b ≡ 0 → ⊥
@@ -101,7 +107,8 @@ module _ (f : Format) where
 
   -- -0, or a negative number
   pub down-when-negative : (b : ℕ) → top f ≤ b → b < top f + ones f * hid f → downBits f b ≡ b + 1
-  down-when-negative b l g = down-high b l ∙ ap (λ (x : Bool). cond x (suc b) b) (is-true (ltb b (top f + ones f * hid f)) (lt→ltb b (top f + ones f * hid f) g)) ∙ suc-one b
+  down-when-negative b l g = down-high b l ∙ ap (λ (x : Bool). cond x (suc b) b) (is-true (ltb b (top f + ones f * hid f))
+      (lt→ltb b (top f + ones f * hid f) g)) ∙ suc-one b
 
   -- -∞
   pub down-when-infinity : (b : ℕ) → top f + ones f * hid f ≤ b → downBits f b ≡ b
@@ -177,25 +184,29 @@ module _ (f : Format) where
   unfolding isNan toBits
   next-up-infinity =
       next-up-bits (inf false) refl
-      ∙ ap (ofBits f) (ap (upBits f) (zero-add (ones f * hid f)) ∙ up-when-infinity (ones f * hid f) (le-refl (ones f * hid f)) infinity-below-sign ∙ sym (zero-add (ones f * hid f)))
+      ∙ ap (ofBits f) (ap (upBits f) (zero-add (ones f * hid f)) ∙ up-when-infinity (ones f * hid f) (le-refl (ones f * hid f))
+      infinity-below-sign ∙ sym (zero-add (ones f * hid f)))
       ∙ ofBits-infinity f false
 
   pub next-down-infinity : nextDown f (inf true) ≡ inf true
   unfolding isNan toBits
-  next-down-infinity = next-down-bits (inf true) refl ∙ ap (ofBits f) (down-when-infinity (top f + ones f * hid f) (le-refl (top f + ones f * hid f))) ∙ ofBits-infinity f true
+  next-down-infinity = next-down-bits (inf true) refl ∙ ap (ofBits f) (down-when-infinity (top f + ones f * hid f)
+      (le-refl (top f + ones f * hid f))) ∙ ofBits-infinity f true
 
   -- -∞ goes up to the lowest number; and so +∞ down to the largest: their patterns are one less than the infinity's
   pub next-up-minus-infinity : nextUp f (inf true) ≡ ofBits f (top f + (ones f * hid f - 1))
   unfolding isNan toBits
   next-up-minus-infinity =
       next-up-bits (inf true) refl
-      ∙ ap (ofBits f) (ap (λ (z : ℕ). upBits f (top f + z)) (suc-prev (ones f * hid f) infinity-positive) ∙ up-negative (ones f * hid f - 1))
+      ∙ ap (ofBits f) (ap (λ (z : ℕ). upBits f (top f + z)) (suc-prev (ones f * hid f) infinity-positive)
+      ∙ up-negative (ones f * hid f - 1))
 
   pub next-down-plus-infinity : nextDown f (inf false) ≡ ofBits f (ones f * hid f - 1)
   unfolding isNan toBits
   next-down-plus-infinity =
       next-down-bits (inf false) refl
-      ∙ ap (ofBits f) (ap (downBits f) (zero-add (ones f * hid f)) ∙ down-when-positive (ones f * hid f) (never (hid f) (emax f) (hidden-pos f)) infinity-below-sign)
+      ∙ ap (ofBits f) (ap (downBits f) (zero-add (ones f * hid f)) ∙ down-when-positive (ones f * hid f)
+      (never (hid f) (emax f) (hidden-pos f)) infinity-below-sign)
     where
       never : (h e : ℕ) → 0 < h → (2 * e + 1) * h ≡ 0 → ⊥
       never h e l x = omega arith
@@ -209,13 +220,16 @@ module _ (f : Format) where
   pub next-down-pattern : (b : ℕ) → b < 2 * top f → nanBits f b ≡ false → nextDown f (ofBits f b) ≡ ofBits f (downBits f b)
   next-down-pattern b l n =
       let h : isNan (ofBits f b) ≡ false = sym (nanBits-is f b) ∙ n in
-      next-down-bits (ofBits f b) h ∙ ap (λ (z : ℕ). ofBits f (downBits f z)) (toBits-ofBits f b l (subst (λ (x : Bool). T (not x)) (sym h) tt))
+      next-down-bits (ofBits f b) h ∙ ap (λ (z : ℕ). ofBits f (downBits f z))
+      (toBits-ofBits f b l (subst (λ (x : Bool). T (not x)) (sym h) tt))
 
   -- the largest number goes up to +∞, and the lowest down to -∞
   pub next-up-largest : nextUp f (ofBits f (ones f * hid f - 1)) ≡ inf false
   next-up-largest =
-      next-up-pattern (ones f * hid f - 1) (room (top f) (ones f * hid f) infinity-below-sign) (ap (nanBits f) (sym (zero-add (ones f * hid f - 1))) ∙ bits-not-nan f false (ones f * hid f - 1) (prev-le (ones f * hid f)))
-      ∙ ap (ofBits f) (up-positive (ones f * hid f - 1) (prev-lt (ones f * hid f) infinity-positive) ∙ sym (suc-prev (ones f * hid f) infinity-positive) ∙ sym (zero-add (ones f * hid f)))
+      next-up-pattern (ones f * hid f - 1) (room (top f) (ones f * hid f) infinity-below-sign)
+      (ap (nanBits f) (sym (zero-add (ones f * hid f - 1))) ∙ bits-not-nan f false (ones f * hid f - 1) (prev-le (ones f * hid f)))
+      ∙ ap (ofBits f) (up-positive (ones f * hid f - 1) (prev-lt (ones f * hid f) infinity-positive)
+      ∙ sym (suc-prev (ones f * hid f) infinity-positive) ∙ sym (zero-add (ones f * hid f)))
       ∙ ofBits-infinity f false
     where
       room : (t i : ℕ) → i < t → i - 1 < 2 * t
@@ -223,8 +237,10 @@ module _ (f : Format) where
 
   pub next-down-lowest : nextDown f (ofBits f (top f + (ones f * hid f - 1))) ≡ inf true
   next-down-lowest =
-      next-down-pattern (top f + (ones f * hid f - 1)) (room (top f) (ones f * hid f) infinity-below-sign) (bits-not-nan f true (ones f * hid f - 1) (prev-le (ones f * hid f)))
-      ∙ ap (ofBits f) (down-negative (ones f * hid f - 1) (prev-lt (ones f * hid f) infinity-positive) ∙ ap (λ (z : ℕ). top f + z) (sym (suc-prev (ones f * hid f) infinity-positive)))
+      next-down-pattern (top f + (ones f * hid f - 1)) (room (top f) (ones f * hid f) infinity-below-sign)
+      (bits-not-nan f true (ones f * hid f - 1) (prev-le (ones f * hid f)))
+      ∙ ap (ofBits f) (down-negative (ones f * hid f - 1) (prev-lt (ones f * hid f) infinity-positive)
+      ∙ ap (λ (z : ℕ). top f + z) (sym (suc-prev (ones f * hid f) infinity-positive)))
       ∙ ofBits-infinity f true
     where
       room : (t i : ℕ) → i < t → t + (i - 1) < 2 * t
@@ -257,8 +273,10 @@ module _ (f : Format) where
   -- the patterns 1 and top f + 1 stand for 1 and -1 of the format's smallest unit
   pub smallest : (s : Bool) → value (ofBits f (cond s (top f) 0 + 1)) ≡ fraction (signed s 1) (2 ^ low f) (pow-pos (low f))
   smallest s =
-      value-is (ofBits f (cond s (top f) 0 + 1)) s (magnitude (hid f) 1) (2 ^ low f) (pow-pos (low f)) (ofBits-value f s 1 (more (hid f) (emax f) hidden-two))
-      ∙ ap (λ (z : ℕ). fraction (signed s z) (2 ^ low f) (pow-pos (low f))) (ap (magnitude (hid f)) (plain (hid f)) ∙ magnitude-at (hid f) 1 0 (hidden-pos f) (inr refl) (le-trans (hidden-pos f) (twofold (hid f))))
+      value-is (ofBits f (cond s (top f) 0 + 1)) s (magnitude (hid f) 1) (2 ^ low f) (pow-pos (low f))
+      (ofBits-value f s 1 (more (hid f) (emax f) hidden-two))
+      ∙ ap (λ (z : ℕ). fraction (signed s z) (2 ^ low f) (pow-pos (low f))) (ap (magnitude (hid f)) (plain (hid f)) ∙ magnitude-at (hid f) 1
+      0 (hidden-pos f) (inr refl) (le-trans (hidden-pos f) (twofold (hid f))))
     where
       hidden-two : 2 ≤ hid f
       hidden-two = pow-mono {i = 1} (digits (prec f) (two f))
@@ -285,14 +303,17 @@ module _ (f : Format) where
       ∙ ap (nanBits f) (up-when-infinity (ones f * hid f) (le-refl (ones f * hid f)) infinity-below-sign ∙ sym (zero-add (ones f * hid f)))
       ∙ bits-not-nan f false (ones f * hid f) (le-refl (ones f * hid f))
   up-not-nan (inf true) fx n =
-      ap (nanBits f) (ap (λ (z : ℕ). upBits f (top f + z)) (suc-prev (ones f * hid f) infinity-positive) ∙ up-negative (ones f * hid f - 1)) ∙ bits-not-nan f true (ones f * hid f - 1) (prev-le (ones f * hid f))
+      ap (nanBits f) (ap (λ (z : ℕ). upBits f (top f + z)) (suc-prev (ones f * hid f) infinity-positive) ∙ up-negative (ones f * hid f - 1))
+      ∙ bits-not-nan f true (ones f * hid f - 1) (prev-le (ones f * hid f))
   up-not-nan (fin s m e) fx n = go (S .sign) (S .place) (S .bits) (S .below-infinity)
     where
       S : Encoded f (fin s m e)
       S = encoded f (fin s m e) fx tt
 
-      go : (s′ : Bool) (p : ℕ) → toBits f (fin s m e) ≡ cond s′ (top f) 0 + p → p < ones f * hid f → nanBits f (upBits f (toBits f (fin s m e))) ≡ false
-      go false p e l = ap (nanBits f) (ap (upBits f) (e ∙ zero-add p) ∙ up-positive p l ∙ sym (zero-add (suc p))) ∙ bits-not-nan f false (suc p) l
+      go : (s′ : Bool) (p : ℕ) → toBits f (fin s m e) ≡ cond s′ (top f) 0 + p → p < ones f * hid f
+          → nanBits f (upBits f (toBits f (fin s m e))) ≡ false
+      go false p e l = ap (nanBits f) (ap (upBits f) (e ∙ zero-add p) ∙ up-positive p l ∙ sym (zero-add (suc p)))
+          ∙ bits-not-nan f false (suc p) l
       go true zero e l = ap (nanBits f) (ap (upBits f) (e ∙ add-zero (top f)) ∙ up-when-minus-zero (top f) refl) ∙ bits-not-nan f false 1 l
       go true (suc b) e l = ap (nanBits f) (ap (upBits f) e ∙ up-negative b) ∙ bits-not-nan f true b (le-trans (le-suc b) (le-of-lt l))
 
@@ -300,20 +321,24 @@ module _ (f : Format) where
   unfolding isNan toBits
   down-not-nan nan fx n = absurd n
   down-not-nan (inf true) fx n =
-      ap (nanBits f) (down-when-infinity (top f + ones f * hid f) (le-refl (top f + ones f * hid f))) ∙ bits-not-nan f true (ones f * hid f) (le-refl (ones f * hid f))
+      ap (nanBits f) (down-when-infinity (top f + ones f * hid f) (le-refl (top f + ones f * hid f)))
+      ∙ bits-not-nan f true (ones f * hid f) (le-refl (ones f * hid f))
   down-not-nan (inf false) fx n =
       ap (λ (z : ℕ). nanBits f (downBits f z)) (zero-add (ones f * hid f) ∙ suc-prev (ones f * hid f) infinity-positive)
-      ∙ ap (nanBits f) (down-positive (ones f * hid f - 1) (subst (λ (z : ℕ). z < top f) (suc-prev (ones f * hid f) infinity-positive) infinity-below-sign) ∙ sym (zero-add (ones f * hid f - 1)))
+      ∙ ap (nanBits f) (down-positive (ones f * hid f - 1) (subst (λ (z : ℕ). z < top f) (suc-prev (ones f * hid f) infinity-positive)
+      infinity-below-sign) ∙ sym (zero-add (ones f * hid f - 1)))
       ∙ bits-not-nan f false (ones f * hid f - 1) (prev-le (ones f * hid f))
   down-not-nan (fin s m e) fx n = go (S .sign) (S .place) (S .bits) (S .below-infinity)
     where
       S : Encoded f (fin s m e)
       S = encoded f (fin s m e) fx tt
 
-      go : (s′ : Bool) (p : ℕ) → toBits f (fin s m e) ≡ cond s′ (top f) 0 + p → p < ones f * hid f → nanBits f (downBits f (toBits f (fin s m e))) ≡ false
+      go : (s′ : Bool) (p : ℕ) → toBits f (fin s m e) ≡ cond s′ (top f) 0 + p → p < ones f * hid f
+          → nanBits f (downBits f (toBits f (fin s m e))) ≡ false
       go true p e l = ap (nanBits f) (ap (downBits f) e ∙ down-negative p l) ∙ bits-not-nan f true (suc p) l
       go false zero e l = ap (nanBits f) (ap (downBits f) e ∙ down-when-plus-zero 0 refl ∙ suc-one (top f)) ∙ bits-not-nan f true 1 l
-      go false (suc b) e l = ap (nanBits f) (ap (downBits f) (e ∙ zero-add (suc b)) ∙ down-positive b (finite-below-sign f l) ∙ sym (zero-add b)) ∙ bits-not-nan f false b (le-trans (le-suc b) (le-of-lt l))
+      go false (suc b) e l = ap (nanBits f) (ap (downBits f) (e ∙ zero-add (suc b)) ∙ down-positive b (finite-below-sign f l)
+          ∙ sym (zero-add b)) ∙ bits-not-nan f false b (le-trans (le-suc b) (le-of-lt l))
 
   -- one can be added to the pattern of a finite number
   pub bits-room : (x : Float) → T (fits f x) → T (finite x) → toBits f x + 1 < 2 * top f
@@ -328,20 +353,28 @@ module _ (f : Format) where
 
   -- ---- no number lies strictly between a number and its next
   -- a number above x is at least the next number up: nothing that fits lies strictly between the two
-  pub none-between-up : (x w : Float) → T (fits f x) → T (finite x) → T (fits f w) → T (finite w) → value x <q value w → BoundsBelow (nextUp f x) (value w)
+  pub none-between-up : (x w : Float) → T (fits f x) → T (finite x) → T (fits f w) → T (finite w) → value x <q value w
+      → BoundsBelow (nextUp f x) (value w)
   none-between-up x w fx F fw G l =
       let X = encoded f x fx F in
       let W = encoded f w fw G in
-      rw (next-up-finite x F, X .bits, W .exact) (go (X .sign) (W .sign) (X .place) (W .place) (X .below-infinity) (W .below-infinity) (places-order f x w X W l))
+      rw (next-up-finite x F, X .bits, W .exact) (go (X .sign) (W .sign) (X .place) (W .place) (X .below-infinity) (W .below-infinity)
+      (places-order f x w X W l))
     where
-      at-place : (s t : Bool) (p q : ℕ) → p < ones f * hid f → signed s p ≤ℤ signed t q → BoundsBelow (ofBits f (cond s (top f) 0 + p)) (fraction (signed t (magnitude (hid f) q)) (2 ^ low f) (pow-pos (low f)))
+      at-place : (s t : Bool) (p q : ℕ) → p < ones f * hid f → signed s p ≤ℤ signed t q
+          → BoundsBelow (ofBits f (cond s (top f) 0 + p)) (fraction (signed t (magnitude (hid f) q)) (2 ^ low f) (pow-pos (low f)))
       at-place s t p q i o =
-          bounds-below-of (ofBits f (cond s (top f) 0 + p)) s (magnitude (hid f) p) (2 ^ low f) (pow-pos (low f)) (fraction (signed t (magnitude (hid f) q)) (2 ^ low f) (pow-pos (low f))) (ofBits-value f s p i)
-          (fraction-same-le (signed s (magnitude (hid f) p)) (signed t (magnitude (hid f) q)) (2 ^ low f) (pow-pos (low f)) (magnitudes-order (hid f) (hidden-pos f) s t p q o))
+          bounds-below-of (ofBits f (cond s (top f) 0 + p)) s (magnitude (hid f) p) (2 ^ low f) (pow-pos (low f))
+          (fraction (signed t (magnitude (hid f) q)) (2 ^ low f) (pow-pos (low f))) (ofBits-value f s p i)
+          (fraction-same-le (signed s (magnitude (hid f) p)) (signed t (magnitude (hid f) q)) (2 ^ low f) (pow-pos (low f))
+          (magnitudes-order (hid f) (hidden-pos f) s t p q o))
 
-      go : (s t : Bool) (p q : ℕ) → p < ones f * hid f → q < ones f * hid f → (signed t q ≤ℤ signed s p → ⊥) → BoundsBelow (ofBits f (upBits f (cond s (top f) 0 + p))) (fraction (signed t (magnitude (hid f) q)) (2 ^ low f) (pow-pos (low f)))
+      go : (s t : Bool) (p q : ℕ) → p < ones f * hid f → q < ones f * hid f → (signed t q ≤ℤ signed s p → ⊥)
+          → BoundsBelow (ofBits f (upBits f (cond s (top f) 0 + p))) (fraction (signed t (magnitude (hid f) q)) (2 ^ low f)
+          (pow-pos (low f)))
       go false false p q i j n =
-          subst (λ (z : ℕ). BoundsBelow (ofBits f z) (fraction (pos (magnitude (hid f) q)) (2 ^ low f) (pow-pos (low f)))) (sym (ap (upBits f) (zero-add p) ∙ up-positive p i ∙ sym (zero-add (suc p))))
+          subst (λ (z : ℕ). BoundsBelow (ofBits f z) (fraction (pos (magnitude (hid f) q)) (2 ^ low f) (pow-pos (low f))))
+          (sym (ap (upBits f) (zero-add p) ∙ up-positive p i ∙ sym (zero-add (suc p))))
           (at-place false false (suc p) q (lt-of-le-of-lt (above n) j) (omega (arith, above n)))
         where
           above : (pos q ≤ℤ pos p → ⊥) → suc p ≤ q
@@ -349,53 +382,77 @@ module _ (f : Format) where
       go false true p q i j n = absurd (n (omega (arith, parts-neg (pos q) .0, parts-neg (pos q) .1)))
       go true true zero q i j n = absurd (n (omega (arith, parts-neg (pos q) .0, parts-neg (pos q) .1)))
       go true false zero q i j n =
-          subst (λ (z : ℕ). BoundsBelow (ofBits f z) (fraction (pos (magnitude (hid f) q)) (2 ^ low f) (pow-pos (low f)))) (sym (ap (upBits f) (add-zero (top f)) ∙ up-when-minus-zero (top f) refl))
+          subst (λ (z : ℕ). BoundsBelow (ofBits f z) (fraction (pos (magnitude (hid f) q)) (2 ^ low f) (pow-pos (low f))))
+          (sym (ap (upBits f) (add-zero (top f)) ∙ up-when-minus-zero (top f) refl))
           (at-place false false 1 q (lt-of-le-of-lt (above n) j) (omega (arith, above n)))
         where
           above : (pos q ≤ℤ negℤ (pos 0) → ⊥) → 1 ≤ q
           above n = elim (decLe 1 q) [ yes l ↦ l | no g ↦ absurd (n (omega arith)) ]
       go true false (suc b) q i j n =
-          subst (λ (z : ℕ). BoundsBelow (ofBits f z) (fraction (pos (magnitude (hid f) q)) (2 ^ low f) (pow-pos (low f)))) (sym (up-negative b))
+          subst (λ (z : ℕ). BoundsBelow (ofBits f z) (fraction (pos (magnitude (hid f) q)) (2 ^ low f) (pow-pos (low f))))
+          (sym (up-negative b))
           (at-place true false b q (le-trans (le-suc (suc b)) i) (omega (arith, parts-neg (pos b) .0, parts-neg (pos b) .1)))
       go true true (suc b) q i j n =
-          subst (λ (z : ℕ). BoundsBelow (ofBits f z) (fraction (negℤ (pos (magnitude (hid f) q))) (2 ^ low f) (pow-pos (low f)))) (sym (up-negative b))
-          (at-place true true b q (le-trans (le-suc (suc b)) i) (omega (arith, within n, parts-neg (pos b) .0, parts-neg (pos b) .1, parts-neg (pos q) .0, parts-neg (pos q) .1)))
+          subst (λ (z : ℕ). BoundsBelow (ofBits f z) (fraction (negℤ (pos (magnitude (hid f) q))) (2 ^ low f) (pow-pos (low f))))
+          (sym (up-negative b))
+          (at-place true true b q (le-trans (le-suc (suc b)) i)
+          (omega (arith, within n, parts-neg (pos b) .0, parts-neg (pos b) .1, parts-neg (pos q) .0, parts-neg (pos q) .1)))
         where
           within : (negℤ (pos q) ≤ℤ negℤ (pos (suc b)) → ⊥) → q ≤ b
-          within n = elim (decLe q b) [ yes l ↦ l | no g ↦ absurd (n (omega (arith, parts-neg (pos q) .0, parts-neg (pos q) .1, parts-neg (pos (suc b)) .0, parts-neg (pos (suc b)) .1))) ]
+          within n = elim (decLe q b) [
+            | yes l ↦ l
+            | no g ↦ absurd
+                (n (omega (arith, parts-neg (pos q) .0, parts-neg (pos q) .1, parts-neg (pos (suc b)) .0, parts-neg (pos (suc b)) .1)))
+          ]
 
   -- a number below x is at most the next number down
-  pub none-between-down : (x w : Float) → T (fits f x) → T (finite x) → T (fits f w) → T (finite w) → value w <q value x → BoundsAbove (nextDown f x) (value w)
+  pub none-between-down : (x w : Float) → T (fits f x) → T (finite x) → T (fits f w) → T (finite w) → value w <q value x
+      → BoundsAbove (nextDown f x) (value w)
   none-between-down x w fx F fw G l =
       let X = encoded f x fx F in
       let W = encoded f w fw G in
-      rw (next-down-finite x F, X .bits, W .exact) (go (X .sign) (W .sign) (X .place) (W .place) (X .below-infinity) (W .below-infinity) (places-order f w x W X l))
+      rw (next-down-finite x F, X .bits, W .exact) (go (X .sign) (W .sign) (X .place) (W .place) (X .below-infinity) (W .below-infinity)
+      (places-order f w x W X l))
     where
-      at-place : (s t : Bool) (p q : ℕ) → p < ones f * hid f → signed t q ≤ℤ signed s p → BoundsAbove (ofBits f (cond s (top f) 0 + p)) (fraction (signed t (magnitude (hid f) q)) (2 ^ low f) (pow-pos (low f)))
+      at-place : (s t : Bool) (p q : ℕ) → p < ones f * hid f → signed t q ≤ℤ signed s p
+          → BoundsAbove (ofBits f (cond s (top f) 0 + p)) (fraction (signed t (magnitude (hid f) q)) (2 ^ low f) (pow-pos (low f)))
       at-place s t p q i o =
-          bounds-above-of (ofBits f (cond s (top f) 0 + p)) s (magnitude (hid f) p) (2 ^ low f) (pow-pos (low f)) (fraction (signed t (magnitude (hid f) q)) (2 ^ low f) (pow-pos (low f))) (ofBits-value f s p i)
-          (fraction-same-le (signed t (magnitude (hid f) q)) (signed s (magnitude (hid f) p)) (2 ^ low f) (pow-pos (low f)) (magnitudes-order (hid f) (hidden-pos f) t s q p o))
+          bounds-above-of (ofBits f (cond s (top f) 0 + p)) s (magnitude (hid f) p) (2 ^ low f) (pow-pos (low f))
+          (fraction (signed t (magnitude (hid f) q)) (2 ^ low f) (pow-pos (low f))) (ofBits-value f s p i)
+          (fraction-same-le (signed t (magnitude (hid f) q)) (signed s (magnitude (hid f) p)) (2 ^ low f) (pow-pos (low f))
+          (magnitudes-order (hid f) (hidden-pos f) t s q p o))
 
-      go : (s t : Bool) (p q : ℕ) → p < ones f * hid f → q < ones f * hid f → (signed s p ≤ℤ signed t q → ⊥) → BoundsAbove (ofBits f (downBits f (cond s (top f) 0 + p))) (fraction (signed t (magnitude (hid f) q)) (2 ^ low f) (pow-pos (low f)))
+      go : (s t : Bool) (p q : ℕ) → p < ones f * hid f → q < ones f * hid f → (signed s p ≤ℤ signed t q → ⊥)
+          → BoundsAbove (ofBits f (downBits f (cond s (top f) 0 + p))) (fraction (signed t (magnitude (hid f) q)) (2 ^ low f)
+          (pow-pos (low f)))
       go true true p q i j n =
-          subst (λ (z : ℕ). BoundsAbove (ofBits f z) (fraction (negℤ (pos (magnitude (hid f) q))) (2 ^ low f) (pow-pos (low f)))) (sym (down-negative p i))
-          (at-place true true (suc p) q (lt-of-le-of-lt (above n) j) (omega (arith, above n, parts-neg (pos q) .0, parts-neg (pos q) .1, parts-neg (pos (suc p)) .0, parts-neg (pos (suc p)) .1)))
+          subst (λ (z : ℕ). BoundsAbove (ofBits f z) (fraction (negℤ (pos (magnitude (hid f) q))) (2 ^ low f) (pow-pos (low f))))
+          (sym (down-negative p i))
+          (at-place true true (suc p) q (lt-of-le-of-lt (above n) j)
+          (omega (arith, above n, parts-neg (pos q) .0, parts-neg (pos q) .1, parts-neg (pos (suc p)) .0, parts-neg (pos (suc p)) .1)))
         where
           above : (negℤ (pos p) ≤ℤ negℤ (pos q) → ⊥) → suc p ≤ q
-          above n = elim (decLe (suc p) q) [ yes l ↦ l | no g ↦ absurd (n (omega (arith, parts-neg (pos p) .0, parts-neg (pos p) .1, parts-neg (pos q) .0, parts-neg (pos q) .1))) ]
+          above n = elim (decLe (suc p) q) [
+            | yes l ↦ l
+            | no g ↦ absurd
+                (n (omega (arith, parts-neg (pos p) .0, parts-neg (pos p) .1, parts-neg (pos q) .0, parts-neg (pos q) .1)))
+          ]
       go true false p q i j n = absurd (n (omega (arith, parts-neg (pos p) .0, parts-neg (pos p) .1)))
       go false false zero q i j n = absurd (n (omega arith))
       go false true zero q i j n =
-          subst (λ (z : ℕ). BoundsAbove (ofBits f z) (fraction (negℤ (pos (magnitude (hid f) q))) (2 ^ low f) (pow-pos (low f)))) (sym (down-when-plus-zero (0 + 0) refl ∙ suc-one (top f)))
+          subst (λ (z : ℕ). BoundsAbove (ofBits f z) (fraction (negℤ (pos (magnitude (hid f) q))) (2 ^ low f) (pow-pos (low f))))
+          (sym (down-when-plus-zero (0 + 0) refl ∙ suc-one (top f)))
           (at-place true true 1 q (lt-of-le-of-lt (above n) j) (omega (arith, above n, parts-neg (pos q) .0, parts-neg (pos q) .1)))
         where
           above : (pos 0 ≤ℤ negℤ (pos q) → ⊥) → 1 ≤ q
           above n = elim (decLe 1 q) [ yes l ↦ l | no g ↦ absurd (n (omega (arith, parts-neg (pos q) .0, parts-neg (pos q) .1))) ]
       go false true (suc b) q i j n =
-          subst (λ (z : ℕ). BoundsAbove (ofBits f z) (fraction (negℤ (pos (magnitude (hid f) q))) (2 ^ low f) (pow-pos (low f)))) (sym (ap (downBits f) (zero-add (suc b)) ∙ down-positive b (finite-below-sign f i) ∙ sym (zero-add b)))
+          subst (λ (z : ℕ). BoundsAbove (ofBits f z) (fraction (negℤ (pos (magnitude (hid f) q))) (2 ^ low f) (pow-pos (low f))))
+          (sym (ap (downBits f) (zero-add (suc b)) ∙ down-positive b (finite-below-sign f i) ∙ sym (zero-add b)))
           (at-place false true b q (le-trans (le-suc (suc b)) i) (omega (arith, parts-neg (pos q) .0, parts-neg (pos q) .1)))
       go false false (suc b) q i j n =
-          subst (λ (z : ℕ). BoundsAbove (ofBits f z) (fraction (pos (magnitude (hid f) q)) (2 ^ low f) (pow-pos (low f)))) (sym (ap (downBits f) (zero-add (suc b)) ∙ down-positive b (finite-below-sign f i) ∙ sym (zero-add b)))
+          subst (λ (z : ℕ). BoundsAbove (ofBits f z) (fraction (pos (magnitude (hid f) q)) (2 ^ low f) (pow-pos (low f))))
+          (sym (ap (downBits f) (zero-add (suc b)) ∙ down-positive b (finite-below-sign f i) ∙ sym (zero-add b)))
           (at-place false false b q (le-trans (le-suc (suc b)) i) (omega (arith, within n)))
         where
           within : (pos (suc b) ≤ℤ pos q → ⊥) → q ≤ b

@@ -1,5 +1,5 @@
--- The enclosure theorems of end pairs: if x and y lie in their pairs, x + y, x - y, x * y and x / y lie in the pair that the operation gives,
--- where it gives one. All four rest on one law of the step that they share, `outward-contains`.
+-- The enclosure theorems of end pairs: if x and y lie in their pairs, x + y, x - y, x * y and x / y lie in the pair that the operation
+-- gives, where it gives one. All four rest on one law of the step that they share, `outward-contains`.
 use mathlib.Core.Bool.{Bool, _&&_, cond, false, true}
 use mathlib.Core.List.{[], _∷_}
 use mathlib.Core.Path.{_≡_, refl, subst, sym}
@@ -45,7 +45,8 @@ pub outward-is : (f : Format) (p q r s : Float) → T (isPair (outward f p q r s
 unfolding outward moved finiteEnds
 outward-is f p q r s = go (finite (lowestOf p q r s)) (finite (highestOf p q r s)) (λ t. t) (λ t. t)
   where
-    go : (x y : Bool) → (T x → T (finite (lowestOf p q r s))) → (T y → T (finite (highestOf p q r s))) → T (isPair (moved f (cond (x && y) (pair (lowestOf p q r s) (highestOf p q r s)) none)))
+    go : (x y : Bool) → (T x → T (finite (lowestOf p q r s))) → (T y → T (finite (highestOf p q r s)))
+        → T (isPair (moved f (cond (x && y) (pair (lowestOf p q r s) (highestOf p q r s)) none)))
         → Outward f p q r s (moved f (cond (x && y) (pair (lowestOf p q r s) (highestOf p q r s)) none))
     go true true X Y h =
         let e = finite-ends (nextDown f (lowestOf p q r s)) (nextUp f (highestOf p q r s)) h in
@@ -64,10 +65,13 @@ finite-bounds-above (inf s) z F h = absurd F
 finite-bounds-above (fin s m e) z F h = h
 
 -- ---- the shared step: it encloses all that lies between the lowest and the highest of the four exact combinations
-module _ (f : Format) (p q r s : Float) (P Q R S z : ℚ) (rp : Rounded f p P) (rq : Rounded f q Q) (rr : Rounded f r R) (rs : Rounded f s S) (between : Spans P Q R S z) where
-  lows-and-highs : (o : Outward f p q r s (outward f p q r s)) → Contains (pair (nextDown f (lowestOf p q r s)) (nextUp f (highestOf p q r s))) z
+module _ (f : Format) (p q r s : Float) (P Q R S z : ℚ) (rp : Rounded f p P) (rq : Rounded f q Q) (rr : Rounded f r R) (rs : Rounded f s S)
+    (between : Spans P Q R S z) where
+  lows-and-highs : (o : Outward f p q r s (outward f p q r s)) → Contains (pair (nextDown f (lowestOf p q r s))
+      (nextUp f (highestOf p q r s))) z
   lows-and-highs o =
-      let F = four-finite p q r s (rounded-not-nan f p P rp) (rounded-not-nan f q Q rq) (rounded-not-nan f r R rr) (rounded-not-nan f s S rs) (o .low-finite) (o .high-finite) in
+      let F = four-finite p q r s (rounded-not-nan f p P rp) (rounded-not-nan f q Q rq) (rounded-not-nan f r R rr)
+      (rounded-not-nan f s S rs) (o .low-finite) (o .high-finite) in
       let ep = rounded-encoded f p P rp (F .0) in
       let eq = rounded-encoded f q Q rq (F .1) in
       let er = rounded-encoded f r R rr (F .2) in
@@ -85,8 +89,10 @@ module _ (f : Format) (p q r s : Float) (P Q R S z : ℚ) (rp : Rounded f p P) (
       record {
         low-finite = o .low-moved-finite;
         high-finite = o .high-moved-finite;
-        above = between .low (value (nextDown f l)) (down p P rp (F .0) (ll .0)) (down q Q rq (F .1) (ll .1)) (down r R rr (F .2) (ll .2)) (down s S rs (F .3) (ll .3));
-        below = between .high (value (nextUp f h)) (up p P rp (F .0) (hh .0)) (up q Q rq (F .1) (hh .1)) (up r R rr (F .2) (hh .2)) (up s S rs (F .3) (hh .3));
+        above = between .low (value (nextDown f l)) (down p P rp (F .0) (ll .0)) (down q Q rq (F .1) (ll .1)) (down r R rr (F .2) (ll .2))
+            (down s S rs (F .3) (ll .3));
+        below = between .high (value (nextUp f h)) (up p P rp (F .0) (hh .0)) (up q Q rq (F .1) (hh .1)) (up r R rr (F .2) (hh .2))
+            (up s S rs (F .3) (hh .3));
       }
 
   -- the four are the roundings of four exact combinations, and z lies between the lowest and the highest of these: z lies in the pair
@@ -95,48 +101,61 @@ module _ (f : Format) (p q r s : Float) (P Q R S z : ℚ) (rp : Rounded f p P) (
 
 -- ---- the four operations
 -- x in X and y in Y: x + y is in X + Y, if that is a pair
-pub add-contains : (f : Format) (X Y : Ends) (x y : ℚ) → Contains X x → Contains Y y → T (isPair (addPairs f X Y)) → Contains (addPairs f X Y) (x +q y)
+pub add-contains : (f : Format) (X Y : Ends) (x y : ℚ) → Contains X x → Contains Y y → T (isPair (addPairs f X Y))
+    → Contains (addPairs f X Y) (x +q y)
 unfolding addPairs
 add-contains f none Y x y h k t = absurd t
 add-contains f (pair a b) none x y h k t = absurd t
 add-contains f (pair a b) (pair c d) x y h k t =
-    outward-contains f (add f a c) (add f a d) (add f b c) (add f b d) (value a +q value c) (value a +q value d) (value b +q value c) (value b +q value d) (x +q y)
-    (add-rounded f a c (h .low-finite) (k .low-finite)) (add-rounded f a d (h .low-finite) (k .high-finite)) (add-rounded f b c (h .high-finite) (k .low-finite)) (add-rounded f b d (h .high-finite) (k .high-finite))
+    outward-contains f (add f a c) (add f a d) (add f b c) (add f b d) (value a +q value c) (value a +q value d) (value b +q value c)
+    (value b +q value d) (x +q y)
+    (add-rounded f a c (h .low-finite) (k .low-finite)) (add-rounded f a d (h .low-finite) (k .high-finite))
+    (add-rounded f b c (h .high-finite) (k .low-finite)) (add-rounded f b d (h .high-finite) (k .high-finite))
     (sum-spans x (value a) (value b) y (value c) (value d) (h .above) (h .below) (k .above) (k .below)) t
 
 -- x in X and y in Y: x - y is in X - Y, if that is a pair
-pub subtract-contains : (f : Format) (X Y : Ends) (x y : ℚ) → Contains X x → Contains Y y → T (isPair (subtractPairs f X Y)) → Contains (subtractPairs f X Y) (x -q y)
+pub subtract-contains : (f : Format) (X Y : Ends) (x y : ℚ) → Contains X x → Contains Y y → T (isPair (subtractPairs f X Y))
+    → Contains (subtractPairs f X Y) (x -q y)
 unfolding subtractPairs
 subtract-contains f none Y x y h k t = absurd t
 subtract-contains f (pair a b) none x y h k t = absurd t
 subtract-contains f (pair a b) (pair c d) x y h k t =
-    outward-contains f (sub f a c) (sub f a d) (sub f b c) (sub f b d) (value a -q value c) (value a -q value d) (value b -q value c) (value b -q value d) (x -q y)
-    (sub-rounded f a c (h .low-finite) (k .low-finite)) (sub-rounded f a d (h .low-finite) (k .high-finite)) (sub-rounded f b c (h .high-finite) (k .low-finite)) (sub-rounded f b d (h .high-finite) (k .high-finite))
+    outward-contains f (sub f a c) (sub f a d) (sub f b c) (sub f b d) (value a -q value c) (value a -q value d) (value b -q value c)
+    (value b -q value d) (x -q y)
+    (sub-rounded f a c (h .low-finite) (k .low-finite)) (sub-rounded f a d (h .low-finite) (k .high-finite))
+    (sub-rounded f b c (h .high-finite) (k .low-finite)) (sub-rounded f b d (h .high-finite) (k .high-finite))
     (difference-spans x (value a) (value b) y (value c) (value d) (h .above) (h .below) (k .above) (k .below)) t
 
 -- x in X and y in Y: x * y is in X * Y, if that is a pair
-pub multiply-contains : (f : Format) (X Y : Ends) (x y : ℚ) → Contains X x → Contains Y y → T (isPair (multiplyPairs f X Y)) → Contains (multiplyPairs f X Y) (x *q y)
+pub multiply-contains : (f : Format) (X Y : Ends) (x y : ℚ) → Contains X x → Contains Y y → T (isPair (multiplyPairs f X Y))
+    → Contains (multiplyPairs f X Y) (x *q y)
 unfolding multiplyPairs
 multiply-contains f none Y x y h k t = absurd t
 multiply-contains f (pair a b) none x y h k t = absurd t
 multiply-contains f (pair a b) (pair c d) x y h k t =
-    outward-contains f (mul f a c) (mul f a d) (mul f b c) (mul f b d) (value a *q value c) (value a *q value d) (value b *q value c) (value b *q value d) (x *q y)
-    (mul-rounded f a c (h .low-finite) (k .low-finite)) (mul-rounded f a d (h .low-finite) (k .high-finite)) (mul-rounded f b c (h .high-finite) (k .low-finite)) (mul-rounded f b d (h .high-finite) (k .high-finite))
+    outward-contains f (mul f a c) (mul f a d) (mul f b c) (mul f b d) (value a *q value c) (value a *q value d) (value b *q value c)
+    (value b *q value d) (x *q y)
+    (mul-rounded f a c (h .low-finite) (k .low-finite)) (mul-rounded f a d (h .low-finite) (k .high-finite))
+    (mul-rounded f b c (h .high-finite) (k .low-finite)) (mul-rounded f b d (h .high-finite) (k .high-finite))
     (product-spans x (value a) (value b) y (value c) (value d) (h .above) (h .below) (k .above) (k .below)) t
 
 -- x in X and y in Y: x / y is in X / Y, if that is a pair
-pub divide-contains : (f : Format) (X Y : Ends) (x y : ℚ) → Contains X x → Contains Y y → T (isPair (dividePairs f X Y)) → Contains (dividePairs f X Y) (x /q y)
+pub divide-contains : (f : Format) (X Y : Ends) (x y : ℚ) → Contains X x → Contains Y y → T (isPair (dividePairs f X Y))
+    → Contains (dividePairs f X Y) (x /q y)
 unfolding dividePairs
 divide-contains f none Y x y h k t = absurd t
 divide-contains f (pair a b) none x y h k t = absurd t
 divide-contains f (pair a b) (pair c d) x y h k t = go (lt (ofBits f 0) c) (above-zero f c (k .low-finite)) t
   where
-    go : (e : Bool) → (T e → Above (value c)) → T (isPair (cond e (outward f (div f a c) (div f a d) (div f b c) (div f b d)) none)) → Contains (cond e (outward f (div f a c) (div f a d) (div f b c) (div f b d)) none) (x /q y)
+    go : (e : Bool) → (T e → Above (value c)) → T (isPair (cond e (outward f (div f a c) (div f a d) (div f b c) (div f b d)) none))
+        → Contains (cond e (outward f (div f a c) (div f a d) (div f b c) (div f b d)) none) (x /q y)
     go true A t =
         let C = A tt in
         let D = <q-≤q-trans 𝟘 y (value d) (<q-≤q-trans 𝟘 (value c) y C (k .above)) (k .below) in
-        outward-contains f (div f a c) (div f a d) (div f b c) (div f b d) (value a /q value c) (value a /q value d) (value b /q value c) (value b /q value d) (x /q y)
-        (divide-rounded f a c (h .low-finite) (k .low-finite) C) (divide-rounded f a d (h .low-finite) (k .high-finite) D) (divide-rounded f b c (h .high-finite) (k .low-finite) C) (divide-rounded f b d (h .high-finite) (k .high-finite) D)
+        outward-contains f (div f a c) (div f a d) (div f b c) (div f b d) (value a /q value c) (value a /q value d) (value b /q value c)
+        (value b /q value d) (x /q y)
+        (divide-rounded f a c (h .low-finite) (k .low-finite) C) (divide-rounded f a d (h .low-finite) (k .high-finite) D)
+        (divide-rounded f b c (h .high-finite) (k .low-finite) C) (divide-rounded f b d (h .high-finite) (k .high-finite) D)
         (quotient-spans x (value a) (value b) y (value c) (value d) (h .above) (h .below) C (k .above) (k .below)) t
     go false A t = absurd t
 
@@ -147,7 +166,8 @@ divisor-above f none Y y k t = absurd t
 divisor-above f (pair a b) none y k t = absurd t
 divisor-above f (pair a b) (pair c d) y k t = go (lt (ofBits f 0) c) (above-zero f c (k .low-finite)) t
   where
-    go : (e : Bool) → (T e → Above (value c)) → T (isPair (cond e (outward f (div f a c) (div f a d) (div f b c) (div f b d)) none)) → Above y
+    go : (e : Bool) → (T e → Above (value c)) → T (isPair (cond e (outward f (div f a c) (div f a d) (div f b c) (div f b d)) none))
+        → Above y
     go true A t = <q-≤q-trans 𝟘 (value c) y (A tt) (k .above)
     go false A t = absurd t
 
@@ -156,7 +176,8 @@ pub point-contains : (x : Float) → T (finite x) → Contains (point x) (value 
 point-contains x F = record { low-finite = F; high-finite = F; above = ≤q-refl (value x); below = ≤q-refl (value x) }
 
 -- "the largest absolute end" of a pair bounds all that lies in it
-pub largest-absolute-bounds : (a b : Float) (x : ℚ) → Between a b x → T (finite (largestAbsolute a b)) × (absolute x ≤q value (largestAbsolute a b))
+pub largest-absolute-bounds : (a b : Float) (x : ℚ) → Between a b x → T (finite (largestAbsolute a b))
+    × (absolute x ≤q value (largestAbsolute a b))
 unfolding largestAbsolute
 largest-absolute-bounds a b x h =
     let A = absolute-float a (h .low-finite) in
@@ -166,6 +187,7 @@ largest-absolute-bounds a b x h =
       H .is-finite,
       absolute-le x (value m)
           (≤q-trans (negq (value m)) (value a) x (≤q-trans (negq (value m)) (negq (value (absoluteFloat a))) (value a)
-          (le-one rationalRing _≤q_ rationalOrder (value m ∷ value (absoluteFloat a) ∷ []) (opposite v0) (opposite v1) (con (pos 1)) v1 v0 tt (≤q-whole 1) (H .first)) (A .1)) (h .above))
+          (le-one rationalRing _≤q_ rationalOrder (value m ∷ value (absoluteFloat a) ∷ []) (opposite v0) (opposite v1) (con (pos 1)) v1 v0
+          tt (≤q-whole 1) (H .first)) (A .1)) (h .above))
           (≤q-trans x (value b) (value m) (h .below) (≤q-trans (value b) (value (absoluteFloat b)) (value m) (B .2) (H .second))),
     )

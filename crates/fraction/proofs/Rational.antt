@@ -30,31 +30,40 @@ equal-means-≈ = effective ≈-prop ≈-equivalence
 
 ≤f-add : (a b c : Fraction) → a ≤f b → addFractions a c ≤f addFractions b c
 ≤f-add a b c h =
-    le-one integerRing _≤ℤ_ integerOrder (a .numerator ∷ b .numerator ∷ c .numerator ∷ pos (a .denominator) ∷ pos (b .denominator) ∷ pos (c .denominator) ∷ [])
-    ((v0 ⊗ v5 ⊕ v2 ⊗ v3) ⊗ (v4 ⊗ v5)) ((v1 ⊗ v5 ⊕ v2 ⊗ v4) ⊗ (v3 ⊗ v5)) (v5 ⊗ v5) (v0 ⊗ v4) (v1 ⊗ v3) tt (natural-nonnegative (c .denominator * c .denominator)) h
+    le-one integerRing _≤ℤ_ integerOrder (a .numerator ∷ b .numerator ∷ c .numerator ∷ pos (a .denominator) ∷ pos (b .denominator) ∷ pos
+    (c .denominator) ∷ [])
+    ((v0 ⊗ v5 ⊕ v2 ⊗ v3) ⊗ (v4 ⊗ v5)) ((v1 ⊗ v5 ⊕ v2 ⊗ v4) ⊗ (v3 ⊗ v5)) (v5 ⊗ v5) (v0 ⊗ v4) (v1 ⊗ v3) tt
+    (natural-nonnegative (c .denominator * c .denominator)) h
 
-nonnegative-mul-fractions : (a b : Fraction) → wholeFraction (pos 0) ≤f a → wholeFraction (pos 0) ≤f b → wholeFraction (pos 0) ≤f multiplyFractions a b
+nonnegative-mul-fractions : (a b : Fraction) → wholeFraction (pos 0) ≤f a → wholeFraction (pos 0) ≤f b
+    → wholeFraction (pos 0) ≤f multiplyFractions a b
 nonnegative-mul-fractions a b h k =
-    le-prod integerRing _≤ℤ_ integerOrder (a .numerator ∷ b .numerator ∷ pos (a .denominator) ∷ pos (b .denominator) ∷ []) (con (pos 0) ⊗ (v2 ⊗ v3)) (v0 ⊗ v1 ⊗ con (pos 1))
+    le-prod integerRing _≤ℤ_ integerOrder (a .numerator ∷ b .numerator ∷ pos (a .denominator) ∷ pos (b .denominator) ∷ [])
+    (con (pos 0) ⊗ (v2 ⊗ v3)) (v0 ⊗ v1 ⊗ con (pos 1))
     (con (pos 0) ⊗ v2) (v0 ⊗ con (pos 1)) (con (pos 0) ⊗ v3) (v1 ⊗ con (pos 1)) tt h k
 
 -- the laws of an ordered ring
 pub ≤q-refl : (a : ℚ) → a ≤q a
 unfolding atMostq
-≤q-refl = /-elim-prop (λ x. x ≤q x) (λ x. T-prop (atMostq x x)) (λ a. fraction-test a a (integerOrder .le-refl (a .numerator *ℤ pos (a .denominator))))
+≤q-refl = /-elim-prop (λ x. x ≤q x) (λ x. T-prop (atMostq x x))
+    (λ a. fraction-test a a (integerOrder .le-refl (a .numerator *ℤ pos (a .denominator))))
 
 pub ≤q-trans : (a b c : ℚ) → a ≤q b → b ≤q c → a ≤q c
 unfolding atMostq
-≤q-trans = /-elim-prop₃ (λ x y z. x ≤q y → y ≤q z → x ≤q z) (λ x y z. Π-prop (λ _. Π-prop (λ _. T-prop (atMostq x z)))) (λ a b c h k. fraction-test a c (≤f-trans a b c (fraction-at-most a b h) (fraction-at-most b c k)))
+≤q-trans = /-elim-prop₃ (λ x y z. x ≤q y → y ≤q z → x ≤q z) (λ x y z. Π-prop (λ _. Π-prop (λ _. T-prop (atMostq x z))))
+    (λ a b c h k. fraction-test a c (≤f-trans a b c (fraction-at-most a b h) (fraction-at-most b c k)))
 
 pub ≤q-add : (a b c : ℚ) → a ≤q b → a +q c ≤q b +q c
 unfolding atMostq _+q_
-≤q-add = /-elim-prop₃ (λ x y z. x ≤q y → x +q z ≤q y +q z) (λ x y z. Π-prop (λ _. T-prop (atMostq (x +q z) (y +q z)))) (λ a b c h. fraction-test (addFractions a c) (addFractions b c) (≤f-add a b c (fraction-at-most a b h)))
+≤q-add = /-elim-prop₃ (λ x y z. x ≤q y → x +q z ≤q y +q z) (λ x y z. Π-prop (λ _. T-prop (atMostq (x +q z) (y +q z))))
+    (λ a b c h. fraction-test (addFractions a c) (addFractions b c) (≤f-add a b c (fraction-at-most a b h)))
 
 pub ≤q-mul : (a b : ℚ) → wholeq (pos 0) ≤q a → wholeq (pos 0) ≤q b → wholeq (pos 0) ≤q a *q b
 unfolding atMostq _*q_
-≤q-mul = /-elim-prop₂ (λ x y. wholeq (pos 0) ≤q x → wholeq (pos 0) ≤q y → wholeq (pos 0) ≤q x *q y) (λ x y. Π-prop (λ _. Π-prop (λ _. T-prop (atMostq (wholeq (pos 0)) (x *q y)))))
-    (λ a b h k. fraction-test (wholeFraction (pos 0)) (multiplyFractions a b) (nonnegative-mul-fractions a b (fraction-at-most (wholeFraction (pos 0)) a h) (fraction-at-most (wholeFraction (pos 0)) b k)))
+≤q-mul = /-elim-prop₂ (λ x y. wholeq (pos 0) ≤q x → wholeq (pos 0) ≤q y → wholeq (pos 0) ≤q x *q y)
+    (λ x y. Π-prop (λ _. Π-prop (λ _. T-prop (atMostq (wholeq (pos 0)) (x *q y)))))
+    (λ a b h k. fraction-test (wholeFraction (pos 0)) (multiplyFractions a b) (nonnegative-mul-fractions a b
+    (fraction-at-most (wholeFraction (pos 0)) a h) (fraction-at-most (wholeFraction (pos 0)) b k)))
 
 pub ≤q-whole : (n : ℕ) → wholeq (pos 0) ≤q wholeq (pos n)
 unfolding atMostq
@@ -71,7 +80,8 @@ or-prop false y h = h tt
 -- one of two numbers is at most the other
 pub ≤q-total : (x y : ℚ) → T (atMostq x y || atMostq y x)
 unfolding atMostq
-≤q-total = /-elim-prop₂ (λ x y. T (atMostq x y || atMostq y x)) (λ x y. T-prop (atMostq x y || atMostq y x)) (λ a b. or-prop (fractionAtMost a b) (fractionAtMost b a) (λ t. fraction-test b a (le-of-lt (nleb→lt _ _ t))))
+≤q-total = /-elim-prop₂ (λ x y. T (atMostq x y || atMostq y x)) (λ x y. T-prop (atMostq x y || atMostq y x))
+    (λ a b. or-prop (fractionAtMost a b) (fractionAtMost b a) (λ t. fraction-test b a (le-of-lt (nleb→lt _ _ t))))
 
 -- the same as a choice
 pub ≤q-cases : (x y : ℚ) → (x ≤q y) ⊎ (y ≤q x)
@@ -131,13 +141,21 @@ unfolding absolute
 absolute-above x = go (atMostq 𝟘 x) (λ t. t) (<q-weaken x 𝟘)
   where
     go : (b : Bool) → (T b → 𝟘 ≤q x) → (T (not b) → x ≤q 𝟘) → (x ≤q cond b x (negq x)) × (negq x ≤q cond b x (negq x))
-    go true h k = (≤q-refl x, le-one rationalRing _≤q_ rationalOrder (x ∷ []) (opposite v0) v0 (con (pos 2)) (con (pos 0)) v0 tt (≤q-whole 2) (h tt))
-    go false h k = (le-one rationalRing _≤q_ rationalOrder (x ∷ []) v0 (opposite v0) (con (pos 2)) v0 (con (pos 0)) tt (≤q-whole 2) (k tt), ≤q-refl (negq x))
+    go true h k = (
+      ≤q-refl x,
+      le-one rationalRing _≤q_ rationalOrder (x ∷ []) (opposite v0) v0 (con (pos 2)) (con (pos 0)) v0 tt
+          (≤q-whole 2) (h tt),
+    )
+    go false h k = (
+      le-one rationalRing _≤q_ rationalOrder (x ∷ []) v0 (opposite v0) (con (pos 2)) v0 (con (pos 0)) tt (≤q-whole 2) (k tt),
+      ≤q-refl (negq x),
+    )
 
 -- x ≤ y and y ≤ x give x = y
 pub ≤q-antisymmetric : (x y : ℚ) → x ≤q y → y ≤q x → x ≡ y
 ≤q-antisymmetric = /-elim-prop₂ (λ x y. x ≤q y → y ≤q x → x ≡ y) (λ x y. Π-prop (λ _. Π-prop (λ _. /-set _ _)))
-    (λ a b h k. let h = ≤q-means-≤f a b h in let k = ≤q-means-≤f b a k in eq/ a b (equal-by-parts (a .numerator *ℤ pos (b .denominator)) (b .numerator *ℤ pos (a .denominator)) (omega arith)))
+    (λ a b h k. let h = ≤q-means-≤f a b h in let k = ≤q-means-≤f b a k in eq/ a b (equal-by-parts (a .numerator *ℤ pos (b .denominator))
+    (b .numerator *ℤ pos (a .denominator)) (omega arith)))
 
 -- not both x < y and y ≤ x
 pub never : (x y : ℚ) → x <q y → y ≤q x → ⊥

@@ -36,7 +36,8 @@ under-of : (f : Format) (s : Bool) (q k : ℕ) → T (finite (units f s q k)) �
 unfolding units
 under-of f s q k = go (ltb (q * 2 ^ k) (overflow f)) (ltb→lt (q * 2 ^ k) (overflow f))
   where
-    go : (b : Bool) → (T b → q * 2 ^ k < overflow f) → T (finite (cond b (odd (suc (prec f)) s q k (low f)) (inf s))) → q * 2 ^ k < overflow f
+    go : (b : Bool) → (T b → q * 2 ^ k < overflow f) → T (finite (cond b (odd (suc (prec f)) s q k (low f)) (inf s))) → q * 2 ^ k
+        < overflow f
     go true h t = h tt
     go false h t = absurd t
 
@@ -58,7 +59,8 @@ compared a b = go (compare a b) (leb→le a b) (nleb→lt a b) (eqb→eq a b) (�
 closest-half : (n u : ℕ) → 0 < u → (2 * (closest n u * u) ≤ 2 * n + u) × (2 * n ≤ 2 * (closest n u * u) + u)
 closest-half n u U = go (n / u) (n % u) (div-add-mod' n u) (mod-lt n U) (compare (n % u * 2) u) (compared (n % u * 2) u)
   where
-    go : (q m : ℕ) → q * u + m ≡ n → m < u → (o : Ordering) → Compared o (m * 2) u → (2 * (nearest q o * u) ≤ 2 * n + u) × (2 * n ≤ 2 * (nearest q o * u) + u)
+    go : (q m : ℕ) → q * u + m ≡ n → m < u → (o : Ordering) → Compared o (m * 2) u → (2 * (nearest q o * u) ≤ 2 * n + u)
+        × (2 * n ≤ 2 * (nearest q o * u) + u)
     go q m e l Ordering·lt h = (omega arith, omega arith)
     go q m e l Ordering·gt h = (omega arith, omega arith)
     go q m e l Ordering·eq h = elim (near q Ordering·eq) [
@@ -66,8 +68,10 @@ closest-half n u U = go (n / u) (n % u) (div-add-mod' n u) (mod-lt n U) (compare
       | inr x ↦ subst (λ (z : ℕ). (2 * (z * u) ≤ 2 * n + u) × (2 * n ≤ 2 * (z * u) + u)) (sym x) (omega arith, omega arith)
     ]
 
--- n / c lies from q to q + 1 units of 2 ^ k, and K, one of the two, is nearest to it: it lies between the middles of K's value and any other
-module _ (h q k c n : ℕ) (H : 0 < h) (side : (h ≤ q) ⊎ (k ≡ 0)) (Q : q < 2 * h) (lo : q * (c * 2 ^ k) ≤ n) (hi : n < q * (c * 2 ^ k) + c * 2 ^ k) where
+-- n / c lies from q to q + 1 units of 2 ^ k, and K, one of the two, is nearest to it: it lies between the middles of K's value and any
+-- other
+module _ (h q k c n : ℕ) (H : 0 < h) (side : (h ≤ q) ⊎ (k ≡ 0)) (Q : q < 2 * h) (lo : q * (c * 2 ^ k) ≤ n)
+    (hi : n < q * (c * 2 ^ k) + c * 2 ^ k) where
   at-floor : magnitude h (k * h + q) ≡ q * 2 ^ k
   at-floor = magnitude-at h q k H side (le-of-lt Q)
 
@@ -78,30 +82,38 @@ module _ (h q k c n : ℕ) (H : 0 < h) (side : (h ≤ q) ⊎ (k ≡ 0)) (Q : q <
       more (inl g) = inl (le-trans g (le-suc q))
       more (inr z) = inr z
 
-  middle-above : (K b : ℕ) → (K ≡ q) ⊎ (K ≡ suc q) → 2 * n ≤ 2 * (K * (c * 2 ^ k)) + c * 2 ^ k → k * h + K < b → 2 * n ≤ (magnitude h (k * h + K) + magnitude h b) * c
+  middle-above : (K b : ℕ) → (K ≡ q) ⊎ (K ≡ suc q) → 2 * n ≤ 2 * (K * (c * 2 ^ k)) + c * 2 ^ k → k * h + K < b → 2 * n
+      ≤ (magnitude h (k * h + K) + magnitude h b) * c
   middle-above K b (inl e) l g =
-      let m : suc q * 2 ^ k * c ≤ magnitude h b * c = mul-le-mul-right c (le-trans (le-of-eq (sym at-suc)) (magnitude-mono h (k * h + suc q) b H (next e g))) in
-      subst (λ (z : ℕ). 2 * n ≤ (z + magnitude h b) * c) (sym (ap (λ (z : ℕ). magnitude h (k * h + z)) e ∙ at-floor)) (omega (arith, subst (λ (z : ℕ). 2 * n ≤ 2 * (z * (c * 2 ^ k)) + c * 2 ^ k) e l))
+      let m : suc q * 2 ^ k * c ≤ magnitude h b * c = mul-le-mul-right c (le-trans (le-of-eq (sym at-suc))
+      (magnitude-mono h (k * h + suc q) b H (next e g))) in
+      subst (λ (z : ℕ). 2 * n ≤ (z + magnitude h b) * c) (sym (ap (λ (z : ℕ). magnitude h (k * h + z)) e ∙ at-floor))
+      (omega (arith, subst (λ (z : ℕ). 2 * n ≤ 2 * (z * (c * 2 ^ k)) + c * 2 ^ k) e l))
     where
       next : K ≡ q → k * h + K < b → k * h + suc q ≤ b
       next e g = omega arith
   middle-above K b (inr e) l g =
-      let m : suc q * 2 ^ k * c ≤ magnitude h b * c = mul-le-mul-right c (le-trans (le-of-eq (sym at-suc)) (magnitude-mono h (k * h + suc q) b H (next e g))) in
+      let m : suc q * 2 ^ k * c ≤ magnitude h b * c = mul-le-mul-right c (le-trans (le-of-eq (sym at-suc))
+      (magnitude-mono h (k * h + suc q) b H (next e g))) in
       subst (λ (z : ℕ). 2 * n ≤ (z + magnitude h b) * c) (sym (ap (λ (z : ℕ). magnitude h (k * h + z)) e ∙ at-suc)) (omega arith)
     where
       next : K ≡ suc q → k * h + K < b → k * h + suc q ≤ b
       next e g = omega arith
 
-  middle-below : (K b : ℕ) → (K ≡ q) ⊎ (K ≡ suc q) → 2 * (K * (c * 2 ^ k)) ≤ 2 * n + c * 2 ^ k → b < k * h + K → (magnitude h b + magnitude h (k * h + K)) * c ≤ 2 * n
+  middle-below : (K b : ℕ) → (K ≡ q) ⊎ (K ≡ suc q) → 2 * (K * (c * 2 ^ k)) ≤ 2 * n + c * 2 ^ k → b < k * h + K
+      → (magnitude h b + magnitude h (k * h + K)) * c ≤ 2 * n
   middle-below K b (inl e) l g =
-      let m : magnitude h b * c ≤ q * 2 ^ k * c = mul-le-mul-right c (le-trans (magnitude-mono h b (k * h + q) H (prev e g)) (le-of-eq at-floor)) in
+      let m : magnitude h b * c ≤ q * 2 ^ k * c = mul-le-mul-right c (le-trans (magnitude-mono h b (k * h + q) H (prev e g))
+      (le-of-eq at-floor)) in
       subst (λ (z : ℕ). (magnitude h b + z) * c ≤ 2 * n) (sym (ap (λ (z : ℕ). magnitude h (k * h + z)) e ∙ at-floor)) (omega arith)
     where
       prev : K ≡ q → b < k * h + K → b ≤ k * h + q
       prev e g = omega arith
   middle-below K b (inr e) l g =
-      let m : magnitude h b * c ≤ q * 2 ^ k * c = mul-le-mul-right c (le-trans (magnitude-mono h b (k * h + q) H (prev e g)) (le-of-eq at-floor)) in
-      subst (λ (z : ℕ). (magnitude h b + z) * c ≤ 2 * n) (sym (ap (λ (z : ℕ). magnitude h (k * h + z)) e ∙ at-suc)) (omega (arith, subst (λ (z : ℕ). 2 * (z * (c * 2 ^ k)) ≤ 2 * n + c * 2 ^ k) e l))
+      let m : magnitude h b * c ≤ q * 2 ^ k * c = mul-le-mul-right c (le-trans (magnitude-mono h b (k * h + q) H (prev e g))
+      (le-of-eq at-floor)) in
+      subst (λ (z : ℕ). (magnitude h b + z) * c ≤ 2 * n) (sym (ap (λ (z : ℕ). magnitude h (k * h + z)) e ∙ at-suc))
+      (omega (arith, subst (λ (z : ℕ). 2 * (z * (c * 2 ^ k)) ≤ 2 * n + c * 2 ^ k) e l))
     where
       prev : K ≡ suc q → b < k * h + K → b ≤ k * h + q
       prev e g = omega arith
@@ -129,7 +141,8 @@ module _ (p n c : ℕ) (P : 0 < p) (C : 0 < c) where
       big : 0 < drop p n c → 2 ^ (p - 1) ≤ floor
       big l =
           subst (λ (x : ℕ). 2 ^ (p - 1) ≤ x) (div-div-eq-div-mul n c (2 ^ drop p n c))
-          (le-div-iff-mul-le (pow-pos (drop p n c)) .1 (le-trans (le-of-eq (sym (pow-add 2 (p - 1) (drop p n c)))) (size-reaches (n / c) (p - 1 + drop p n c) (full (size (n / c)) l))))
+          (le-div-iff-mul-le (pow-pos (drop p n c)) .1 (le-trans (le-of-eq (sym (pow-add 2 (p - 1) (drop p n c))))
+          (size-reaches (n / c) (p - 1 + drop p n c) (full (size (n / c)) l))))
 
   kept-near : (kept p n c ≡ floor) ⊎ (kept p n c ≡ suc floor)
   kept-near = near floor (compare (n % (c * 2 ^ drop p n c) * 2) (c * 2 ^ drop p n c))
@@ -147,13 +160,17 @@ module _ (p n c : ℕ) (P : 0 < p) (C : 0 < c) where
   floor-lt2 : floor < 2 * 2 ^ (p - 1)
   floor-lt2 = subst (λ (z : ℕ). floor < z) (power-twice p P) floor-lt
 
-  kept-middle-above : (b : ℕ) → drop p n c * 2 ^ (p - 1) + kept p n c < b → 2 * n ≤ (magnitude (2 ^ (p - 1)) (drop p n c * 2 ^ (p - 1) + kept p n c) + magnitude (2 ^ (p - 1)) b) * c
+  kept-middle-above : (b : ℕ) → drop p n c * 2 ^ (p - 1) + kept p n c < b → 2 * n ≤ (magnitude (2 ^ (p - 1))
+      (drop p n c * 2 ^ (p - 1) + kept p n c) + magnitude (2 ^ (p - 1)) b) * c
   kept-middle-above b =
-      middle-above (2 ^ (p - 1)) floor (drop p n c) c n (pow-pos (p - 1)) floor-side floor-lt2 (div-mul-le-self n (c * 2 ^ drop p n c)) (lt-div-mul-add unit-pos) (kept p n c) b kept-near (closest-half n (c * 2 ^ drop p n c) unit-pos .1)
+      middle-above (2 ^ (p - 1)) floor (drop p n c) c n (pow-pos (p - 1)) floor-side floor-lt2 (div-mul-le-self n (c * 2 ^ drop p n c))
+      (lt-div-mul-add unit-pos) (kept p n c) b kept-near (closest-half n (c * 2 ^ drop p n c) unit-pos .1)
 
-  kept-middle-below : (b : ℕ) → b < drop p n c * 2 ^ (p - 1) + kept p n c → (magnitude (2 ^ (p - 1)) b + magnitude (2 ^ (p - 1)) (drop p n c * 2 ^ (p - 1) + kept p n c)) * c ≤ 2 * n
+  kept-middle-below : (b : ℕ) → b < drop p n c * 2 ^ (p - 1) + kept p n c → (magnitude (2 ^ (p - 1)) b + magnitude (2 ^ (p - 1))
+      (drop p n c * 2 ^ (p - 1) + kept p n c)) * c ≤ 2 * n
   kept-middle-below b =
-      middle-below (2 ^ (p - 1)) floor (drop p n c) c n (pow-pos (p - 1)) floor-side floor-lt2 (div-mul-le-self n (c * 2 ^ drop p n c)) (lt-div-mul-add unit-pos) (kept p n c) b kept-near (closest-half n (c * 2 ^ drop p n c) unit-pos .0)
+      middle-below (2 ^ (p - 1)) floor (drop p n c) c n (pow-pos (p - 1)) floor-side floor-lt2 (div-mul-le-self n (c * 2 ^ drop p n c))
+      (lt-div-mul-add unit-pos) (kept p n c) b kept-near (closest-half n (c * 2 ^ drop p n c) unit-pos .0)
 
 -- ---- `round`: its bits, and what lies on either side of it
 module _ (f : Format) (s : Bool) (a c : ℕ) (C : 0 < c) (F : T (finite (round f s a c))) where
@@ -173,7 +190,8 @@ module _ (f : Format) (s : Bool) (a c : ℕ) (C : 0 < c) (F : T (finite (round f
   pub round-bits : toBits f (round f s a c) ≡ cond s (top f) 0 + place
   round-bits =
       let P = two-le-pos (prec f) (two f) in
-      toBits-value f (round f s a c) s (kept (prec f) (a * 2 ^ low f) c) (drop (prec f) (a * 2 ^ low f) c) round-value (kept-side (prec f) (a * 2 ^ low f) c P C) (kept-top (prec f) (a * 2 ^ low f) c P C)
+      toBits-value f (round f s a c) s (kept (prec f) (a * 2 ^ low f) c) (drop (prec f) (a * 2 ^ low f) c) round-value
+      (kept-side (prec f) (a * 2 ^ low f) c P C) (kept-top (prec f) (a * 2 ^ low f) c P C)
 
   -- a / c lies between the middle of the rounded value and any lower one, and the middle of it and any higher one
   pub round-middle-above : (b : ℕ) → place < b → 2 * (a * 2 ^ low f) ≤ (magnitude (hid f) place + magnitude (hid f) b) * c
@@ -184,21 +202,33 @@ module _ (f : Format) (s : Bool) (a c : ℕ) (C : 0 < c) (F : T (finite (round f
 
   -- so a / c is at most the value of the next place
   pub round-above : a * 2 ^ low f ≤ magnitude (hid f) (suc place) * c
-  round-above = omega (arith, round-middle-above (suc place) (le-refl (suc place)), mul-le-mul-right c (magnitude-step (hid f) place (hidden-pos f)))
+  round-above = omega (
+    arith,
+    round-middle-above (suc place) (le-refl (suc place)),
+    mul-le-mul-right c
+        (magnitude-step (hid f) place (hidden-pos f)),
+  )
 
   -- and at least the value of the place before
   pub round-below : (b : ℕ) → suc b ≡ place → magnitude (hid f) b * c ≤ a * 2 ^ low f
-  round-below b e = omega (arith, round-middle-below b (le-of-eq e), mul-le-mul-right c (magnitude-mono (hid f) b place (hidden-pos f) (le-trans (le-suc b) (le-of-eq e))))
+  round-below b e = omega (
+    arith,
+    round-middle-below b (le-of-eq e),
+    mul-le-mul-right c (magnitude-mono (hid f) b place (hidden-pos f)
+        (le-trans (le-suc b) (le-of-eq e))),
+  )
 
   -- the place's magnitude is what `round` keeps
   pub place-magnitude : magnitude (hid f) place ≡ grid f a c
   place-magnitude =
       let P = two-le-pos (prec f) (two f) in
-      magnitude-at (hid f) (kept (prec f) (a * 2 ^ low f) c) (drop (prec f) (a * 2 ^ low f) c) (hidden-pos f) (kept-side (prec f) (a * 2 ^ low f) c P C)
+      magnitude-at (hid f) (kept (prec f) (a * 2 ^ low f) c) (drop (prec f) (a * 2 ^ low f) c) (hidden-pos f)
+      (kept-side (prec f) (a * 2 ^ low f) c P C)
       (subst (λ (z : ℕ). kept (prec f) (a * 2 ^ low f) c ≤ z) (power-twice (prec f) P) (kept-top (prec f) (a * 2 ^ low f) c P C))
 
   -- the place is that of a finite number
   pub place-finite : place < ones f * hid f
   place-finite =
       place-below-infinity f place (subst (λ (z : ℕ). z < overflow f) (sym place-magnitude)
-      (under-of f s (kept (prec f) (a * 2 ^ low f) c) (drop (prec f) (a * 2 ^ low f) c) (subst (λ (z : Float). T (finite z)) (round-is f s a c) F)))
+      (under-of f s (kept (prec f) (a * 2 ^ low f) c) (drop (prec f) (a * 2 ^ low f) c) (subst (λ (z : Float). T (finite z))
+      (round-is f s a c) F)))

@@ -25,27 +25,49 @@ use Rattle.fraction.proofs.Value.{fraction-le, neg-finite, signed-mul, 
 signed-add : (s : Bool) (a b : ℕ) → signed s a +ℤ signed s b ≡ signed s (a + b)
 signed-add s a b = equal-by-parts (signed s a +ℤ signed s b) (signed s (a + b)) (go s)
   where
-    go : (s : Bool) → positivePart (signed s a +ℤ signed s b) + negativePart (signed s (a + b)) ≡ positivePart (signed s (a + b)) + negativePart (signed s a +ℤ signed s b)
+    go : (s : Bool) → positivePart (signed s a +ℤ signed s b) + negativePart (signed s (a + b))
+        ≡ positivePart (signed s (a + b)) + negativePart (signed s a +ℤ signed s b)
     go false = omega arith
-    go true = omega (arith, parts-add (negℤ (pos a)) (negℤ (pos b)), parts-neg (pos a) .0, parts-neg (pos a) .1, parts-neg (pos b) .0, parts-neg (pos b) .1, parts-neg (pos (a + b)) .0, parts-neg (pos (a + b)) .1)
+    go true = omega (
+      arith,
+      parts-add (negℤ (pos a)) (negℤ (pos b)),
+      parts-neg (pos a) .0,
+      parts-neg (pos a) .1,
+      parts-neg (pos b) .0,
+      parts-neg (pos b) .1,
+      parts-neg (pos (a + b)) .0,
+      parts-neg (pos (a + b)) .1,
+    )
 
 -- a - b, for b ≤ a and for a ≤ b
 signed-difference : (a b : ℕ) → b ≤ a → pos a +ℤ negℤ (pos b) ≡ pos (a - b)
-signed-difference a b l = equal-by-parts (pos a +ℤ negℤ (pos b)) (pos (a - b)) (omega (arith, parts-add (pos a) (negℤ (pos b)), parts-neg (pos b) .0, parts-neg (pos b) .1))
+signed-difference a b l = equal-by-parts (pos a +ℤ negℤ (pos b)) (pos (a - b))
+    (omega (arith, parts-add (pos a) (negℤ (pos b)), parts-neg (pos b) .0, parts-neg (pos b) .1))
 
 signed-difference-below : (a b : ℕ) → a ≤ b → pos a +ℤ negℤ (pos b) ≡ negℤ (pos (b - a))
-signed-difference-below a b l = equal-by-parts (pos a +ℤ negℤ (pos b)) (negℤ (pos (b - a))) (omega (arith, parts-add (pos a) (negℤ (pos b)), parts-neg (pos b) .0, parts-neg (pos b) .1, parts-neg (pos (b - a)) .0, parts-neg (pos (b - a)) .1))
+signed-difference-below a b l = equal-by-parts (pos a +ℤ negℤ (pos b)) (negℤ (pos (b - a)))
+    (omega (
+      arith,
+      parts-add (pos a) (negℤ (pos b)),
+      parts-neg (pos b) .0,
+      parts-neg (pos b) .1,
+      parts-neg (pos (b - a)) .0,
+      parts-neg
+          (pos (b - a)) .1,
+    ))
 
 at : (f : Format) (s : Bool) (a c : ℕ) (C : 0 < c) (z : ℤ) → z ≡ signed s a → Rounded f (round f s a c) (fraction z c C)
 at f s a c C z e = record { sign = s; over = a; under = c; positive = C; rounds = refl; exact = ap (λ (w : ℤ). fraction w c C) e }
 
-sum-rounded : (f : Format) (s : Bool) (a : ℕ) (t : Bool) (b c : ℕ) (C : 0 < c) → Rounded f (sum f s a t b c) (fraction (signed s a +ℤ signed t b) c C)
+sum-rounded : (f : Format) (s : Bool) (a : ℕ) (t : Bool) (b c : ℕ) (C : 0 < c) → Rounded f (sum f s a t b c) (fraction
+    (signed s a +ℤ signed t b) c C)
 unfolding sum
 sum-rounded f false a false b c C = at f false (a + b) c C (pos a +ℤ pos b) refl
 sum-rounded f true a true b c C = at f true (a + b) c C (signed true a +ℤ signed true b) (signed-add true a b)
 sum-rounded f false a true b c C = go (ltb a b) (ltb→lt a b) (nltb→le a b)
   where
-    go : (x : Bool) → (T x → a < b) → (T (not x) → b ≤ a) → Rounded f (cond x (round f true (b - a) c) (round f false (a - b) c)) (fraction (pos a +ℤ negℤ (pos b)) c C)
+    go : (x : Bool) → (T x → a < b) → (T (not x) → b ≤ a) → Rounded f (cond x (round f true (b - a) c) (round f false (a - b) c))
+        (fraction (pos a +ℤ negℤ (pos b)) c C)
     go true l g = at f true (b - a) c C (pos a +ℤ negℤ (pos b)) (signed-difference-below a b (le-of-lt (l tt)))
     go false l g = at f false (a - b) c C (pos a +ℤ negℤ (pos b)) (signed-difference a b (g tt))
 sum-rounded f true a false b c C = go (ltb a b) (ltb→lt a b) (nltb→le a b) (ltb b a) (nltb→le b a)
@@ -59,7 +81,8 @@ sum-rounded f true a false b c C = go (ltb a b) (ltb→lt a b) (nltb→le a b) (
         zero′ : a ≤ b → a - b ≡ 0
         zero′ l = omega arith
 
-    go : (x : Bool) → (T x → a < b) → (T (not x) → b ≤ a) → (y : Bool) → (T (not y) → a ≤ b) → Rounded f (cond x (round f false (b - a) c) (round f y (a - b) c)) (fraction (negℤ (pos a) +ℤ pos b) c C)
+    go : (x : Bool) → (T x → a < b) → (T (not x) → b ≤ a) → (y : Bool) → (T (not y) → a ≤ b)
+        → Rounded f (cond x (round f false (b - a) c) (round f y (a - b) c)) (fraction (negℤ (pos a) +ℤ pos b) c C)
     go true l g y k = at f false (b - a) c C (negℤ (pos a) +ℤ pos b) (turn ∙ signed-difference b a (le-of-lt (l tt)))
     go false l g true k = at f true (a - b) c C (negℤ (pos a) +ℤ pos b) (turn ∙ signed-difference-below b a (g tt))
     go false l g false k = at f false (a - b) c C (negℤ (pos a) +ℤ pos b) (turn ∙ signed-difference-below b a (g tt) ∙ none (k tt))
@@ -74,7 +97,8 @@ add-rounded f (fin s m e) (inf t) X Y = absurd Y
 add-rounded f (fin s m e) (fin t n d) X Y =
     let C = mul-pos (down-pos e) (down-pos d) in
     subst (λ (z : ℤ). Rounded f (sum f s (m * up e * down d) t (n * up d * down e) (down e * down d)) (fraction z (down e * down d) C))
-    (ap (λ (w : ℤ). w +ℤ signed t (n * up d * down e)) (sym (signed-mul s (m * up e) (down d))) ∙ ap (λ (w : ℤ). signed s (m * up e) *ℤ pos (down d) +ℤ w) (sym (signed-mul t (n * up d) (down e))))
+    (ap (λ (w : ℤ). w +ℤ signed t (n * up d * down e)) (sym (signed-mul s (m * up e) (down d)))
+    ∙ ap (λ (w : ℤ). signed s (m * up e) *ℤ pos (down d) +ℤ w) (sym (signed-mul t (n * up d) (down e))))
     (sum-rounded f s (m * up e * down d) t (n * up d * down e) (down e * down d) C)
 
 signed-product : (s t : Bool) (a b : ℕ) → signed s a *ℤ signed t b ≡ signed (unlike s t) (a * b)
@@ -89,11 +113,13 @@ mul-rounded f nan y X Y = absurd X
 mul-rounded f (inf s) y X Y = absurd X
 mul-rounded f (fin s m e) nan X Y = absurd Y
 mul-rounded f (fin s m e) (inf t) X Y = absurd Y
-mul-rounded f (fin s m e) (fin t n d) X Y = at f (unlike s t) (m * up e * (n * up d)) (down e * down d) (mul-pos (down-pos e) (down-pos d)) (signed s (m * up e) *ℤ signed t (n * up d)) (signed-product s t (m * up e) (n * up d))
+mul-rounded f (fin s m e) (fin t n d) X Y = at f (unlike s t) (m * up e * (n * up d)) (down e * down d) (mul-pos (down-pos e) (down-pos d))
+    (signed s (m * up e) *ℤ signed t (n * up d)) (signed-product s t (m * up e) (n * up d))
 
 pub sub-rounded : (f : Format) (x y : Float) → T (finite x) → T (finite y) → Rounded f (sub f x y) (value x +q negq (value y))
 unfolding sub
-sub-rounded f x y X Y = subst (λ (z : ℚ). Rounded f (add f x (neg y)) (value x +q z)) (value-neg y Y) (add-rounded f x (neg y) X (neg-finite y Y))
+sub-rounded f x y X Y = subst (λ (z : ℚ). Rounded f (add f x (neg y)) (value x +q z)) (value-neg y Y)
+    (add-rounded f x (neg y) X (neg-finite y Y))
 
 unlike-back : (s t : Bool) → unlike (unlike s t) t ≡ s
 unlike-back false false = refl
@@ -115,9 +141,13 @@ div-rounded f (fin s m e) (fin t (suc n) d) X Y =
     let A = m * up e * down d in
     let q : ℚ = fraction (signed (unlike s t) A) (B * down e) C in (
       q,
-      eq/ (record { numerator = signed (unlike s t) A *ℤ signed t B; denominator = B * down e * down d; positive = mul-pos C (down-pos d) }) (record { numerator = signed s (m * up e); denominator = down e; positive = down-pos e })
-          (ap (λ (z : ℤ). z *ℤ pos (down e)) (signed-product (unlike s t) t A B ∙ ap (λ (b : Bool). signed b (A * B)) (unlike-back s t)) ∙ signed-mul s (A * B) (down e) ∙ ap (signed s) (same (m * up e) (down d) B (down e)) ∙ sym (signed-mul s (m * up e) (B * down e * down d))),
-      subst (λ (b : Bool). Rounded f (cond b (cond (eqb m 0) nan (inf (unlike s t))) (round f (unlike s t) A (B * down e))) q) (sym (eqb·suc-zero n)) (at f (unlike s t) A (B * down e) C (signed (unlike s t) A) refl),
+      eq/ (record { numerator = signed (unlike s t) A *ℤ signed t B; denominator = B * down e * down d; positive = mul-pos C (down-pos d) })
+          (record { numerator = signed s (m * up e); denominator = down e; positive = down-pos e })
+          (ap (λ (z : ℤ). z *ℤ pos (down e)) (signed-product (unlike s t) t A B ∙ ap (λ (b : Bool). signed b (A * B)) (unlike-back s t))
+          ∙ signed-mul s (A * B) (down e) ∙ ap (signed s) (same (m * up e) (down d) B (down e))
+          ∙ sym (signed-mul s (m * up e) (B * down e * down d))),
+      subst (λ (b : Bool). Rounded f (cond b (cond (eqb m 0) nan (inf (unlike s t))) (round f (unlike s t) A (B * down e))) q)
+          (sym (eqb·suc-zero n)) (at f (unlike s t) A (B * down e) C (signed (unlike s t) A) refl),
     )
   where
     suc-pos : (n : ℕ) → 0 < suc n
@@ -138,7 +168,8 @@ nonzero-of-above (fin s m e) F A = go (eqb m 0) (eqb→eq m 0)
 
     go : (b : Bool) → (T b → m ≡ 0) → T (not b)
     go true h =
-        absurd (T-not (atMostq (value (fin s m e)) 𝟘) A (fraction-le (signed s (m * up e)) (pos 0) (down e) 1 (down-pos e) (pow-pos 0) (rw (signed-mul s (m * up e) 1) (none s (h tt)))))
+        absurd (T-not (atMostq (value (fin s m e)) 𝟘) A (fraction-le (signed s (m * up e)) (pos 0) (down e) 1 (down-pos e) (pow-pos 0)
+        (rw (signed-mul s (m * up e) 1) (none s (h tt)))))
     go false h = tt
 
 -- a quotient of finite floats, by one above 0, is the exact one, rounded
@@ -181,4 +212,5 @@ quotient-number f nan h = absurd h
 quotient-number f (inf s) h = of-positive (λ y. T (not (isNan (div f (inf s) y)))) (λ m e. tt)
 quotient-number f (fin s n d) h =
     of-positive (λ y. T (not (isNan (div f (fin s n d) y))))
-    (λ m e. let y = fin false (suc m) e in let q = div-rounded f (fin s n d) y tt (subst (λ (b : Bool). T (not b)) (sym (eqb·suc-zero m)) tt) in rounded-not-nan f (div f (fin s n d) y) (q .0) (q .2))
+    (λ m e. let y = fin false (suc m) e in let q = div-rounded f (fin s n d) y tt (subst (λ (b : Bool). T (not b)) (sym (eqb·suc-zero m))
+    tt) in rounded-not-nan f (div f (fin s n d) y) (q .0) (q .2))

@@ -17,7 +17,8 @@ module _ {A : Type 0} (R : CommutativeRing A) where
   -- a common factor
   pub sum-scale : (n : ℕ) (k : A) (f : ℕ → A) → sum R n (λ i. R .mul k (f i)) ≡ R .mul k (sum R n f)
   sum-scale zero k f = refl
-  sum-scale (suc n) k f = ap (λ (z : A). R .add (R .mul k (f zero)) z) (sum-scale n k (λ i. f (suc i))) ∙ sym (R .mul-add k (f zero) (sum R n (λ i. f (suc i))))
+  sum-scale (suc n) k f = ap (λ (z : A). R .add (R .mul k (f zero)) z) (sum-scale n k (λ i. f (suc i)))
+      ∙ sym (R .mul-add k (f zero) (sum R n (λ i. f (suc i))))
 
   -- a sum of sums
   pub sum-add : (n : ℕ) (f g : ℕ → A) → sum R n (λ i. R .add (f i) (g i)) ≡ R .add (sum R n f) (sum R n g)
@@ -29,11 +30,13 @@ module _ {A : Type 0} (R : CommutativeRing A) where
   -- the last term apart
   pub sum-last : (n : ℕ) (f : ℕ → A) → sum R (suc n) f ≡ R .add (sum R n f) (f (suc n))
   sum-last zero f = refl
-  sum-last (suc n) f = ap (λ (z : A). R .add (f zero) z) (sum-last n (λ i. f (suc i))) ∙ sym (R .add-assoc (f zero) (sum R n (λ i. f (suc i))) (f (suc (suc n))))
+  sum-last (suc n) f = ap (λ (z : A). R .add (f zero) z) (sum-last n (λ i. f (suc i))) ∙ sym (R .add-assoc (f zero)
+      (sum R n (λ i. f (suc i))) (f (suc (suc n))))
 
   -- terms that are all 0
   pub sum-zero : (n : ℕ) (f : ℕ → A) → ((j : ℕ) → j ≤ n → f j ≡ R .of (pos 0)) → sum R n f ≡ R .of (pos 0)
   sum-zero zero f h = h zero zero-le
   sum-zero (suc n) f h =
       ap (λ (z : A). R .add z (sum R n (λ i. f (suc i)))) (h zero zero-le)
-      ∙ ap (λ (z : A). R .add (R .of (pos 0)) z) (sum-zero n (λ i. f (suc i)) (λ j l. h (suc j) (suc-le-suc l))) ∙ R .add-zero (R .of (pos 0))
+      ∙ ap (λ (z : A). R .add (R .of (pos 0)) z) (sum-zero n (λ i. f (suc i)) (λ j l. h (suc j) (suc-le-suc l)))
+      ∙ R .add-zero (R .of (pos 0))

@@ -26,7 +26,8 @@ x ≤f y = x .numerator *ℤ pos (y .denominator) ≤ℤ y .numerator *ℤ pos (
 
 -- the same, as a test
 abbrev pub fractionAtMost : Fraction → Fraction → Bool
-fractionAtMost x y = leb (positivePart (x .numerator *ℤ pos (y .denominator)) + negativePart (y .numerator *ℤ pos (x .denominator))) (positivePart (y .numerator *ℤ pos (x .denominator)) + negativePart (x .numerator *ℤ pos (y .denominator)))
+fractionAtMost x y = leb (positivePart (x .numerator *ℤ pos (y .denominator)) + negativePart (y .numerator *ℤ pos (x .denominator)))
+    (positivePart (y .numerator *ℤ pos (x .denominator)) + negativePart (x .numerator *ℤ pos (y .denominator)))
 
 -- a / c + b / d is (a * d + b * c) / (c * d)
 abbrev pub addFractions : Fraction → Fraction → Fraction
@@ -46,7 +47,12 @@ subtractFractions x y = addFractions x (negateFraction y)
 
 -- (a / c) * (b / d) is (a * b) / (c * d)
 abbrev pub multiplyFractions : Fraction → Fraction → Fraction
-multiplyFractions x y = record { numerator = x .numerator *ℤ y .numerator; denominator = x .denominator * y .denominator; positive = mul-pos (x .positive) (y .positive) }
+multiplyFractions x y = record {
+  numerator = x .numerator *ℤ y .numerator;
+  denominator = x .denominator * y .denominator;
+  positive = mul-pos
+      (x .positive) (y .positive);
+}
 
 -- z / 1
 abbrev pub wholeFraction : ℤ → Fraction

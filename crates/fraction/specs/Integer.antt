@@ -39,7 +39,8 @@ equal-by-parts (negsuc m) (negsuc n) h = ap negsuc (omega arith)
 pub parts-sub : (a b : ℕ) → positivePart (subℕ a b) + b ≡ a + negativePart (subℕ a b)
 parts-sub a b = go (ltb a b) (ltb→lt a b) (nltb→le a b)
   where
-    go : (c : Bool) → (T c → a < b) → (T (not c) → b ≤ a) → positivePart (cond c (negsuc (b - suc a)) (pos (a - b))) + b ≡ a + negativePart (cond c (negsuc (b - suc a)) (pos (a - b)))
+    go : (c : Bool) → (T c → a < b) → (T (not c) → b ≤ a) → positivePart (cond c (negsuc (b - suc a)) (pos (a - b))) + b
+        ≡ a + negativePart (cond c (negsuc (b - suc a)) (pos (a - b)))
     go true f g = omega (arith, f tt)
     go false f g = omega (arith, g tt)
 
@@ -48,13 +49,15 @@ parts-neg (pos zero) = (refl, refl)
 parts-neg (pos (suc n)) = (refl, refl)
 parts-neg (negsuc n) = (refl, refl)
 
-pub parts-add : (z w : ℤ) → positivePart (z +ℤ w) + (negativePart z + negativePart w) ≡ positivePart z + positivePart w + negativePart (z +ℤ w)
+pub parts-add : (z w : ℤ) → positivePart (z +ℤ w) + (negativePart z + negativePart w) ≡ positivePart z + positivePart w + negativePart (z +ℤ
+    w)
 parts-add (pos a) (pos b) = omega arith
 parts-add (pos a) (negsuc b) = omega (arith, parts-sub a (suc b))
 parts-add (negsuc a) (pos b) = omega (arith, parts-sub b (suc a))
 parts-add (negsuc a) (negsuc b) = omega arith
 
-pub parts-mul : (z w : ℤ) → positivePart (z *ℤ w) + (positivePart z * negativePart w + negativePart z * positivePart w) ≡ positivePart z * positivePart w + negativePart z * negativePart w + negativePart (z *ℤ w)
+pub parts-mul : (z w : ℤ) → positivePart (z *ℤ w) + (positivePart z * negativePart w + negativePart z * positivePart w)
+    ≡ positivePart z * positivePart w + negativePart z * negativePart w + negativePart (z *ℤ w)
 parts-mul (pos a) (pos b) = omega arith
 parts-mul (pos a) (negsuc b) = omega (arith, parts-neg (pos (a * suc b)) .0, parts-neg (pos (a * suc b)) .1)
 parts-mul (negsuc a) (pos b) = omega (arith, parts-neg (pos (suc a * b)) .0, parts-neg (pos (suc a * b)) .1)
@@ -74,11 +77,30 @@ module _ (a b c : ℤ) where
   -- the laws of a ring that the library does not have
   pub *ℤ-add : a *ℤ (b +ℤ c) ≡ a *ℤ b +ℤ a *ℤ c
   *ℤ-add = equal-by-parts (a *ℤ (b +ℤ c)) (a *ℤ b +ℤ a *ℤ c)
-      (omega (arith, parts-mul a (b +ℤ c), parts-add (a *ℤ b) (a *ℤ c), parts-mul a b, parts-mul a c, ap (λ (x : ℕ). positivePart a * x) (parts-add b c), ap (λ (x : ℕ). negativePart a * x) (parts-add b c)))
+      (omega (
+        arith,
+        parts-mul a (b +ℤ c),
+        parts-add (a *ℤ b) (a *ℤ c),
+        parts-mul a b,
+        parts-mul a c,
+        ap (λ (x : ℕ). positivePart a * x)
+            (parts-add b c),
+        ap (λ (x : ℕ). negativePart a * x) (parts-add b c),
+      ))
 
   pub *ℤ-assoc : a *ℤ b *ℤ c ≡ a *ℤ (b *ℤ c)
   *ℤ-assoc = equal-by-parts (a *ℤ b *ℤ c) (a *ℤ (b *ℤ c))
-      (omega (arith, parts-mul (a *ℤ b) c, parts-mul a (b *ℤ c), ap (λ (x : ℕ). x * positivePart c) (parts-mul a b), ap (λ (x : ℕ). x * negativePart c) (parts-mul a b), ap (λ (x : ℕ). positivePart a * x) (parts-mul b c), ap (λ (x : ℕ). negativePart a * x) (parts-mul b c)))
+      (omega (
+        arith,
+        parts-mul (a *ℤ b) c,
+        parts-mul a (b *ℤ c),
+        ap (λ (x : ℕ). x * positivePart c) (parts-mul a b),
+        ap
+            (λ (x : ℕ). x * negativePart c) (parts-mul a b),
+        ap (λ (x : ℕ). positivePart a * x) (parts-mul b c),
+        ap
+            (λ (x : ℕ). negativePart a * x) (parts-mul b c),
+      ))
 
 pub *ℤ-identity : (m : ℤ) → m *ℤ pos 1 ≡ m
 unfolding one

@@ -1,4 +1,5 @@
--- IEEE 754's nextUp and nextDown (5.3.1), from the bits, for every value. As a number, a pattern is its place among the numbers of its sign:
+-- IEEE 754's nextUp and nextDown (5.3.1), from the bits, for every value. As a number, a pattern is its place among the numbers of its
+-- sign:
 -- from 0 on up to +∞, and from the sign's weight `top f`, which is -0, on up to -∞.
 use mathlib.Core.Bool.{cond}
 use Prim.Native.Nat.{_*_, _+_, _-_, suc, ℕ}
@@ -23,7 +24,8 @@ nextUp f x = cond (isNan x) nan (ofBits f (upBits f (toBits f x)))
 unfoldable pub nextDown : Format → Float → Float
 nextDown f x = cond (isNan x) nan (ofBits f (downBits f (toBits f x)))
 
--- ---- what they are, by the tests `lt` and `le`: proved in `proofs/Adjacent`. An infinity counts as a number here, as it does for the tests.
+-- ---- what they are, by the tests `lt` and `le`: proved in `proofs/Adjacent`. An infinity counts as a number here, as it does for the
+-- tests.
 -- y is the least number above x: it is above x, and at or below every w of the format that is above x
 abbrev pub LeastAbove : Format → Float → Float → Type 0
 LeastAbove f x y = T (lt x y) × ((w : Float) → T (fits f w) → T (lt x w) → T (le y w))

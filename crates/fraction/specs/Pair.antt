@@ -1,6 +1,6 @@
 -- Pairs of ends (document 01, "The certified figure"): "For +, -, times and divide: all combinations of ends, each rounded once; lowest and
--- highest taken; then every finite end is moved to the next number outward, exact results too. An end not finite before or after the move, or
--- a divisor whose low end is not above 0, gives no figure."
+-- highest taken; then every finite end is moved to the next number outward, exact results too. An end not finite before or after the move,
+-- or a divisor whose low end is not above 0, gives no figure."
 use mathlib.Core.Bool.{Bool, _&&_, cond, false, true}
 use lib.Dec.{T}
 use lib.Ieee.{Float, Format, add, div, lt, mul, ofBits, sub}

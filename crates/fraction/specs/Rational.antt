@@ -29,13 +29,15 @@ unfoldable pub _+q_ : ℚ → ℚ → ℚ
 unfolding /-rec₂
 _+q_ =
     /-rec₂ /-set (λ a b. cls (addFractions a b))
-    (λ a a′ b h. eq/ (addFractions a b) (addFractions a′ b) (add-respects-left a a′ b h)) (λ a b b′ h. eq/ (addFractions a b) (addFractions a b′) (add-respects-right a b b′ h))
+    (λ a a′ b h. eq/ (addFractions a b) (addFractions a′ b) (add-respects-left a a′ b h)) (λ a b b′ h. eq/ (addFractions a b)
+    (addFractions a b′) (add-respects-right a b b′ h))
 
 unfoldable pub _*q_ : ℚ → ℚ → ℚ
 unfolding /-rec₂
 _*q_ =
     /-rec₂ /-set (λ a b. cls (multiplyFractions a b))
-    (λ a a′ b h. eq/ (multiplyFractions a b) (multiplyFractions a′ b) (mul-respects-left a a′ b h)) (λ a b b′ h. eq/ (multiplyFractions a b) (multiplyFractions a b′) (mul-respects-right a b b′ h))
+    (λ a a′ b h. eq/ (multiplyFractions a b) (multiplyFractions a′ b) (mul-respects-left a a′ b h))
+    (λ a b b′ h. eq/ (multiplyFractions a b) (multiplyFractions a b′) (mul-respects-right a b b′ h))
 
 unfoldable pub negq : ℚ → ℚ
 unfolding /-rec
@@ -50,7 +52,8 @@ unfoldable pub inverse : ℚ → ℚ
 unfolding /-rec
 inverse =
     /-rec /-set (λ a. cls (inverseFraction (a .numerator) (a .denominator)))
-    (λ a b h. eq/ (inverseFraction (a .numerator) (a .denominator)) (inverseFraction (b .numerator) (b .denominator)) (inverse-respects (a .numerator) (a .denominator) (a .positive) (b .numerator) (b .denominator) (b .positive) h))
+    (λ a b h. eq/ (inverseFraction (a .numerator) (a .denominator)) (inverseFraction (b .numerator) (b .denominator))
+    (inverse-respects (a .numerator) (a .denominator) (a .positive) (b .numerator) (b .denominator) (b .positive) h))
 
 -- x / y; a quotient by 0 is 0
 abbrev pub _/q_ : ℚ → ℚ → ℚ

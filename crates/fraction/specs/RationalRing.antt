@@ -17,52 +17,68 @@ addFractions-assoc a b c =
     solve integerRing (a .numerator ∷ b .numerator ∷ c .numerator ∷ pos (a .denominator) ∷ pos (b .denominator) ∷ pos (c .denominator) ∷ [])
     (((v0 ⊗ v4 ⊕ v1 ⊗ v3) ⊗ v5 ⊕ v2 ⊗ (v3 ⊗ v4)) ⊗ (v3 ⊗ (v4 ⊗ v5))) ((v0 ⊗ (v4 ⊗ v5) ⊕ (v1 ⊗ v5 ⊕ v2 ⊗ v4) ⊗ v3) ⊗ (v3 ⊗ v4 ⊗ v5)) tt
 
-multiplyFractions-add : (a b c : Fraction) → multiplyFractions a (addFractions b c) ≈ addFractions (multiplyFractions a b) (multiplyFractions a c)
+multiplyFractions-add : (a b c : Fraction) → multiplyFractions a (addFractions b c) ≈ addFractions (multiplyFractions a b)
+    (multiplyFractions a c)
 multiplyFractions-add a b c =
     solve integerRing (a .numerator ∷ b .numerator ∷ c .numerator ∷ pos (a .denominator) ∷ pos (b .denominator) ∷ pos (c .denominator) ∷ [])
     (v0 ⊗ (v1 ⊗ v5 ⊕ v2 ⊗ v4) ⊗ (v3 ⊗ v4 ⊗ (v3 ⊗ v5))) ((v0 ⊗ v1 ⊗ (v3 ⊗ v5) ⊕ v0 ⊗ v2 ⊗ (v3 ⊗ v4)) ⊗ (v3 ⊗ (v4 ⊗ v5))) tt
 
 pub +q-assoc : (a b c : ℚ) → (a +q b) +q c ≡ a +q (b +q c)
 unfolding _+q_
-+q-assoc = /-elim-prop₃ (λ x y z. (x +q y) +q z ≡ x +q (y +q z)) (λ x y z. /-set _ _) (λ a b c. eq/ (addFractions (addFractions a b) c) (addFractions a (addFractions b c)) (addFractions-assoc a b c))
++q-assoc = /-elim-prop₃ (λ x y z. (x +q y) +q z ≡ x +q (y +q z)) (λ x y z. /-set _ _) (λ a b c. eq/ (addFractions (addFractions a b) c)
+    (addFractions a (addFractions b c)) (addFractions-assoc a b c))
 
 pub +q-comm : (a b : ℚ) → a +q b ≡ b +q a
 unfolding _+q_
-+q-comm = /-elim-prop₂ (λ x y. x +q y ≡ y +q x) (λ x y. /-set _ _) (λ a b. eq/ (addFractions a b) (addFractions b a) (addFractions-comm a b))
++q-comm = /-elim-prop₂ (λ x y. x +q y ≡ y +q x) (λ x y. /-set _ _) (λ a b. eq/ (addFractions a b) (addFractions b a)
+    (addFractions-comm a b))
 
 pub +q-zero : (a : ℚ) → a +q wholeq (pos 0) ≡ a
 unfolding _+q_
-+q-zero = /-elim-prop (λ x. x +q wholeq (pos 0) ≡ x) (λ x. /-set _ _) (λ a. eq/ (addFractions a (wholeFraction (pos 0))) a (solve integerRing (a .numerator ∷ pos (a .denominator) ∷ []) ((v0 ⊗ con (pos 1) ⊕ con (pos 0) ⊗ v1) ⊗ v1) (v0 ⊗ (v1 ⊗ con (pos 1))) tt))
++q-zero = /-elim-prop (λ x. x +q wholeq (pos 0) ≡ x) (λ x. /-set _ _) (λ a. eq/ (addFractions a (wholeFraction (pos 0))) a
+    (solve integerRing (a .numerator ∷ pos (a .denominator) ∷ []) ((v0 ⊗ con (pos 1) ⊕ con (pos 0) ⊗ v1) ⊗ v1) (v0 ⊗ (v1 ⊗ con (pos 1)))
+    tt))
 
 pub *q-assoc : (a b c : ℚ) → (a *q b) *q c ≡ a *q (b *q c)
 unfolding _*q_
 *q-assoc = /-elim-prop₃ (λ x y z. (x *q y) *q z ≡ x *q (y *q z)) (λ x y z. /-set _ _)
-    (λ a b c. eq/ (multiplyFractions (multiplyFractions a b) c) (multiplyFractions a (multiplyFractions b c)) (solve integerRing (a .numerator ∷ b .numerator ∷ c .numerator ∷ pos (a .denominator) ∷ pos (b .denominator) ∷ pos (c .denominator) ∷ [])
+    (λ a b c. eq/ (multiplyFractions (multiplyFractions a b) c) (multiplyFractions a (multiplyFractions b c))
+    (solve integerRing (a .numerator ∷ b .numerator ∷ c .numerator ∷ pos (a .denominator) ∷ pos (b .denominator) ∷ pos (c .denominator) ∷
+    [])
     (v0 ⊗ v1 ⊗ v2 ⊗ (v3 ⊗ (v4 ⊗ v5))) (v0 ⊗ (v1 ⊗ v2) ⊗ (v3 ⊗ v4 ⊗ v5)) tt))
 
 pub *q-comm : (a b : ℚ) → a *q b ≡ b *q a
 unfolding _*q_
-*q-comm = /-elim-prop₂ (λ x y. x *q y ≡ y *q x) (λ x y. /-set _ _) (λ a b. eq/ (multiplyFractions a b) (multiplyFractions b a) (multiplyFractions-comm a b))
+*q-comm = /-elim-prop₂ (λ x y. x *q y ≡ y *q x) (λ x y. /-set _ _) (λ a b. eq/ (multiplyFractions a b) (multiplyFractions b a)
+    (multiplyFractions-comm a b))
 
 pub *q-one : (a : ℚ) → a *q wholeq (pos 1) ≡ a
 unfolding _*q_
-*q-one = /-elim-prop (λ x. x *q wholeq (pos 1) ≡ x) (λ x. /-set _ _) (λ a. eq/ (multiplyFractions a (wholeFraction (pos 1))) a (solve integerRing (a .numerator ∷ pos (a .denominator) ∷ []) ((v0 ⊗ con (pos 1)) ⊗ v1) (v0 ⊗ (v1 ⊗ con (pos 1))) tt))
+*q-one = /-elim-prop (λ x. x *q wholeq (pos 1) ≡ x) (λ x. /-set _ _) (λ a. eq/ (multiplyFractions a (wholeFraction (pos 1))) a
+    (solve integerRing (a .numerator ∷ pos (a .denominator) ∷ []) ((v0 ⊗ con (pos 1)) ⊗ v1) (v0 ⊗ (v1 ⊗ con (pos 1))) tt))
 
 pub *q-zero : (a : ℚ) → a *q wholeq (pos 0) ≡ wholeq (pos 0)
 unfolding _*q_
-*q-zero = /-elim-prop (λ x. x *q wholeq (pos 0) ≡ wholeq (pos 0)) (λ x. /-set _ _) (λ a. eq/ (multiplyFractions a (wholeFraction (pos 0))) (wholeFraction (pos 0)) (solve integerRing (a .numerator ∷ pos (a .denominator) ∷ []) ((v0 ⊗ con (pos 0)) ⊗ con (pos 1)) (con (pos 0) ⊗ (v1 ⊗ con (pos 1))) tt))
+*q-zero = /-elim-prop (λ x. x *q wholeq (pos 0) ≡ wholeq (pos 0)) (λ x. /-set _ _) (λ a. eq/ (multiplyFractions a (wholeFraction (pos 0)))
+    (wholeFraction (pos 0)) (solve integerRing (a .numerator ∷ pos (a .denominator) ∷ []) ((v0 ⊗ con (pos 0)) ⊗ con (pos 1))
+    (con (pos 0) ⊗ (v1 ⊗ con (pos 1))) tt))
 
 pub *q-add : (a b c : ℚ) → a *q (b +q c) ≡ a *q b +q a *q c
 unfolding _*q_ _+q_
-*q-add = /-elim-prop₃ (λ x y z. x *q (y +q z) ≡ x *q y +q x *q z) (λ x y z. /-set _ _) (λ a b c. eq/ (multiplyFractions a (addFractions b c)) (addFractions (multiplyFractions a b) (multiplyFractions a c)) (multiplyFractions-add a b c))
+*q-add = /-elim-prop₃ (λ x y z. x *q (y +q z) ≡ x *q y +q x *q z) (λ x y z. /-set _ _)
+    (λ a b c. eq/ (multiplyFractions a (addFractions b c)) (addFractions (multiplyFractions a b) (multiplyFractions a c))
+    (multiplyFractions-add a b c))
 
 pub negq-is : (a : ℚ) → negq a ≡ wholeq (negsuc 0) *q a
 unfolding _*q_ negq
-negq-is = /-elim-prop (λ x. negq x ≡ wholeq (negsuc 0) *q x) (λ x. /-set _ _) (λ a. eq/ (negateFraction a) (multiplyFractions (wholeFraction (negsuc 0)) a) (solve integerRing (a .numerator ∷ pos (a .denominator) ∷ []) (opposite v0 ⊗ (con (pos 1) ⊗ v1)) (con (negsuc 0) ⊗ v0 ⊗ v1) tt))
+negq-is = /-elim-prop (λ x. negq x ≡ wholeq (negsuc 0) *q x) (λ x. /-set _ _) (λ a. eq/ (negateFraction a)
+    (multiplyFractions (wholeFraction (negsuc 0)) a) (solve integerRing (a .numerator ∷ pos (a .denominator) ∷ [])
+    (opposite v0 ⊗ (con (pos 1) ⊗ v1)) (con (negsuc 0) ⊗ v0 ⊗ v1) tt))
 
 pub wholeq-add : (x y : ℤ) → wholeq (x +ℤ y) ≡ wholeq x +q wholeq y
 unfolding _+q_
-wholeq-add x y = eq/ (wholeFraction (x +ℤ y)) (addFractions (wholeFraction x) (wholeFraction y)) (solve integerRing (x ∷ y ∷ []) ((v0 ⊕ v1) ⊗ con (pos 1)) ((v0 ⊗ con (pos 1) ⊕ v1 ⊗ con (pos 1)) ⊗ con (pos 1)) tt)
+wholeq-add x y = eq/ (wholeFraction (x +ℤ y)) (addFractions (wholeFraction x) (wholeFraction y))
+    (solve integerRing (x ∷ y ∷ []) ((v0 ⊕ v1) ⊗ con (pos 1)) ((v0 ⊗ con (pos 1) ⊕ v1 ⊗ con (pos 1)) ⊗ con (pos 1)) tt)
 
 pub wholeq-mul : (x y : ℤ) → wholeq (x *ℤ y) ≡ wholeq x *q wholeq y
 unfolding _*q_

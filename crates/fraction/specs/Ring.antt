@@ -1,5 +1,6 @@
 -- LAWS, but for the operations of the record `CommutativeRing`, over which sums and polynomials are defined; pass over the rest.
--- Identities of a commutative ring, decided by computation: both sides are multiplied out, and every coefficient of the difference must be 0.
+-- Identities of a commutative ring, decided by computation: both sides are multiplied out, and every coefficient of the difference must be
+-- 0.
 -- Example, over any ring R: (a + b) * (a - b) is a * a - b * b, by
 --   solve R (a ∷ b ∷ []) ((v0 ⊕ v1) ⊗ (v0 ⊖ v1)) (v0 ⊗ v0 ⊖ v1 ⊗ v1) tt
 -- The laws `solve` and `combine` stand here, and not in proofs/, since the definition of the operations on ℚ (Rational) needs them.
@@ -181,7 +182,8 @@ module _ {A : Type 0} (R : CommutativeRing A) (ρ : List A) where
   add-left-comm a b c = sym (R .add-assoc a b c) ∙ ap (λ (x : A). R .add x c) (R .add-comm a b) ∙ R .add-assoc b a c
 
   add-mul : (a b c : A) → R .mul (R .add a b) c ≡ R .add (R .mul a c) (R .mul b c)
-  add-mul a b c = R .mul-comm (R .add a b) c ∙ R .mul-add c a b ∙ ap (λ (x : A). R .add x (R .mul c b)) (R .mul-comm c a) ∙ ap (λ (x : A). R .add (R .mul a c) x) (R .mul-comm c b)
+  add-mul a b c = R .mul-comm (R .add a b) c ∙ R .mul-add c a b ∙ ap (λ (x : A). R .add x (R .mul c b)) (R .mul-comm c a)
+      ∙ ap (λ (x : A). R .add (R .mul a c) x) (R .mul-comm c b)
 
   one-mul : (a : A) → R .mul (R .of (pos 1)) a ≡ a
   one-mul a = R .mul-comm (R .of (pos 1)) a ∙ R .mul-one a
@@ -196,33 +198,42 @@ module _ {A : Type 0} (R : CommutativeRing A) (ρ : List A) where
   put-ok x [] = refl
   put-ok x (y ∷ m) = go (ltb y x) (put-ok x m)
     where
-      go : (b : Bool) → evaluateMonomial (putVariable x m) ≡ R .mul (lookup R ρ x) (evaluateMonomial m) → evaluateMonomial (elim b [ true ↦ y ∷ putVariable x m | false ↦ x ∷ y ∷ m ]) ≡ R .mul (lookup R ρ x) (R .mul (lookup R ρ y) (evaluateMonomial m))
+      go : (b : Bool) → evaluateMonomial (putVariable x m) ≡ R .mul (lookup R ρ x) (evaluateMonomial m)
+          → evaluateMonomial (elim b [ true ↦ y ∷ putVariable x m | false ↦ x ∷ y ∷ m ]) ≡ R .mul (lookup R ρ x) (R .mul (lookup R ρ y)
+          (evaluateMonomial m))
       go true ih = ap (λ (z : A). R .mul (lookup R ρ y) z) ih ∙ mul-left-comm (lookup R ρ y) (lookup R ρ x) (evaluateMonomial m)
       go false ih = refl
 
   join-ok : (m n : Monomial) → evaluateMonomial (joinMonomials m n) ≡ R .mul (evaluateMonomial m) (evaluateMonomial n)
   join-ok [] n = sym (one-mul (evaluateMonomial n))
-  join-ok (x ∷ m) n = put-ok x (joinMonomials m n) ∙ ap (λ (z : A). R .mul (lookup R ρ x) z) (join-ok m n) ∙ sym (R .mul-assoc (lookup R ρ x) (evaluateMonomial m) (evaluateMonomial n))
+  join-ok (x ∷ m) n = put-ok x (joinMonomials m n) ∙ ap (λ (z : A). R .mul (lookup R ρ x) z) (join-ok m n)
+      ∙ sym (R .mul-assoc (lookup R ρ x) (evaluateMonomial m) (evaluateMonomial n))
 
-  ins-ok : (c : ℤ) (m : Monomial) (p : NormalForm) → evaluateForm (putTerm c m p) ≡ R .add (R .mul (R .of c) (evaluateMonomial m)) (evaluateForm p)
+  ins-ok : (c : ℤ) (m : Monomial) (p : NormalForm) → evaluateForm (putTerm c m p) ≡ R .add (R .mul (R .of c)
+      (evaluateMonomial m)) (evaluateForm p)
   ins-ok c m nil = refl
   ins-ok c m (term d n p) = go (sameMonomial m n) (same-is m n) (ins-ok c m p)
     where
       go : (b : Bool) → (T b → m ≡ n) → evaluateForm (putTerm c m p) ≡ R .add (R .mul (R .of c) (evaluateMonomial m)) (evaluateForm p)
-          → evaluateForm (elim b [ true ↦ term (c +ℤ d) n p | false ↦ term d n (putTerm c m p) ]) ≡ R .add (R .mul (R .of c) (evaluateMonomial m)) (R .add (R .mul (R .of d) (evaluateMonomial n)) (evaluateForm p))
+          → evaluateForm (elim b [ true ↦ term (c +ℤ d) n p | false ↦ term d n (putTerm c m p) ])
+          ≡ R .add (R .mul (R .of c) (evaluateMonomial m)) (R .add (R .mul (R .of d) (evaluateMonomial n)) (evaluateForm p))
       go true f ih =
           ap (λ (z : A). R .add (R .mul z (evaluateMonomial n)) (evaluateForm p)) (R .of-add c d)
           ∙ ap (λ (z : A). R .add z (evaluateForm p)) (add-mul (R .of c) (R .of d) (evaluateMonomial n))
           ∙ R .add-assoc (R .mul (R .of c) (evaluateMonomial n)) (R .mul (R .of d) (evaluateMonomial n)) (evaluateForm p)
-          ∙ ap (λ (k : Monomial). R .add (R .mul (R .of c) (evaluateMonomial k)) (R .add (R .mul (R .of d) (evaluateMonomial n)) (evaluateForm p))) (sym (f tt))
-      go false f ih = ap (λ (z : A). R .add (R .mul (R .of d) (evaluateMonomial n)) z) ih ∙ add-left-comm (R .mul (R .of d) (evaluateMonomial n)) (R .mul (R .of c) (evaluateMonomial m)) (evaluateForm p)
+          ∙ ap (λ (k : Monomial). R .add (R .mul (R .of c) (evaluateMonomial k)) (R .add (R .mul (R .of d) (evaluateMonomial n))
+          (evaluateForm p))) (sym (f tt))
+      go false f ih = ap (λ (z : A). R .add (R .mul (R .of d) (evaluateMonomial n)) z) ih ∙ add-left-comm (R .mul (R .of d)
+          (evaluateMonomial n)) (R .mul (R .of c) (evaluateMonomial m)) (evaluateForm p)
 
   plus-ok : (p q : NormalForm) → evaluateForm (addForms p q) ≡ R .add (evaluateForm p) (evaluateForm q)
   plus-ok nil q = sym (zero-add (evaluateForm q))
-  plus-ok (term c m p) q = ins-ok c m (addForms p q) ∙ ap (λ (z : A). R .add (R .mul (R .of c) (evaluateMonomial m)) z) (plus-ok p q) ∙ sym (R .add-assoc (R .mul (R .of c) (evaluateMonomial m)) (evaluateForm p) (evaluateForm q))
+  plus-ok (term c m p) q = ins-ok c m (addForms p q) ∙ ap (λ (z : A). R .add (R .mul (R .of c) (evaluateMonomial m)) z) (plus-ok p q)
+      ∙ sym (R .add-assoc (R .mul (R .of c) (evaluateMonomial m)) (evaluateForm p) (evaluateForm q))
 
   -- c m * d n
-  pair-ok : (c : ℤ) (m : Monomial) (d : ℤ) (n : Monomial) → R .mul (R .of (c *ℤ d)) (evaluateMonomial (joinMonomials m n)) ≡ R .mul (R .mul (R .of c) (evaluateMonomial m)) (R .mul (R .of d) (evaluateMonomial n))
+  pair-ok : (c : ℤ) (m : Monomial) (d : ℤ) (n : Monomial) → R .mul (R .of (c *ℤ d)) (evaluateMonomial (joinMonomials m n))
+      ≡ R .mul (R .mul (R .of c) (evaluateMonomial m)) (R .mul (R .of d) (evaluateMonomial n))
   pair-ok c m d n =
       ap (λ (z : A). R .mul z (evaluateMonomial (joinMonomials m n))) (R .of-mul c d)
       ∙ ap (λ (z : A). R .mul (R .mul (R .of c) (R .of d)) z) (join-ok m n)
@@ -230,8 +241,10 @@ module _ {A : Type 0} (R : CommutativeRing A) (ρ : List A) where
       ∙ ap (λ (z : A). R .mul (R .of c) z) (mul-left-comm (R .of d) (evaluateMonomial m) (evaluateMonomial n))
       ∙ sym (R .mul-assoc (R .of c) (evaluateMonomial m) (R .mul (R .of d) (evaluateMonomial n)))
 
-  scale-ok : (c : ℤ) (m : Monomial) (p q : NormalForm) → evaluateForm (addMultiple c m p q) ≡ R .add (R .mul (R .mul (R .of c) (evaluateMonomial m)) (evaluateForm p)) (evaluateForm q)
-  scale-ok c m nil q = sym (ap (λ (z : A). R .add z (evaluateForm q)) (R .mul-zero (R .mul (R .of c) (evaluateMonomial m))) ∙ zero-add (evaluateForm q))
+  scale-ok : (c : ℤ) (m : Monomial) (p q : NormalForm) → evaluateForm (addMultiple c m p q)
+      ≡ R .add (R .mul (R .mul (R .of c) (evaluateMonomial m)) (evaluateForm p)) (evaluateForm q)
+  scale-ok c m nil q = sym (ap (λ (z : A). R .add z (evaluateForm q)) (R .mul-zero (R .mul (R .of c) (evaluateMonomial m)))
+      ∙ zero-add (evaluateForm q))
   scale-ok c m (term d n p) q =
       let k = R .mul (R .of c) (evaluateMonomial m) in
       let l = R .mul (R .of d) (evaluateMonomial n) in
@@ -255,18 +268,25 @@ module _ {A : Type 0} (R : CommutativeRing A) (ρ : List A) where
       ∙ R .add-comm (R .neg b) a
 
   norm-ok : (e : Expression) → evaluateForm (normalForm e) ≡ evaluate R ρ e
-  norm-ok (var k) = R .add-zero (R .mul (R .of (pos 1)) (R .mul (lookup R ρ k) (R .of (pos 1)))) ∙ one-mul (R .mul (lookup R ρ k) (R .of (pos 1))) ∙ R .mul-one (lookup R ρ k)
+  norm-ok (var k) = R .add-zero (R .mul (R .of (pos 1)) (R .mul (lookup R ρ k) (R .of (pos 1))))
+      ∙ one-mul (R .mul (lookup R ρ k) (R .of (pos 1))) ∙ R .mul-one (lookup R ρ k)
   norm-ok (con c) = R .add-zero (R .mul (R .of c) (R .of (pos 1))) ∙ R .mul-one (R .of c)
-  norm-ok (a ⊕ b) = plus-ok (normalForm a) (normalForm b) ∙ ap (λ (z : A). R .add z (evaluateForm (normalForm b))) (norm-ok a) ∙ ap (λ (z : A). R .add (evaluate R ρ a) z) (norm-ok b)
-  norm-ok (a ⊖ b) = scale-ok (negsuc 0) [] (normalForm b) (normalForm a) ∙ minus-ok (evaluateForm (normalForm a)) (evaluateForm (normalForm b)) ∙ ap (λ (z : A). R .add z (R .neg (evaluateForm (normalForm b)))) (norm-ok a) ∙ ap (λ (z : A). R .add (evaluate R ρ a) (R .neg z)) (norm-ok b)
-  norm-ok (a ⊗ b) = times-ok (normalForm a) (normalForm b) ∙ ap (λ (z : A). R .mul z (evaluateForm (normalForm b))) (norm-ok a) ∙ ap (λ (z : A). R .mul (evaluate R ρ a) z) (norm-ok b)
-  norm-ok (opposite a) = scale-ok (negsuc 0) [] (normalForm a) nil ∙ minus-ok (R .of (pos 0)) (evaluateForm (normalForm a)) ∙ zero-add (R .neg (evaluateForm (normalForm a))) ∙ ap (R .neg) (norm-ok a)
+  norm-ok (a ⊕ b) = plus-ok (normalForm a) (normalForm b) ∙ ap (λ (z : A). R .add z (evaluateForm (normalForm b))) (norm-ok a)
+      ∙ ap (λ (z : A). R .add (evaluate R ρ a) z) (norm-ok b)
+  norm-ok (a ⊖ b) = scale-ok (negsuc 0) [] (normalForm b) (normalForm a) ∙ minus-ok (evaluateForm (normalForm a)) (evaluateForm
+      (normalForm b)) ∙ ap (λ (z : A). R .add z (R .neg (evaluateForm (normalForm b)))) (norm-ok a)
+      ∙ ap (λ (z : A). R .add (evaluate R ρ a) (R .neg z)) (norm-ok b)
+  norm-ok (a ⊗ b) = times-ok (normalForm a) (normalForm b) ∙ ap (λ (z : A). R .mul z (evaluateForm (normalForm b))) (norm-ok a)
+      ∙ ap (λ (z : A). R .mul (evaluate R ρ a) z) (norm-ok b)
+  norm-ok (opposite a) = scale-ok (negsuc 0) [] (normalForm a) nil ∙ minus-ok (R .of (pos 0)) (evaluateForm (normalForm a))
+      ∙ zero-add (R .neg (evaluateForm (normalForm a))) ∙ ap (R .neg) (norm-ok a)
 
   zeros-ok : (p : NormalForm) → T (allZero p) → evaluateForm p ≡ R .of (pos 0)
   zeros-ok nil t = refl
   zeros-ok (term (pos n) m p) t = go (eqb n 0) (eqb→eq n 0) (zeros-ok p) t
     where
-      go : (b : Bool) → (T b → n ≡ 0) → (T (allZero p) → evaluateForm p ≡ R .of (pos 0)) → T (b && allZero p) → R .add (R .mul (R .of (pos n)) (evaluateMonomial m)) (evaluateForm p) ≡ R .of (pos 0)
+      go : (b : Bool) → (T b → n ≡ 0) → (T (allZero p) → evaluateForm p ≡ R .of (pos 0)) → T (b && allZero p)
+          → R .add (R .mul (R .of (pos n)) (evaluateMonomial m)) (evaluateForm p) ≡ R .of (pos 0)
       go true f r u =
           ap (λ (k : ℕ). R .add (R .mul (R .of (pos k)) (evaluateMonomial m)) (evaluateForm p)) (f tt)
           ∙ ap (λ (z : A). R .add z (evaluateForm p)) (zero-mul (evaluateMonomial m)) ∙ zero-add (evaluateForm p) ∙ r u
@@ -305,11 +325,15 @@ module _ {A : Type 0} (R : CommutativeRing A) (ρ : List A) where
   combine l r k x y t h = solve l (r ⊕ k ⊗ (x ⊖ y)) t ∙ vanishes (evaluate R ρ r) (evaluate R ρ k) (evaluate R ρ x) (evaluate R ρ y) h
 
   -- the same from two equations, and from three
-  pub combine2 : (l r k x y k′ x′ y′ : Expression) → T (check l (r ⊕ k ⊗ (x ⊖ y) ⊕ k′ ⊗ (x′ ⊖ y′))) → evaluate R ρ x ≡ evaluate R ρ y → evaluate R ρ x′ ≡ evaluate R ρ y′ → evaluate R ρ l ≡ evaluate R ρ r
+  pub combine2 : (l r k x y k′ x′ y′ : Expression) → T (check l (r ⊕ k ⊗ (x ⊖ y) ⊕ k′ ⊗ (x′ ⊖ y′))) → evaluate R ρ x ≡ evaluate R ρ y
+      → evaluate R ρ x′ ≡ evaluate R ρ y′ → evaluate R ρ l ≡ evaluate R ρ r
   combine2 l r k x y k′ x′ y′ t h h′ =
       combine l (r ⊕ k ⊗ (x ⊖ y)) k′ x′ y′ t h′ ∙ vanishes (evaluate R ρ r) (evaluate R ρ k) (evaluate R ρ x) (evaluate R ρ y) h
 
-  pub combine3 : (l r k x y k′ x′ y′ k″ x″ y″ : Expression) → T (check l (r ⊕ k ⊗ (x ⊖ y) ⊕ k′ ⊗ (x′ ⊖ y′) ⊕ k″ ⊗ (x″ ⊖ y″))) → evaluate R ρ x ≡ evaluate R ρ y → evaluate R ρ x′ ≡ evaluate R ρ y′ → evaluate R ρ x″ ≡ evaluate R ρ y″ → evaluate R ρ l ≡ evaluate R ρ r
+  pub combine3 : (l r k x y k′ x′ y′ k″ x″ y″ : Expression) → T (check l (r ⊕ k ⊗ (x ⊖ y) ⊕ k′ ⊗ (x′ ⊖ y′) ⊕ k″ ⊗ (x″ ⊖ y″)))
+      → evaluate R ρ x ≡ evaluate R ρ y → evaluate R ρ x′ ≡ evaluate R ρ y′ → evaluate R ρ x″ ≡ evaluate R ρ y″ → evaluate R ρ l
+      ≡ evaluate R ρ r
   combine3 l r k x y k′ x′ y′ k″ x″ y″ t h h′ h″ =
       combine l (r ⊕ k ⊗ (x ⊖ y) ⊕ k′ ⊗ (x′ ⊖ y′)) k″ x″ y″ t h″
-      ∙ vanishes (evaluate R ρ (r ⊕ k ⊗ (x ⊖ y))) (evaluate R ρ k′) (evaluate R ρ x′) (evaluate R ρ y′) h′ ∙ vanishes (evaluate R ρ r) (evaluate R ρ k) (evaluate R ρ x) (evaluate R ρ y) h
+      ∙ vanishes (evaluate R ρ (r ⊕ k ⊗ (x ⊖ y))) (evaluate R ρ k′) (evaluate R ρ x′) (evaluate R ρ y′) h′
+      ∙ vanishes (evaluate R ρ r) (evaluate R ρ k) (evaluate R ρ x) (evaluate R ρ y) h

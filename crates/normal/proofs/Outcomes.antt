@@ -18,7 +18,8 @@ module _ (n d : ℕ) (s : System) (x : System) (e : x ≡ unscaleOf n d (backwar
   solution t = rw (← e, t)
 
 -- ---- the factor left the band h
-module _ (n d : ℕ) (s : System) (whole : Bool) (h : List Float) (p : whole ≡ factorOf n (s .band) .whole) (q : h ≡ factorOf n (s .band) .band) where
+module _ (n d : ℕ) (s : System) (whole : Bool) (h : List Float) (p : whole ≡ factorOf n (s .band) .whole)
+    (q : h ≡ factorOf n (s .band) .band) where
   pub bad-pivot : whole ≡ false → solveScaledOf n d s ≡ record { number = 10; system = withBand s h }
   unfolding solveScaledOf
   bad-pivot t = rw (← p, ← q, t)

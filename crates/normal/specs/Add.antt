@@ -39,7 +39,8 @@ active a n control = leb a control && ltb control (a + n)
 unfoldable pub productOf : ℕ → Row → ℕ → ℕ → List Float → List Float
 productOf a row i j h =
     let k = 6 * (row .start + i - a) + (i - j) in
-    cond (leb a (row .start + j)) (set h k (add binary64 (at h k) (mul binary64 (mul binary64 (row .weight) (at (row .basis) i)) (at (row .basis) j)))) h
+    cond (leb a (row .start + j)) (set h k (add binary64 (at h k) (mul binary64 (mul binary64 (row .weight) (at (row .basis) i))
+    (at (row .basis) j)))) h
 
 -- the products of one i, if its control is active
 unfoldable pub productsOf : ℕ → ℕ → Row → ℕ → List Float → List Float

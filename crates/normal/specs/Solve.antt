@@ -1,5 +1,5 @@
--- The source's `Normal::solve`, phase by phase. Where the source takes its differences in a cell, one after the other, they are taken in v, and the
--- cell is written once.
+-- The source's `Normal::solve`, phase by phase. Where the source takes its differences in a cell, one after the other, they are taken in v,
+-- and the cell is written once.
 use Prim.Native.Nat.{ℕ, _+_, _-_, _*_, min}
 use mathlib.Core.Bool.{Bool, true, false, not, _&&_, _||_, cond}
 use mathlib.Core.List.{List, [], _∷_}
@@ -36,7 +36,8 @@ rootsOf n s = each rootOf 0 n s
 -- `self.h[i][k] /= scales[i] * scales[i - k]`
 unfoldable pub scaleCellOf : ℕ → ℕ → System → System
 scaleCellOf i k s =
-    withBand s (set (s .band) (6 * i + k) (div binary64 (at (s .band) (6 * i + k)) (mul binary64 (at (s .scales) i) (at (s .scales) (i - k)))))
+    withBand s (set (s .band) (6 * i + k) (div binary64 (at (s .band) (6 * i + k)) (mul binary64 (at (s .scales) i)
+    (at (s .scales) (i - k)))))
 
 -- row i of the band: `for k in 0..=P.min(i)`
 unfoldable pub scaleRowOf : ℕ → System → System
@@ -84,7 +85,8 @@ pub record Factored : Type 0 where
 unfoldable pub pivotOf : ℕ → List Float → Step (List Float) Factored
 pivotOf i h =
     let g = eliminatedOf i h in
-    cond (unfitOf true (reducedOf g i i)) (stop (record { whole = false; band = g })) (next (set g (6 * i) (sqrtOf binary64 (reducedOf g i i))))
+    cond (unfitOf true (reducedOf g i i)) (stop (record { whole = false; band = g }))
+    (next (set g (6 * i) (sqrtOf binary64 (reducedOf g i i))))
 
 -- no pivot was unfit
 abbrev pub wholeOf : List Float → Factored
@@ -141,7 +143,8 @@ unfoldable pub unscaleOf : ℕ → ℕ → System → System
 unscaleOf n d s = each (divideRowOf d) 0 n s
 
 -- ---- `solve`
--- document 01's number of the refusal, 0 where there is none; and what the arrays then hold: the solution in the right sides, or what the work had come to
+-- document 01's number of the refusal, 0 where there is none; and what the arrays then hold: the solution in the right sides, or what the
+-- work had come to
 pub record Outcome : Type 0 where
   pub number : ℕ
   pub system : System

@@ -4,8 +4,8 @@ ghost use Prim.Native.Nat.{_+_, _-_, _*_, _≤_, _<_};
 ghost use lib.ListN.{length};
 ghost use Rattle.query.specs.Search.{Rising};
 ghost use Rattle.query.specs.Segment.{hornerOf, atOf, localOn, located, coefficientsOf, scaledOf, axisAt};
-use bspline::choose::FACT;
 use crate::search;
+use bspline::choose::FACT;
 
 // The value of an axis with its three derivatives.
 pub struct Derivatives {

@@ -56,15 +56,18 @@ less-itself : (f : Format) (x : Float) → T (finite x) → sub f x x ≡ fin fa
 unfolding sub sum
 less-itself f nan X = absurd X
 less-itself f (inf s) X = absurd X
-less-itself f (fin true m e) X = let a = m * up e * down e in rw (le-ltb a a (omega arith)) (rounds-zero f (a - a) (down e * down e) (mul-pos (down-pos e) (down-pos e)) (omega arith))
-less-itself f (fin false m e) X = let a = m * up e * down e in rw (le-ltb a a (omega arith)) (rounds-zero f (a - a) (down e * down e) (mul-pos (down-pos e) (down-pos e)) (omega arith))
+less-itself f (fin true m e) X = let a = m * up e * down e in rw (le-ltb a a (omega arith))
+    (rounds-zero f (a - a) (down e * down e) (mul-pos (down-pos e) (down-pos e)) (omega arith))
+less-itself f (fin false m e) X = let a = m * up e * down e in rw (le-ltb a a (omega arith))
+    (rounds-zero f (a - a) (down e * down e) (mul-pos (down-pos e) (down-pos e)) (omega arith))
 
 -- +0 over a number above 0
 zero-over : (f : Format) (y : Float) → T (positive y) → div f (fin false 0 (pos 0)) y ≡ fin false 0 (pos 0)
 unfolding div
 zero-over f =
     of-positive (λ y. div f (fin false 0 (pos 0)) y ≡ fin false 0 (pos 0))
-    (λ m e. rw (eqb·suc-zero m) (rounds-zero f (0 * 1 * down e) (suc m * up e * 1) (mul-pos (mul-pos (zero-lt-suc m) (up-pos e)) (pow-pos 0)) (omega arith)))
+    (λ m e. rw (eqb·suc-zero m) (rounds-zero f (0 * 1 * down e) (suc m * up e * 1) (mul-pos (mul-pos (zero-lt-suc m) (up-pos e))
+    (pow-pos 0)) (omega arith)))
 
 -- a number above 0 over itself
 over-itself : (f : Format) (y : Float) → T (positive y) → div f y y ≡ fin false 1 (pos 0)
@@ -79,7 +82,8 @@ unfolding parameterOf
 parameter-fits Listed list n i F = F i
 parameter-fits Even list n i F = div-fits binary64 (ofInt binary64 (pos i)) (ofInt binary64 (pos (n - 1)))
 
-module _ (spacing : Spacing) (list : List Float) (n : ℕ) (two : 2 ≤ n) (doubles : Doubles list) (placed : misplaced spacing list n ≡ false) (reliable : unreliable spacing list n ≡ false) where
+module _ (spacing : Spacing) (list : List Float) (n : ℕ) (two : 2 ≤ n) (doubles : Doubles list) (placed : misplaced spacing list n ≡ false)
+    (reliable : unreliable spacing list n ≡ false) where
   abbrev p : ℕ → Float
   p = parameterOf spacing list n
 
@@ -115,7 +119,8 @@ module _ (spacing : Spacing) (list : List Float) (n : ℕ) (two : 2 ≤ n) (doub
       let e : i + suc d ≡ i + d + 1 = omega arith in
       rw e
       (le-trans (p i) (p (i + d)) (p (i + d + 1)) (upto i d (omega arith))
-      (lt-le (p (i + d)) (p (i + d + 1)) (lt-of-not-le (p (i + d + 1)) (p (i + d)) (self (i + d + 1) (omega arith)) (self (i + d) (omega arith)) (no-fall (i + d) (omega arith)))))
+      (lt-le (p (i + d)) (p (i + d + 1)) (lt-of-not-le (p (i + d + 1)) (p (i + d)) (self (i + d + 1) (omega arith))
+      (self (i + d) (omega arith)) (no-fall (i + d) (omega arith)))))
 
   first-below : lt (p 0) (p (n - 1)) ≡ true
   first-below = lt-of-not-le (p (n - 1)) (p 0) (self (n - 1) (omega arith)) (self 0 (omega arith)) (go (le (p (n - 1)) (p 0)) refl)
@@ -131,28 +136,33 @@ module _ (spacing : Spacing) (list : List Float) (n : ℕ) (two : 2 ≤ n) (doub
   unfolding lengthOf
   length-positive =
       above-finite (lengthOf spacing list n)
-      (difference-above binary64 (p 0) (p (n - 1)) (parameter-fits spacing list n 0 doubles) (parameter-fits spacing list n (n - 1) doubles) (parameter-finite 0 (omega arith)) (parameter-finite (n - 1) (omega arith)) (holds first-below))
+      (difference-above binary64 (p 0) (p (n - 1)) (parameter-fits spacing list n 0 doubles) (parameter-fits spacing list n (n - 1) doubles)
+      (parameter-finite 0 (omega arith)) (parameter-finite (n - 1) (omega arith)) (holds first-below))
       (holds (not-false (finite (lengthOf spacing list n)) (length-parts .0)))
 
   normalised-number : (i : ℕ) → i < n → T (not (isNan (s i)))
   unfolding normalisedOf
   normalised-number i l =
       quotient-number binary64 (sub binary64 (p i) (p 0))
-      (rounded-not-nan binary64 (sub binary64 (p i) (p 0)) _ (sub-rounded binary64 (p i) (p 0) (parameter-finite i l) (parameter-finite 0 (omega arith))))
+      (rounded-not-nan binary64 (sub binary64 (p i) (p 0)) _ (sub-rounded binary64 (p i) (p 0) (parameter-finite i l)
+      (parameter-finite 0 (omega arith))))
       (lengthOf spacing list n) length-positive
 
   -- ---- the normalised parameters start at 0, each is below the next, and the last is 1
   pub normalised-first : T (eq (s 0) +0)
   unfolding normalisedOf eq ofBits
   normalised-first =
-      let e : s 0 ≡ fin false 0 (pos 0) = ap (λ (x : Float). div binary64 x (lengthOf spacing list n)) (less-itself binary64 (p 0) (parameter-finite 0 (omega arith))) ∙ zero-over binary64 (lengthOf spacing list n) length-positive in
+      let e : s 0 ≡ fin false 0 (pos 0) = ap (λ (x : Float). div binary64 x (lengthOf spacing list n))
+      (less-itself binary64 (p 0) (parameter-finite 0 (omega arith))) ∙ zero-over binary64 (lengthOf spacing list n) length-positive in
       subst (λ (x : Float). T (eq x +0)) (sym e) tt
 
   pub normalised-rises : (i : ℕ) → i < n - 1 → T (lt (s i) (s (i + 1)))
   normalised-rises i l =
-      holds (lt-of-not-le (s (i + 1)) (s i) (number-self (s (i + 1)) (normalised-number (i + 1) (omega arith))) (number-self (s i) (normalised-number i (omega arith)))
+      holds (lt-of-not-le (s (i + 1)) (s i) (number-self (s (i + 1)) (normalised-number (i + 1) (omega arith)))
+      (number-self (s i) (normalised-number i (omega arith)))
       (any-none (λ i. le (s (i + 1)) (s i)) (n - 1) (length-parts .1) i l))
 
   pub normalised-last : T (eq (s (n - 1)) (ofBits binary64 0x3ff0_0000_0000_0000))
   unfolding normalisedOf lengthOf eq ofBits
-  normalised-last = subst (λ (x : Float). T (eq x (ofBits binary64 0x3ff0_0000_0000_0000))) (sym (over-itself binary64 (lengthOf spacing list n) length-positive)) tt
+  normalised-last = subst (λ (x : Float). T (eq x (ofBits binary64 0x3ff0_0000_0000_0000)))
+      (sym (over-itself binary64 (lengthOf spacing list n) length-positive)) tt

@@ -85,14 +85,16 @@ module _ (spacing : Spacing) (list : List Float) (n : ℕ) (two : 2 ≤ n) (doub
   normalised-from-zero (suc i) l =
       let e : i + 1 ≡ suc i = omega arith in
       subst (λ (k : ℕ). value +0 ≤q value (s k)) e
-      (≤q-trans (value +0) (value (s i)) (value (s (i + 1))) (normalised-from-zero i (omega arith)) (<q-weaken (value (s i)) (value (s (i + 1))) (next-above i (omega arith))))
+      (≤q-trans (value +0) (value (s i)) (value (s (i + 1))) (normalised-from-zero i (omega arith))
+      (<q-weaken (value (s i)) (value (s (i + 1))) (next-above i (omega arith))))
 
   -- none is above 1: from the last one down
   to-one : (d i : ℕ) → i + d ≡ n - 1 → value (s i) ≤q value one
   to-one zero i e =
       let g : n - 1 ≡ i = omega arith in
       subst (λ (k : ℕ). value (s k) ≤q value one) g
-      (subst (λ (z : ℚ). value (s (n - 1)) ≤q z) (eq-value (s (n - 1)) one one-finite (normalised-last spacing list n two doubles placed reliable)) (≤q-refl (value (s (n - 1)))))
+      (subst (λ (z : ℚ). value (s (n - 1)) ≤q z) (eq-value (s (n - 1)) one one-finite (normalised-last spacing list n two doubles placed
+      reliable)) (≤q-refl (value (s (n - 1)))))
   to-one (suc d) i e =
       ≤q-trans (value (s i)) (value (s (i + 1))) (value one) (<q-weaken (value (s i)) (value (s (i + 1))) (next-above i (omega arith)))
       (to-one d (i + 1) (omega arith))
@@ -103,7 +105,8 @@ module _ (spacing : Spacing) (list : List Float) (n : ℕ) (two : 2 ≤ n) (doub
       go : (c : Bool) → lt one (s i) ≡ c → c ≡ false
       go false e = refl
       go true e =
-          absurd (never (value one) (value (s i)) (lt-value one (s i) one-finite (normalised-finite i l) (subst T (sym e) tt)) (to-one (n - 1 - i) i (omega arith)))
+          absurd (never (value one) (value (s i)) (lt-value one (s i) one-finite (normalised-finite i l) (subst T (sym e) tt))
+          (to-one (n - 1 - i) i (omega arith)))
 
   -- the inner ones are strictly between
   pub inner-above : (i : ℕ) → 0 < i → i < n → lt +0 (s i) ≡ true
@@ -111,12 +114,14 @@ module _ (spacing : Spacing) (list : List Float) (n : ℕ) (two : 2 ≤ n) (doub
       let j = i - 1 in
       let e : j + 1 ≡ i = omega arith in
       lt-of-value +0 (s i) zero-finite (normalised-finite i b)
-      (≤q-<q-trans (value +0) (value (s j)) (value (s i)) (normalised-from-zero j (omega arith)) (subst (λ (k : ℕ). value (s j) <q value (s k)) e (next-above j (omega arith))))
+      (≤q-<q-trans (value +0) (value (s j)) (value (s i)) (normalised-from-zero j (omega arith))
+      (subst (λ (k : ℕ). value (s j) <q value (s k)) e (next-above j (omega arith))))
 
   pub inner-below : (i : ℕ) → i < n - 1 → lt (s i) one ≡ true
   inner-below i b =
       lt-of-value (s i) one (normalised-finite i (omega arith)) one-finite
-      (<q-≤q-trans (value (s i)) (value (s (i + 1))) (value one) (next-above i (omega arith)) (to-one (n - 1 - (i + 1)) (i + 1) (omega arith)))
+      (<q-≤q-trans (value (s i)) (value (s (i + 1))) (value one) (next-above i (omega arith))
+      (to-one (n - 1 - (i + 1)) (i + 1) (omega arith)))
 
   -- neighbours are a finite number above 0 apart
   pub normalised-apart : (a : ℕ) → a + 1 < n → T (positive (sub binary64 (s (a + 1)) (s a)))

@@ -47,7 +47,8 @@ module _ (spacing : Spacing) (list : List Float) (n : ℕ) where
   -- 5, "parameters of wrong count, non-finite or not strictly rising":
   -- `parameters.len() != n || parameters.iter().any(|v| !v.is_finite()) || parameters.windows(2).any(|v| v[1] <= v[0])`
   unfoldable pub misplaced : Bool
-  misplaced = miscounted spacing list n || any n (λ i. not (finite (parameterOf spacing list n i))) || anyFall n (parameterOf spacing list n)
+  misplaced = miscounted spacing list n || any n (λ i. not (finite (parameterOf spacing list n i))) || anyFall n
+      (parameterOf spacing list n)
 
   -- 6, "end - start not finite, or normalised parameters not strictly rising": `!length.is_finite() || s.windows(2).any(|v| v[1] <= v[0])`
   unfoldable pub unreliable : Bool

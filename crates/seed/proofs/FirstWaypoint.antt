@@ -150,7 +150,8 @@ quotient-above : (m : ℕ) (e : ℤ) (y : Float) → T (positive y) → T (not (
 unfolding div
 quotient-above m e =
     of-positive (λ y. T (not (lt (div binary64 (fin false m e) y) +0)))
-    (λ n c. rw (eqb·suc-zero n, ← zero-is) (not-below (m * up e * down c) (suc n * up c * down e) (mul-pos (mul-pos (zero-lt-suc n) (up-pos c)) (down-pos e))))
+    (λ n c. rw (eqb·suc-zero n, ← zero-is) (not-below (m * up e * down c) (suc n * up c * down e)
+    (mul-pos (mul-pos (zero-lt-suc n) (up-pos c)) (down-pos e))))
 
 allowance-above : (ds : Float) → T (positive ds) → T (not (lt (allowance ds) +0))
 allowance-above ds p =
@@ -168,7 +169,8 @@ module _ (s y : List Float) (d a : ℕ) (apart : T (positive (sub binary64 (at s
   slope-number : (j : ℕ) → j < d → T (not (isNan (slope j)))
   slope-number j l =
       quotient-number binary64 (sub binary64 (coordinate y d (a + 1) j) (coordinate y d a j))
-      (rounded-not-nan binary64 _ _ (sub-rounded binary64 (coordinate y d (a + 1) j) (coordinate y d a j) (finite-y j l .1) (finite-y j l .0))) ds apart
+      (rounded-not-nan binary64 _ _ (sub-rounded binary64 (coordinate y d (a + 1) j) (coordinate y d a j) (finite-y j l .1)
+      (finite-y j l .0))) ds apart
 
   -- open from axis j on, and nothing has failed
   Open : ℕ → Corridor → Type 0

@@ -35,12 +35,14 @@ module _ (t : List Float) (m : ℕ) (x : List Float) (i : ℕ) where
   region-opens r h e = rw (drop-cons x i nan h, e, add-one i)
 
   -- a location whose controls join
-  pub region-grows : (a z : ℕ) (r : Range) → i < length x → r ≡ rangeOf t m (at x i) → leb (r .a) (z + 5) ≡ true → joined t m (range a z) (drop i x) ≡ joined t m (range a (max z (r .z))) (drop (i + 1) x)
+  pub region-grows : (a z : ℕ) (r : Range) → i < length x → r ≡ rangeOf t m (at x i) → leb (r .a) (z + 5) ≡ true
+      → joined t m (range a z) (drop i x) ≡ joined t m (range a (max z (r .z))) (drop (i + 1) x)
   unfolding joined
   region-grows a z r h e f = rw (drop-cons x i nan h, ← e, f, add-one i)
 
   -- a location whose controls do not
-  pub region-parts : (a z : ℕ) (r : Range) → i < length x → r ≡ rangeOf t m (at x i) → leb (r .a) (z + 5) ≡ false → joined t m (range a z) (drop i x) ≡ range a z ∷ regionsOf t m (drop i x)
+  pub region-parts : (a z : ℕ) (r : Range) → i < length x → r ≡ rangeOf t m (at x i) → leb (r .a) (z + 5) ≡ false
+      → joined t m (range a z) (drop i x) ≡ range a z ∷ regionsOf t m (drop i x)
   unfolding joined regionsOf
   region-parts a z r h e f = rw (drop-cons x i nan h, ← e, f)
 
@@ -80,14 +82,21 @@ joined-inside t m last (v ∷ x) h p =
     q = range-inside t m v h
 
     grown : Inside m (range (last .a) (max (last .z) (rangeOf t m v .z)))
-    grown = record { after-first = p .after-first; some = omega (arith, p .some); before-last = omega (arith, p .before-last, q .before-last) }
+    grown = record {
+      after-first = p .after-first;
+      some = omega (arith, p .some);
+      before-last = omega
+          (arith, p .before-last, q .before-last);
+    }
 
-    go : (b : Bool) → Head (Inside m) (joined t m (range (last .a) (max (last .z) (rangeOf t m v .z))) x) → Head (Inside m) (cond b (joined t m (range (last .a) (max (last .z) (rangeOf t m v .z))) x) (last ∷ joined t m (rangeOf t m v) x))
+    go : (b : Bool) → Head (Inside m) (joined t m (range (last .a) (max (last .z) (rangeOf t m v .z))) x)
+        → Head (Inside m) (cond b (joined t m (range (last .a) (max (last .z) (rangeOf t m v .z))) x) (last ∷ joined t m (rangeOf t m v) x))
     go true g = g
     go false g = p
 
 -- the region that comes first leaves out the first and the last control and is not empty; of more than two controls
-pub region-inside : (t : List Float) (m : ℕ) (x : List Float) (r : Range) (rest : List Range) → 2 < m → regionsOf t m x ≡ r ∷ rest → Inside m r
+pub region-inside : (t : List Float) (m : ℕ) (x : List Float) (r : Range) (rest : List Range) → 2 < m → regionsOf t m x ≡ r ∷ rest
+    → Inside m r
 unfolding regionsOf
 region-inside t m [] r rest h e = let z : _≡_ {A = ℕ} 0 1 = cc in absurd (omega arith)
 region-inside t m (v ∷ x) r rest h e = subst (Head (Inside m)) e (joined-inside t m (rangeOf t m v) x h (range-inside t m v h))

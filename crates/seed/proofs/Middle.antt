@@ -1,4 +1,5 @@
--- The middle of a span, where `build` accepts it: neither at or below the left knot, nor at or above the right one. It then lies strictly inside.
+-- The middle of a span, where `build` accepts it: neither at or below the left knot, nor at or above the right one. It then lies strictly
+-- inside.
 use mathlib.Core.Path.{_≡_, refl}
 use mathlib.Core.Bool.{true, false, not}
 use lib.Dec.{T}
@@ -29,7 +30,8 @@ middle-number a b p q = rw two-is (half (add binary64 a b) (rounded-not-nan bina
     two-is = unfold round in refl
 
 -- an accepted middle lies strictly inside
-pub middle-inside : (a b : Float) → T (finite a) → T (finite b) → le (middle a b) a ≡ false → le b (middle a b) ≡ false → (lt a (middle a b) ≡ true) × (lt (middle a b) b ≡ true)
+pub middle-inside : (a b : Float) → T (finite a) → T (finite b) → le (middle a b) a ≡ false → le b (middle a b) ≡ false
+    → (lt a (middle a b) ≡ true) × (lt (middle a b) b ≡ true)
 middle-inside a b p q h k =
     let m = middle-number a b p q in (
       lt-of-not-le (middle a b) a (number-self (middle a b) m) (number-self a (finite-not-nan a p)) h,

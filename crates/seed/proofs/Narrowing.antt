@@ -17,9 +17,16 @@ abbrev pub cut : ℕ → Corridor → Corridor
 cut d c = corridor (take d (c .lo)) (take d (c .hi)) (c .ok)
 
 -- a turn on the first cells is a turn on all
-pub turn-cut : (s y : List Float) (d anchor i j : ℕ) (c : Corridor) → j < d → axisTurn s y d anchor i j (cut d c) ≡ cut d (axisTurn s y d anchor i j c)
+pub turn-cut : (s y : List Float) (d anchor i j : ℕ) (c : Corridor) → j < d → axisTurn s y d anchor i j (cut d c)
+    ≡ cut d (axisTurn s y d anchor i j c)
 unfolding axisTurn
-turn-cut s y d anchor i j c h = rw (getD-take d (c .lo) j nan h, getD-take d (c .hi) j nan h, take-set-lt d (c .lo) j _ h, take-set-lt d (c .hi) j _ h)
+turn-cut s y d anchor i j c h = rw (
+  getD-take d (c .lo) j nan h,
+  getD-take d (c .hi) j nan h,
+  take-set-lt d (c .lo) j _ h,
+  take-set-lt d
+      (c .hi) j _ h,
+)
 
 pub take-replicate : (d n : ℕ) (v : Float) → d ≤ n → take d (replicate n v) ≡ replicate d v
 take-replicate zero n v h = refl

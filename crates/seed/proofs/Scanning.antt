@@ -26,7 +26,8 @@ late false a i h e = let n = eqb-false i (a + 1) e in apart n
 module _ (s y : List Float) (d : ℕ) where
   -- ---- a turn of the search for the next anchor
   module _ (a i : ℕ) (lo hi : List Float) where
-    next-fits : i < length s → fits (narrowed s y d a i lo hi .ok) a i ≡ true → nextFrom s y d (length s - i) a i lo hi ≡ nextFrom s y d (length s - (i + 1)) a (i + 1) (narrowed s y d a i lo hi .lo) (narrowed s y d a i lo hi .hi)
+    next-fits : i < length s → fits (narrowed s y d a i lo hi .ok) a i ≡ true → nextFrom s y d (length s - i) a i lo hi
+        ≡ nextFrom s y d (length s - (i + 1)) a (i + 1) (narrowed s y d a i lo hi .lo) (narrowed s y d a i lo hi .hi)
     unfolding nextFrom
     next-fits h e =
         let k : length s - i ≡ suc (length s - (i + 1)) = omega arith in rw (k, e)
@@ -38,7 +39,8 @@ module _ (s y : List Float) (d : ℕ) where
 
     -- the same, of a corridor c that is this one
     module _ (c : Corridor) (is : c ≡ narrowed s y d a i lo hi) (h : i < length s) where
-      pub next-on : not (fits (c .ok) a i) ≡ false → nextFrom s y d (length s - (i + 1)) a (i + 1) (c .lo) (c .hi) ≡ nextFrom s y d (length s - i) a i lo hi
+      pub next-on : not (fits (c .ok) a i) ≡ false → nextFrom s y d (length s - (i + 1)) a (i + 1) (c .lo) (c .hi)
+          ≡ nextFrom s y d (length s - i) a i lo hi
       next-on e = rw is (sym (next-fits h (not-false _ (rw is at e))))
 
       pub next-here : not (fits (c .ok) a i) ≡ true → i - 1 ≡ nextFrom s y d (length s - i) a i lo hi
@@ -50,16 +52,19 @@ module _ (s y : List Float) (d : ℕ) where
         let k : length s - i ≡ 0 = omega arith in rw k
 
   -- ---- the next anchor comes later, and is a waypoint
-  from-between : (left a i : ℕ) (lo hi : List Float) → i + left ≡ length s → a + 1 ≤ i → a + 1 < length s → (a < nextFrom s y d left a i lo hi) × (nextFrom s y d left a i lo hi < length s)
+  from-between : (left a i : ℕ) (lo hi : List Float) → i + left ≡ length s → a + 1 ≤ i → a + 1 < length s
+      → (a < nextFrom s y d left a i lo hi) × (nextFrom s y d left a i lo hi < length s)
   unfolding nextFrom
   from-between zero a i lo hi e h g = (omega arith, omega arith)
   from-between (suc left) a i lo hi e h g =
-      go (fits (narrowed s y d a i lo hi .ok) a i) refl (from-between left a (i + 1) (narrowed s y d a i lo hi .lo) (narrowed s y d a i lo hi .hi) (omega arith) (omega arith) g)
+      go (fits (narrowed s y d a i lo hi .ok) a i) refl (from-between left a (i + 1) (narrowed s y d a i lo hi .lo)
+      (narrowed s y d a i lo hi .hi) (omega arith) (omega arith) g)
     where
       rest : ℕ
       rest = nextFrom s y d left a (i + 1) (narrowed s y d a i lo hi .lo) (narrowed s y d a i lo hi .hi)
 
-      go : (b : Bool) → fits (narrowed s y d a i lo hi .ok) a i ≡ b → (a < rest) × (rest < length s) → (a < cond b rest (i - 1)) × (cond b rest (i - 1) < length s)
+      go : (b : Bool) → fits (narrowed s y d a i lo hi .ok) a i ≡ b → (a < rest) × (rest < length s) → (a < cond b rest (i - 1))
+          × (cond b rest (i - 1) < length s)
       go true f p = p
       go false f p = let k = late (narrowed s y d a i lo hi .ok) a i h f in (omega arith, omega arith)
 
@@ -92,12 +97,20 @@ module _ (s y : List Float) (d : ℕ) where
   abbrev Lists : ℕ → Type 0
   Lists f =
       (g a i : ℕ) (lo hi : List Float) (xs : List ℕ) → (length s - i) + (length s - a) ≤ f → length s ≤ g + a + 1 → a + 1 ≤ i → i ≤ length s
-      → whilst (unscanned s) (scanTurn s y d) f (state a i lo hi xs) .indices ++ ((length s - 1) ∷ []) ≡ xs ++ (nextFrom s y d (length s - i) a i lo hi ∷ after g (nextFrom s y d (length s - i) a i lo hi))
+      → whilst (unscanned s) (scanTurn s y d) f (state a i lo hi xs) .indices ++ ((length s - 1) ∷ [])
+      ≡ xs ++ (nextFrom s y d (length s - i) a i lo hi ∷ after g (nextFrom s y d (length s - i) a i lo hi))
 
   -- no waypoint is left
-  lists-done : (f g a i : ℕ) (lo hi : List Float) (xs : List ℕ) → a + 1 ≤ i → i ≤ length s → length s ≤ i → whilst (unscanned s) (scanTurn s y d) f (state a i lo hi xs) .indices ++ ((length s - 1) ∷ []) ≡ xs ++ (nextFrom s y d (length s - i) a i lo hi ∷ after g (nextFrom s y d (length s - i) a i lo hi))
+  lists-done : (f g a i : ℕ) (lo hi : List Float) (xs : List ℕ) → a + 1 ≤ i → i ≤ length s → length s ≤ i
+      → whilst (unscanned s) (scanTurn s y d) f (state a i lo hi xs) .indices ++ ((length s - 1) ∷ [])
+      ≡ xs ++ (nextFrom s y d (length s - i) a i lo hi ∷ after g (nextFrom s y d (length s - i) a i lo hi))
   lists-done f g a i lo hi xs h k e =
-      rw (whilst-done (unscanned s) (scanTurn s y d) f (state a i lo hi xs) (le-ltb i (length s) e), next-ends a i lo hi e, after-none g (length s - 1) (omega arith))
+      rw (
+        whilst-done (unscanned s) (scanTurn s y d) f (state a i lo hi xs) (le-ltb i (length s) e),
+        next-ends a i lo hi e,
+        after-none g
+            (length s - 1) (omega arith),
+      )
 
   lists-turn : (f : ℕ) → Lists f → Lists (suc f)
   lists-turn f again g a i lo hi xs F G h k = elim (decLt i (length s)) [
@@ -105,21 +118,26 @@ module _ (s y : List Float) (d : ℕ) where
     | no l ↦ lists-done (suc f) g a i lo hi xs h k (omega arith)
   ]
     where
-      turn : i < length s → whilst (unscanned s) (scanTurn s y d) (suc f) (state a i lo hi xs) ≡ whilst (unscanned s) (scanTurn s y d) f (scanTurn s y d (state a i lo hi xs))
+      turn : i < length s → whilst (unscanned s) (scanTurn s y d) (suc f) (state a i lo hi xs)
+          ≡ whilst (unscanned s) (scanTurn s y d) f (scanTurn s y d (state a i lo hi xs))
       turn l =
           let e : suc f - 1 ≡ f = omega arith in
           whilst-turn (unscanned s) (scanTurn s y d) (suc f) (state a i lo hi xs) (omega arith) (lt-ltb i (length s) l) ∙ rw e
 
-      onward : fits (narrowed s y d a i lo hi .ok) a i ≡ true → scanTurn s y d (state a i lo hi xs) ≡ state a (i + 1) (narrowed s y d a i lo hi .lo) (narrowed s y d a i lo hi .hi) xs
+      onward : fits (narrowed s y d a i lo hi .ok) a i ≡ true → scanTurn s y d (state a i lo hi xs)
+          ≡ state a (i + 1) (narrowed s y d a i lo hi .lo) (narrowed s y d a i lo hi .hi) xs
       onward e = unfold scanTurn in rw e
 
-      anew : fits (narrowed s y d a i lo hi .ok) a i ≡ false → scanTurn s y d (state a i lo hi xs) ≡ state (i - 1) i (lowest d) (highest d) (xs ++ ((i - 1) ∷ []))
+      anew : fits (narrowed s y d a i lo hi .ok) a i ≡ false → scanTurn s y d (state a i lo hi xs)
+          ≡ state (i - 1) i (lowest d) (highest d) (xs ++ ((i - 1) ∷ []))
       anew e = unfold scanTurn in rw e
 
       fresh : 0 < i → nextAnchor s y d (i - 1) ≡ nextFrom s y d (length s - i) (i - 1) i (lowest d) (highest d)
       fresh p = unfold nextAnchor in let e : i - 1 + 1 ≡ i = omega arith in rw e
 
-      go : i < length s → (b : Bool) → fits (narrowed s y d a i lo hi .ok) a i ≡ b → (g : ℕ) → length s ≤ g + a + 1 → whilst (unscanned s) (scanTurn s y d) (suc f) (state a i lo hi xs) .indices ++ ((length s - 1) ∷ []) ≡ xs ++ (nextFrom s y d (length s - i) a i lo hi ∷ after g (nextFrom s y d (length s - i) a i lo hi))
+      go : i < length s → (b : Bool) → fits (narrowed s y d a i lo hi .ok) a i ≡ b → (g : ℕ) → length s ≤ g + a + 1
+          → whilst (unscanned s) (scanTurn s y d) (suc f) (state a i lo hi xs) .indices ++ ((length s - 1) ∷ [])
+          ≡ xs ++ (nextFrom s y d (length s - i) a i lo hi ∷ after g (nextFrom s y d (length s - i) a i lo hi))
       go l true e g G =
           rw (turn l, onward e, next-fits a i lo hi l e)
           (again g a (i + 1) (narrowed s y d a i lo hi .lo) (narrowed s y d a i lo hi .hi) xs (omega arith) G (omega arith) (omega arith))
@@ -127,7 +145,8 @@ module _ (s y : List Float) (d : ℕ) where
       go l false e (suc g) G =
           let q = late (narrowed s y d a i lo hi .ok) a i h e in
           rw (turn l, anew e, next-breaks a i lo hi l e, after-more g (i - 1) (omega arith), fresh (omega arith))
-          (again g (i - 1) i (lowest d) (highest d) (xs ++ ((i - 1) ∷ [])) (omega arith) (omega arith) (omega arith) k ∙ append-assoc xs ((i - 1) ∷ []) _)
+          (again g (i - 1) i (lowest d) (highest d) (xs ++ ((i - 1) ∷ [])) (omega arith) (omega arith) (omega arith) k
+          ∙ append-assoc xs ((i - 1) ∷ []) _)
 
   lists : (f : ℕ) → Lists f
   lists zero = λ g a i lo hi xs F G h k. lists-done zero g a i lo hi xs h k (omega arith)

@@ -1,4 +1,5 @@
--- What holds of the knots that `seed` gives, for any input: they rise strictly, lie strictly between 0 and 1, and are at most three for each inner waypoint.
+-- What holds of the knots that `seed` gives, for any input: they rise strictly, lie strictly between 0 and 1, and are at most three for
+-- each inner waypoint.
 use mathlib.Core.Path.{_≡_, refl, _∙_}
 use mathlib.Core.Bool.{true}
 use mathlib.Core.List.{List, [], _++_}
@@ -36,7 +37,8 @@ module _ (s y : List Float) (d : ℕ) where
   unfolding seededCells seedOf
   seeded-length =
       let q = sortOf (rawKnots s y d) in
-      length-append (keptOf q) (drop (length (keptOf q)) q) ∙ rw (length-drop (length (keptOf q)) q) (omega (arith, kept-count q, sort-count (rawKnots s y d)))
+      length-append (keptOf q) (drop (length (keptOf q)) q) ∙ rw (length-drop (length (keptOf q)) q)
+      (omega (arith, kept-count q, sort-count (rawKnots s y d)))
 
   -- the knots and what was sorted behind them take at most three cells for each inner waypoint
   pub seeded-count : 2 ≤ length s → length (seededCells s y d) ≤ 3 * (length s - 2)
@@ -48,8 +50,10 @@ module _ (s y : List Float) (d : ℕ) where
   seeded-empty h = rw (raw-empty s y d h) (refl, refl)
 
   -- the raw knots are settled in their cells
-  pub settled : (from : ℕ) (w w′ : List Float) (k r : ℕ) (v : List Float) → from + length (rawKnots s y d) ≤ length w → k ≡ length (rawKnots s y d) → w′ ≡ written from (rawKnots s y d) w
-      → r ≡ length (keptOf (sortOf (window from (from + k) w′))) → v ≡ keptOf (sortOf (window from (from + k) w′)) ++ drop r (sortOf (window from (from + k) w′))
+  pub settled : (from : ℕ) (w w′ : List Float) (k r : ℕ) (v : List Float) → from + length (rawKnots s y d) ≤ length w → k
+      ≡ length (rawKnots s y d) → w′ ≡ written from (rawKnots s y d) w
+      → r ≡ length (keptOf (sortOf (window from (from + k) w′))) → v ≡ keptOf (sortOf (window from (from + k) w′)) ++ drop r
+      (sortOf (window from (from + k) w′))
       → (r ≡ length (seedOf s y d)) × (splice from (from + k) v w′ ≡ written from (seededCells s y d) w)
   unfolding seededCells seedOf
   settled from w w′ k r v room e f p q =

@@ -50,7 +50,14 @@ module _ (s y : List Float) (d : ℕ) (first : (a : ℕ) → a + 1 < length s �
   same-turn : (t : Scan) → Right t → t .i < length s → scanTurn s y d t ≡ sourceTurn s y d t
   unfolding scanTurn sourceTurn corridorAt
   same-turn t r l =
-      ap (λ (b : Bool). cond b (record { anchor = t .anchor; i = t .i + 1; lo = corridorAt t .lo; hi = corridorAt t .hi; indices = t .indices })
+      ap (λ (b : Bool). cond b (record {
+        anchor = t .anchor;
+        i = t .i + 1;
+        lo = corridorAt t .lo;
+        hi = corridorAt t .hi;
+        indices =
+            t .indices;
+      })
       (record { anchor = t .i - 1; i = t .i; lo = lowest d; hi = highest d; indices = t .indices ++ ((t .i - 1) ∷ []) })) (same-test t r l)
 
   turn-right : (t : Scan) → Right t → Right (sourceTurn s y d t)
@@ -65,7 +72,12 @@ module _ (s y : List Float) (d : ℕ) (first : (a : ℕ) → a + 1 < length s �
 
       go : (b : Bool) → Right (cond b on anew)
       go true =
-          record { later = omega (arith, r .later); low = λ e. absurd (omega (arith, r .later)); high = λ e. absurd (omega (arith, r .later)) }
+          record {
+            later = omega (arith, r .later);
+            low = λ e. absurd (omega (arith, r .later));
+            high = λ e. absurd
+                (omega (arith, r .later));
+          }
       go false = record { later = omega (arith, r .later); low = λ e. refl; high = λ e. refl }
 
   -- any number of turns
@@ -76,7 +88,8 @@ module _ (s y : List Float) (d : ℕ) (first : (a : ℕ) → a + 1 < length s �
     where
       go : (b : Bool) → unscanned s t ≡ b
           → whilst (unscanned s) (scanTurn s y d) k (sourceTurn s y d t) ≡ whilst (unscanned s) (sourceTurn s y d) k (sourceTurn s y d t)
-          → cond b (whilst (unscanned s) (scanTurn s y d) k (scanTurn s y d t)) t ≡ cond b (whilst (unscanned s) (sourceTurn s y d) k (sourceTurn s y d t)) t
+          → cond b (whilst (unscanned s) (scanTurn s y d) k (scanTurn s y d t)) t ≡ cond b (whilst (unscanned s) (sourceTurn s y d) k
+          (sourceTurn s y d t)) t
       go false e again = refl
       go true e again = ap (whilst (unscanned s) (scanTurn s y d) k) (same-turn t r (ltb-true (t .i) (length s) e)) ∙ again
 
@@ -87,11 +100,13 @@ module _ (s y : List Float) (d : ℕ) (first : (a : ℕ) → a + 1 < length s �
   unfolding anchorsOf
   source-anchors =
       ap (λ (t : Scan). t .indices ++ ((length s - 1) ∷ []))
-      (same-scan (2 * length s) (record { anchor = 0; i = 1; lo = lowest d; hi = highest d; indices = 0 ∷ [] }) (record { later = omega arith; low = λ e. refl; high = λ e. refl }))
+      (same-scan (2 * length s) (record { anchor = 0; i = 1; lo = lowest d; hi = highest d; indices = 0 ∷ [] })
+      (record { later = omega arith; low = λ e. refl; high = λ e. refl }))
 
   -- a turn takes the next waypoint or a later anchor
   progress : (t : Scan) → Right t → t .i < length s
-      → (sourceTurn s y d t .i ≤ length s) × ((length s - sourceTurn s y d t .i) + (length s - sourceTurn s y d t .anchor) < (length s - t .i) + (length s - t .anchor))
+      → (sourceTurn s y d t .i ≤ length s) × ((length s - sourceTurn s y d t .i) + (length s - sourceTurn s y d t .anchor)
+      < (length s - t .i) + (length s - t .anchor))
   unfolding sourceTurn corridorAt fits
   progress t r l = go (corridorAt t .ok) refl
     where
@@ -106,7 +121,8 @@ module _ (s y : List Float) (d : ℕ) (first : (a : ℕ) → a + 1 < length s �
       anew = record { anchor = t .i - 1; i = t .i; lo = lowest d; hi = highest d; indices = t .indices ++ ((t .i - 1) ∷ []) }
 
       go : (b : Bool) → corridorAt t .ok ≡ b
-          → (cond b on anew .i ≤ length s) × ((length s - cond b on anew .i) + (length s - cond b on anew .anchor) < (length s - t .i) + (length s - t .anchor))
+          → (cond b on anew .i ≤ length s) × ((length s - cond b on anew .i) + (length s - cond b on anew .anchor)
+          < (length s - t .i) + (length s - t .anchor))
       go true e = (omega arith, omega (arith, r .later))
       go false e =
           let n : t .i ≡ t .anchor + 1 → ⊥ =
@@ -121,7 +137,8 @@ module _ (s y : List Float) (d : ℕ) (first : (a : ℕ) → a + 1 < length s �
   scan-ends (suc k) t r h l = go (unscanned s t) refl (λ i g. scan-ends k (sourceTurn s y d t) (turn-right t r) i g)
     where
       go : (b : Bool) → unscanned s t ≡ b
-          → (sourceTurn s y d t .i ≤ length s → (length s - sourceTurn s y d t .i) + (length s - sourceTurn s y d t .anchor) ≤ k → unscanned s (whilst (unscanned s) (sourceTurn s y d) k (sourceTurn s y d t)) ≡ false)
+          → (sourceTurn s y d t .i ≤ length s → (length s - sourceTurn s y d t .i) + (length s - sourceTurn s y d t .anchor) ≤ k
+          → unscanned s (whilst (unscanned s) (sourceTurn s y d) k (sourceTurn s y d t)) ≡ false)
           → unscanned s (cond b (whilst (unscanned s) (sourceTurn s y d) k (sourceTurn s y d t)) t) ≡ false
       go false e again = e
       go true e again =

@@ -36,7 +36,8 @@ write-three a v l k x y z h g =
     longer : (v : List Float) (x : Float) (k : ℕ) → length v ≡ k → length (v ++ (x ∷ [])) ≡ k + 1
     longer v x k h = rw (length-append v (x ∷ []), h)
 
-    one : (v : List Float) (k : ℕ) (x : Float) → length v ≡ k → a + k < length l → set (written a v l) (a + k) x ≡ written a (v ++ (x ∷ [])) l
+    one : (v : List Float) (k : ℕ) (x : Float) → length v ≡ k → a + k < length l → set (written a v l) (a + k) x
+        ≡ written a (v ++ (x ∷ [])) l
     one v k x h g = rw (← h) (set-next a v l x (omega arith))
 
 module _ (s y : List Float) (d : ℕ) where
@@ -44,7 +45,8 @@ module _ (s y : List Float) (d : ℕ) where
   abbrev knotsFrom : ℕ → ℕ → ℕ → List Float
   knotsFrom left a b = knotsAt s y d (a ∷ (b ∷ after s y d left b))
 
-  from-more : (left a b : ℕ) → b + 1 < length s → knotsFrom (suc left) a b ≡ around s y d a b (nextAnchor s y d b) ++ knotsFrom left b (nextAnchor s y d b)
+  from-more : (left a b : ℕ) → b + 1 < length s → knotsFrom (suc left) a b ≡ around s y d a b (nextAnchor s y d
+      b) ++ knotsFrom left b (nextAnchor s y d b)
   unfolding knotsAt
   from-more left a b h = rw (after-more s y d left b h)
 
@@ -81,17 +83,29 @@ module _ (s y : List Float) (d : ℕ) where
   module _ (from : ℕ) (work₀ : List Float) where
     pub begun-none : 1 < length s → Begun from work₀ work₀ 0 (nextAnchor s y d 0) 0
     begun-none h =
-        record { done = []; count = refl; is = sym (written-none from work₀); left = length s; enough = omega arith; first = omega arith; second = next-between s y d 0 h .1; room = omega (arith, next-between s y d 0 h .0); all = sym (raw-from (omega arith)) }
+        record {
+          done = [];
+          count = refl;
+          is = sym (written-none from work₀);
+          left = length s;
+          enough = omega arith;
+          first = omega arith;
+          second = next-between s y d 0 h .1;
+          room = omega (arith, next-between s y d 0 h .0);
+          all = sym (raw-from (omega arith));
+        }
 
     module _ (work : List Float) (a b k : ℕ) where
-      pub begun-more : (u v w : Float) → b + 1 < length s → from + 3 * length s ≤ length work₀ + 6 → (u ∷ (v ∷ (w ∷ []))) ≡ around s y d a b (nextAnchor s y d b) → Begun from work₀ work a b k
+      pub begun-more : (u v w : Float) → b + 1 < length s → from + 3 * length s ≤ length work₀ + 6 → (u ∷ (v ∷ (w ∷ [])))
+          ≡ around s y d a b (nextAnchor s y d b) → Begun from work₀ work a b k
           → Begun from work₀ (set (set (set work (from + k) u) (from + k + 1) v) (from + k + 2) w) b (nextAnchor s y d b) (k + 3)
       begun-more u v w h g e z = go (z .left) (z .enough) (z .all)
         where
           later : b < nextAnchor s y d b
           later = next-between s y d b h .0
 
-          go : (left : ℕ) → length s ≤ left + b + 1 → z .done ++ knotsFrom left a b ≡ rawKnots s y d → Begun from work₀ (set (set (set work (from + k) u) (from + k + 1) v) (from + k + 2) w) b (nextAnchor s y d b) (k + 3)
+          go : (left : ℕ) → length s ≤ left + b + 1 → z .done ++ knotsFrom left a b ≡ rawKnots s y d
+              → Begun from work₀ (set (set (set work (from + k) u) (from + k + 1) v) (from + k + 2) w) b (nextAnchor s y d b) (k + 3)
           go zero f q = absurd (omega arith)
           go (suc left) f q =
               record {
@@ -129,15 +143,22 @@ module _ (s y : List Float) (d : ℕ) where
   from-count zero a b h = unfold after knotsAt in omega arith
   from-count (suc left) a b h = go (λ (k : ℕ). from-count left b k)
     where
-      go : ((k : ℕ) → k < length s → length (knotsFrom left b k) + 3 * k ≤ 3 * (length s - 1)) → length (knotsFrom (suc left) a b) + 3 * b ≤ 3 * (length s - 1)
+      go : ((k : ℕ) → k < length s → length (knotsFrom left b k) + 3 * k ≤ 3 * (length s - 1)) → length (knotsFrom (suc left) a b) + 3 * b
+          ≤ 3 * (length s - 1)
       go again = elim (decLt (b + 1) (length s)) [
-        | yes g ↦ rw (from-more left a b g, around-three a b (nextAnchor s y d b) (knotsFrom left b (nextAnchor s y d b))) (omega (arith, next-between s y d b g .0, again (nextAnchor s y d b) (next-between s y d b g .1)))
+        | yes g ↦ rw (from-more left a b g, around-three a b (nextAnchor s y d b) (knotsFrom left b (nextAnchor s y d b)))
+            (omega (arith, next-between s y d b g .0, again (nextAnchor s y d b) (next-between s y d b g .1)))
         | no g ↦ rw (from-none (suc left) a b (omega arith)) (omega arith)
       ]
 
   -- at most three for each inner waypoint
   pub raw-count : 2 ≤ length s → length (rawKnots s y d) ≤ 3 * (length s - 2)
-  raw-count h = rw (raw-from (omega arith)) (omega (arith, next-between s y d 0 h .0, from-count (length s) 0 (nextAnchor s y d 0) (next-between s y d 0 h .1)))
+  raw-count h = rw (raw-from (omega arith)) (omega (
+    arith,
+    next-between s y d 0 h .0,
+    from-count (length s) 0 (nextAnchor s y d 0)
+        (next-between s y d 0 h .1),
+  ))
 
 -- ---- in one slice
 module _ (p : Waypoints) (w : List Float) (laid : Laid p (length w)) where
@@ -146,7 +167,9 @@ module _ (p : Waypoints) (w : List Float) (laid : Laid p (length w)) where
 
   -- what is written from the knots on leaves the waypoints as they are
   pub same-parameters : (v : List Float) → parametersAt p (written (p .knots) v w) ≡ parametersAt p w
-  same-parameters v = window-before (p .knots) (p .knots + length v) v w (p .parameters) (p .parameters + p .samples) (omega arith) (omega arith) (omega arith)
+  same-parameters v = window-before (p .knots) (p .knots + length v) v w (p .parameters) (p .parameters + p .samples) (omega arith)
+      (omega arith) (omega arith)
 
   pub same-points : (v : List Float) → pointsAt p (written (p .knots) v w) ≡ pointsAt p w
-  same-points v = window-before (p .knots) (p .knots + length v) v w (p .points) (p .points + p .samples * p .axes) (omega arith) (omega arith) (omega arith)
+  same-points v = window-before (p .knots) (p .knots + length v) v w (p .points) (p .points + p .samples * p .axes) (omega arith)
+      (omega arith) (omega arith)

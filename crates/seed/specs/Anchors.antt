@@ -8,9 +8,9 @@ use lib.Ieee.{Float}
 use Rattle.arith.specs.Loop.{whilst}
 use Rattle.seed.specs.Corridor.{lowest, highest, narrowed}
 
--- Waypoint i fits the corridor from the anchor. The first after the anchor always does: where it failed there, the source would find the same anchor
--- again, without end. That takes parameters that do not rise, or a slope that is a NaN, which no request that `build` takes on has: so there this scan is
--- the source's own (`smoothing/proofs/SeedEnds`: `seed-ends`, `lane-anchors`).
+-- Waypoint i fits the corridor from the anchor. The first after the anchor always does: where it failed there, the source would find the
+-- same anchor again, without end. That takes parameters that do not rise, or a slope that is a NaN, which no request that `build` takes on
+-- has: so there this scan is the source's own (`smoothing/proofs/SeedEnds`: `seed-ends`, `lane-anchors`).
 unfoldable pub fits : Bool → ℕ → ℕ → Bool
 fits ok anchor i = ok || eqb i (anchor + 1)
 
@@ -35,7 +35,8 @@ unscanned s t = ltb (t .i) (length s)
 -- `indices`, with `indices.push(s.len() - 1)`. A turn raises i or the anchor, so that 2n turns are enough.
 unfoldable pub anchorsOf : List Float → List Float → ℕ → List ℕ
 anchorsOf s y d =
-    whilst (unscanned s) (scanTurn s y d) (2 * length s) (record { anchor = 0; i = 1; lo = lowest d; hi = highest d; indices = 0 ∷ [] }) .indices
+    whilst (unscanned s) (scanTurn s y d) (2 * length s)
+    (record { anchor = 0; i = 1; lo = lowest d; hi = highest d; indices = 0 ∷ [] }) .indices
     ++ ((length s - 1) ∷ [])
 
 -- The same, one anchor at a time. That `anchorsOf` lists these is proved: `proofs/Scanning`.

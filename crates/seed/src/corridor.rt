@@ -51,7 +51,8 @@ pub(crate) fn slope(y: &[f64], from: usize, to: usize, ds: f64) -> f64
 // The corridor from the waypoint `anchor`, drawn in by waypoint i.
 fn narrow(s: &[f64], y: &[f64], d: usize, anchor: usize, i: usize, c: Bounds) -> Bounds
     requires { ⌜ (d ≤ 16) × (length (now s) * d ≤ length (now y)) × (anchor < length (now s)) × (i < length (now s)) ⌝ }
-    ensures { λ r. ⌜ corridor (take d (r .lo)) (take d (r .hi)) (r .ok) ≡ narrowed (now (s .entry)) (now (y .entry)) d anchor i (take d (c .lo)) (take d (c .hi)) ⌝ }
+    ensures { λ r. ⌜ corridor (take d (r .lo)) (take d (r .hi)) (r .ok) ≡ narrowed (now (s .entry)) (now (y .entry)) d anchor i (take d
+        (c .lo)) (take d (c .hi)) ⌝ }
 {
     let ds = s[i] - s[anchor];
     let from = anchor * d;

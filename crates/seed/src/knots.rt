@@ -77,7 +77,8 @@ fn anchor_after(work: &[f64], p: Waypoints, anchor: usize) -> usize
 // The three knots around the anchor b, between the anchors a and c.
 fn knots_at(work: &[f64], p: Waypoints, a: usize, b: usize, c: usize) -> Three
     requires { ⌜ Laid p (length (now work)) × (a < p .samples) × (b < p .samples) × (c < p .samples) ⌝ }
-    ensures { λ r. ⌜ (r .left ∷ (r .middle ∷ (r .right ∷ []))) ≡ around (parametersAt p (now (work .entry))) (pointsAt p (now (work .entry))) (p .axes) a b c ⌝ }
+    ensures { λ r. ⌜ (r .left ∷ (r .middle ∷ (r .right ∷ []))) ≡ around (parametersAt p (now (work .entry)))
+        (pointsAt p (now (work .entry))) (p .axes) a b c ⌝ }
 {
     let s = p.parameters;
     let s_end = s + p.samples;
@@ -90,7 +91,8 @@ fn knots_at(work: &[f64], p: Waypoints, a: usize, b: usize, c: usize) -> Three
 fn raw_knots(work: &mut [f64], p: Waypoints) -> usize
     requires { ⌜ Laid p (length (now work)) × (2 ≤ p .samples) × (p .knots + 3 * p .samples ≤ length (now work) + 6) ⌝ }
     ensures { λ r. ⌜ r ≡ length (rawKnots (parametersAt p (now (work .entry))) (pointsAt p (now (work .entry))) (p .axes)) ⌝ }
-    ensures { λ _. ⌜ now (work .exit) ≡ written (p .knots) (rawKnots (parametersAt p (now (work .entry))) (pointsAt p (now (work .entry))) (p .axes)) (now (work .entry)) ⌝ }
+    ensures { λ _. ⌜ now (work .exit) ≡ written (p .knots) (rawKnots (parametersAt p (now (work .entry))) (pointsAt p (now (work .entry)))
+        (p .axes)) (now (work .entry)) ⌝ }
 {
     let last = p.samples - 1;
     let from = p.knots;
@@ -126,7 +128,8 @@ pub fn seed(work: &mut [f64], p: Waypoints) -> usize
     requires { ⌜ (p .axes ≤ 16) × (p .parameters + p .samples ≤ p .knots) × (p .points + p .samples * p .axes ≤ p .knots)
         × (p .knots + 3 * p .samples ≤ length (now work) + 6) ⌝ }
     ensures { λ r. ⌜ r ≡ length (seedOf (parametersAt p (now (work .entry))) (pointsAt p (now (work .entry))) (p .axes)) ⌝ }
-    ensures { λ _. ⌜ now (work .exit) ≡ written (p .knots) (seededCells (parametersAt p (now (work .entry))) (pointsAt p (now (work .entry))) (p .axes)) (now (work .entry)) ⌝ }
+    ensures { λ _. ⌜ now (work .exit) ≡ written (p .knots) (seededCells (parametersAt p (now (work .entry)))
+        (pointsAt p (now (work .entry))) (p .axes)) (now (work .entry)) ⌝ }
 {
     if p.samples < 2 {
         return 0;

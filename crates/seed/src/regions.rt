@@ -54,7 +54,8 @@ fn joins(a: usize, z: usize) -> bool
 // then with the answer's `next` until that is the number of locations, it gives the source's list.
 pub fn next_region(t: &[f64], m: usize, x: &[f64], from: usize) -> Region
     requires { ⌜ from < length (now x) ⌝ }
-    ensures { λ r. ⌜ regionsOf (now (t .entry)) m (drop from (now (x .entry))) ≡ range (r .a) (r .z) ∷ regionsOf (now (t .entry)) m (drop (r .next) (now (x .entry))) ⌝ }
+    ensures { λ r. ⌜ regionsOf (now (t .entry)) m (drop from (now (x .entry))) ≡ range (r .a) (r .z) ∷ regionsOf (now (t .entry)) m (drop
+        (r .next) (now (x .entry))) ⌝ }
     ensures { λ r. ⌜ (from < r .next) × (r .next ≤ length (now (x .entry))) ⌝ }
 {
     let first = affected(t, m, x[from]);

@@ -60,18 +60,24 @@ unfolding lt
 over-gap nan h = never h
 over-gap (inf t) h = h
 over-gap (fin true n d) h = never h
-over-gap (fin false n d) h = lt-ltb (0 * 1 * down d) (n * up d * 1) (go (down d) (n * up d) (ltb-true (1 * 1 * down d) (n * up d * 35184372088832) h))
+over-gap (fin false n d) h = lt-ltb (0 * 1 * down d) (n * up d * 1)
+    (go (down d) (n * up d) (ltb-true (1 * 1 * down d) (n * up d * 35184372088832) h))
   where
     go : (a b : ℕ) → 1 * 1 * a < b * 35184372088832 → 0 * 1 * a < b * 1
     go a b h = omega arith
 
-under-top : (x : Float) → lt gap′ x ≡ true → lt x (fin false 35184372088831 (negsuc 44)) ≡ true → T (finite x) × (lt x (fin false 1 (pos 0)) ≡ true)
+under-top : (x : Float) → lt gap′ x ≡ true → lt x (fin false 35184372088831 (negsuc 44)) ≡ true → T (finite x)
+    × (lt x (fin false 1 (pos 0)) ≡ true)
 unfolding lt
 under-top nan h g = never h
 under-top (inf true) h g = never h
 under-top (inf false) h g = never g
 under-top (fin true m e) h g = never h
-under-top (fin false m e) h g = (tt, lt-ltb (m * up e * 1) (1 * 1 * down e) (go (m * up e) (down e) (ltb-true (m * up e * 35184372088832) (35184372088831 * 1 * down e) g)))
+under-top (fin false m e) h g = (
+  tt,
+  lt-ltb (m * up e * 1) (1 * 1 * down e)
+      (go (m * up e) (down e) (ltb-true (m * up e * 35184372088832) (35184372088831 * 1 * down e) g)),
+)
   where
     go : (a b : ℕ) → a * 35184372088832 < 35184372088831 * 1 * b → a * 1 < 1 * 1 * b
     go a b h = omega arith
@@ -99,7 +105,8 @@ sub-self n d = go (n * up d * down d) (down d * down d) (mul-pos (down-pos d) (d
     go : (a c : ℕ) → 0 < c → sum binary64 false a true a c ≡ zero′
     go a c p =
         let e : a - a ≡ 0 = omega arith in
-        level a c ∙ ap (λ (k : ℕ). round binary64 false k c) e ∙ round-same binary64 false 0 c 0 1 p (omega arith) (omega arith) ∙ unfold round in refl
+        level a c ∙ ap (λ (k : ℕ). round binary64 false k c) e ∙ round-same binary64 false 0 c 0 1 p (omega arith) (omega arith)
+        ∙ unfold round in refl
 
 rises : (x v : Float) → T (finite x) → Between v → lt gap (sub binary64 x v) ≡ true → lt v x ≡ true
 rises x v p b h = at-sign v (b .number) (rw zero-is at (b .above)) h
@@ -120,7 +127,8 @@ rises x v p b h = at-sign v (b .number) (rw zero-is at (b .above)) h
         go true e = refl
         go false e =
             let le = value-le-of-not-lt x w p tt (subst (λ (t : Bool). T (not t)) (sym e) tt) in
-            let k = rounded-monotone binary64 (sub binary64 x w) (sub binary64 w w) _ _ (sub-rounded binary64 x w p tt) (sub-rounded binary64 w w tt tt) (≤q-add (value x) (value w) (negq (value w)) le) in
+            let k = rounded-monotone binary64 (sub binary64 x w) (sub binary64 w w) _ _ (sub-rounded binary64 x w p tt)
+            (sub-rounded binary64 w w tt tt) (≤q-add (value x) (value w) (negq (value w)) le) in
             absurd (subst (λ (t : Bool). T (not t)) above k)
 
 -- ---- the kept list
@@ -139,32 +147,40 @@ thinned-between last [] i h = absurd (omega arith)
 thinned-between last (x ∷ l) i h = go (apart last x) refl (thinned-between (some x) l) (thinned-between last l) i h
   where
     go : (b : Bool) → apart last x ≡ b
-        → ((i : ℕ) → i < length (thinned apart (some x) l) → Between (at (thinned apart (some x) l) i)) → ((i : ℕ) → i < length (thinned apart last l) → Between (at (thinned apart last l) i))
-        → (i : ℕ) → i < length (cond b (x ∷ thinned apart (some x) l) (thinned apart last l)) → Between (at (cond b (x ∷ thinned apart (some x) l) (thinned apart last l)) i)
+        → ((i : ℕ) → i < length (thinned apart (some x) l) → Between (at (thinned apart (some x) l) i))
+        → ((i : ℕ) → i < length (thinned apart last l) → Between (at (thinned apart last l) i))
+        → (i : ℕ) → i < length (cond b (x ∷ thinned apart (some x) l) (thinned apart last l))
+        → Between (at (cond b (x ∷ thinned apart (some x) l) (thinned apart last l)) i)
     go true e p q zero h = inside-between x (apart-inside last x e)
     go true e p q (suc i) h = p i (omega arith)
     go false e p q i h = q i h
 
 -- the first that is kept after v is above v
-thinned-after : (v : Float) → Between v → (l : List Float) → 0 < length (thinned apart (some v) l) → lt v (at (thinned apart (some v) l) 0) ≡ true
+thinned-after : (v : Float) → Between v → (l : List Float) → 0 < length (thinned apart (some v) l) → lt v (at (thinned apart (some v) l) 0)
+    ≡ true
 unfolding thinned
 thinned-after v b [] h = absurd (omega arith)
 thinned-after v b (x ∷ l) h = go (apart (some v) x) refl (thinned-after v b l) h
   where
     go : (t : Bool) → apart (some v) x ≡ t → (0 < length (thinned apart (some v) l) → lt v (at (thinned apart (some v) l) 0) ≡ true)
-        → 0 < length (cond t (x ∷ thinned apart (some x) l) (thinned apart (some v) l)) → lt v (at (cond t (x ∷ thinned apart (some x) l) (thinned apart (some v) l)) 0) ≡ true
+        → 0 < length (cond t (x ∷ thinned apart (some x) l) (thinned apart (some v) l))
+        → lt v (at (cond t (x ∷ thinned apart (some x) l) (thinned apart (some v) l)) 0) ≡ true
     go true e p h = rises x v (inside-between x (apart-inside (some v) x e) .number) b (apart-after v x e)
     go false e p h = p h
 
-thinned-rises : (last : Option Float) (l : List Float) (i : ℕ) → i + 1 < length (thinned apart last l) → lt (at (thinned apart last l) i) (at (thinned apart last l) (i + 1)) ≡ true
+thinned-rises : (last : Option Float) (l : List Float) (i : ℕ) → i + 1 < length (thinned apart last l)
+    → lt (at (thinned apart last l) i) (at (thinned apart last l) (i + 1)) ≡ true
 unfolding thinned
 thinned-rises last [] i h = absurd (omega arith)
 thinned-rises last (x ∷ l) i h = go (apart last x) refl (thinned-rises (some x) l) (thinned-rises last l) i h
   where
     go : (b : Bool) → apart last x ≡ b
-        → ((i : ℕ) → i + 1 < length (thinned apart (some x) l) → lt (at (thinned apart (some x) l) i) (at (thinned apart (some x) l) (i + 1)) ≡ true)
+        → ((i : ℕ) → i + 1 < length (thinned apart (some x) l) → lt (at (thinned apart (some x) l) i)
+        (at (thinned apart (some x) l) (i + 1)) ≡ true)
         → ((i : ℕ) → i + 1 < length (thinned apart last l) → lt (at (thinned apart last l) i) (at (thinned apart last l) (i + 1)) ≡ true)
-        → (i : ℕ) → i + 1 < length (cond b (x ∷ thinned apart (some x) l) (thinned apart last l)) → lt (at (cond b (x ∷ thinned apart (some x) l) (thinned apart last l)) i) (at (cond b (x ∷ thinned apart (some x) l) (thinned apart last l)) (i + 1)) ≡ true
+        → (i : ℕ) → i + 1 < length (cond b (x ∷ thinned apart (some x) l) (thinned apart last l))
+        → lt (at (cond b (x ∷ thinned apart (some x) l) (thinned apart last l)) i)
+        (at (cond b (x ∷ thinned apart (some x) l) (thinned apart last l)) (i + 1)) ≡ true
     go true e p q zero h = thinned-after x (inside-between x (apart-inside last x e)) l (omega arith)
     go true e p q (suc i) h = let g : suc i + 1 ≡ suc (i + 1) = omega arith in rw g (p i (omega arith))
     go false e p q i h = q i h
@@ -185,7 +201,8 @@ unfolding thinned
 thinned-count test last [] = omega arith
 thinned-count test last (x ∷ l) = go (test last x) (thinned-count test (some x) l) (thinned-count test last l)
   where
-    go : (b : Bool) → length (thinned test (some x) l) ≤ length l → length (thinned test last l) ≤ length l → length (cond b (x ∷ thinned test (some x) l) (thinned test last l)) ≤ length (x ∷ l)
+    go : (b : Bool) → length (thinned test (some x) l) ≤ length l → length (thinned test last l) ≤ length l
+        → length (cond b (x ∷ thinned test (some x) l) (thinned test last l)) ≤ length (x ∷ l)
     go true p q = omega arith
     go false p q = omega arith
 

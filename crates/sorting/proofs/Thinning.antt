@@ -41,23 +41,32 @@ module _ (test : Option Float → Float → Bool) (s₀ : List Float) where
   pub walked-read : (s : List Float) (kept i : ℕ) → Walked s kept i → at s i ≡ at s₀ i
   walked-read s kept i w =
       let e : kept + (i - kept) ≡ i = omega (arith, w .below) in
-      ap (at s) (sym e) ∙ sym (getD-drop kept s (i - kept) nan) ∙ ap (λ (l : List Float). at l (i - kept)) (w .rest) ∙ getD-drop kept s₀ (i - kept) nan ∙ ap (at s₀) e
+      ap (at s) (sym e) ∙ sym (getD-drop kept s (i - kept) nan) ∙ ap (λ (l : List Float). at l (i - kept)) (w .rest)
+      ∙ getD-drop kept s₀ (i - kept) nan ∙ ap (at s₀) e
 
   -- a turn: the element passes or not
-  pub walked-next : (s : List Float) (kept i : ℕ) (k : Bool) → Walked s kept i → i < length s₀ → test (lastOf kept s) (at s i) ≡ k → Walked (cond k (set s kept (at s i)) s) (cond k (kept + 1) kept) (i + 1)
+  pub walked-next : (s : List Float) (kept i : ℕ) (k : Bool) → Walked s kept i → i < length s₀ → test (lastOf kept s) (at s i) ≡ k
+      → Walked (cond k (set s kept (at s i)) s) (cond k (kept + 1) kept) (i + 1)
   unfolding thinned lastOf
   walked-next s kept i true w h t =
       record {
         below = omega (arith, w .below);
         within = omega arith;
         long = simp length-set (w .long);
-        rest = drop-set-lt (kept + 1) s kept (at s i) (omega arith) ∙ sym (drop-drop 1 kept s) ∙ ap (drop 1) (w .rest) ∙ drop-drop 1 kept s₀;
+        rest = drop-set-lt (kept + 1) s kept (at s i) (omega arith) ∙ sym (drop-drop 1 kept s) ∙ ap (drop 1) (w .rest)
+            ∙ drop-drop 1 kept s₀;
         is =
-            rw (add-one kept, take-suc-set s kept (at s i) (omega (arith, w .below, w .long)), getD-set-same s kept (at s i) nan (omega (arith, w .below, w .long)))
+            rw (
+              add-one kept,
+              take-suc-set s kept (at s i) (omega (arith, w .below, w .long)),
+              getD-set-same s kept (at s i) nan
+                  (omega (arith, w .below, w .long)),
+            )
             (append-assoc (take kept s) (at s i ∷ []) (thinned test (some (at s i)) (drop (i + 1) s₀)) ∙ sym turn ∙ w .is);
       }
     where
-      turn : take kept s ++ thinned test (lastOf kept s) (drop i s₀) ≡ take kept s ++ (at s i ∷ thinned test (some (at s i)) (drop (i + 1) s₀))
+      turn : take kept s ++ thinned test (lastOf kept s) (drop i s₀) ≡ take kept s ++ (at s i ∷ thinned test (some (at s i))
+          (drop (i + 1) s₀))
       turn = rw (drop-cons s₀ i nan h, ← walked-read s kept i w, t, add-one i)
   walked-next s kept i false w h t =
       record {
@@ -77,7 +86,8 @@ module _ (test : Option Float → Float → Bool) (s₀ : List Float) where
   walked-kept s kept i w h = sym (append-nil (take kept s)) ∙ (rw (drop-of-length-le s₀ h) at (w .is))
 
   pub walked-count : (s : List Float) (kept i : ℕ) → Walked s kept i → length s₀ ≤ i → kept ≡ length (thinned test none s₀)
-  walked-count s kept i w h = sym (length-take-le kept s (omega (arith, w .below, w .within, w .long))) ∙ ap length (walked-kept s kept i w h)
+  walked-count s kept i w h = sym (length-take-le kept s (omega (arith, w .below, w .within, w .long)))
+      ∙ ap length (walked-kept s kept i w h)
 
   pub walked-cells : (s : List Float) (kept i : ℕ) → Walked s kept i → length s₀ ≤ i → s ≡ thinned test none s₀ ++ drop kept s₀
   walked-cells s kept i w h = sym (take-append-drop kept s) ∙ rw (walked-kept s kept i w h, w .rest)

@@ -11,11 +11,14 @@ use Rattle.window.specs.Window.{copied}
 
 module _ {A : Type 0} where
   -- one more element of d, after the i that p has, becomes v
-  pub write-more : (p d : List A) (i : ℕ) (v : A) → length p ≡ i → i < length d → set (p ++ drop i d) i v ≡ (p ++ (v ∷ [])) ++ drop (i + 1) d
-  write-more p d i v h k = rw (add-one, drop-cons d i v k) (set-at p (getD d i v) (drop (suc i) d) v i h ∙ sym (append-snoc p v (drop (suc i) d)))
+  pub write-more : (p d : List A) (i : ℕ) (v : A) → length p ≡ i → i < length d → set (p ++ drop i d) i v
+      ≡ (p ++ (v ∷ [])) ++ drop (i + 1) d
+  write-more p d i v h k = rw (add-one, drop-cons d i v k) (set-at p (getD d i v) (drop (suc i) d) v i h ∙ sym
+      (append-snoc p v (drop (suc i) d)))
 
   -- one more element of s is copied over d
-  pub copy-more : (s d : List A) (i : ℕ) (z : A) → i < length s → i < length d → set (take i s ++ drop i d) i (getD s i z) ≡ take (i + 1) s ++ drop (i + 1) d
+  pub copy-more : (s d : List A) (i : ℕ) (z : A) → i < length s → i < length d → set (take i s ++ drop i d) i (getD s i z)
+      ≡ take (i + 1) s ++ drop (i + 1) d
   copy-more s d i z h k =
       write-more (take i s) d i (getD s i z) (length-take-le i s (le-of-lt h)) k
       ∙ ap (λ (l : List A). l ++ drop (i + 1) d) (sym (take-suc s i z h) ∙ ap (λ (n : ℕ). take n s) (sym (add-one i)))

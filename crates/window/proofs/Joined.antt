@@ -15,10 +15,12 @@ module _ {A : Type 0} where
   pub join-length : (n d : ℕ) (f : ℕ → List A) → ((i : ℕ) → i < n → length (f i) ≡ d) → length (join n f) ≡ n * d
   unfolding join
   join-length zero d f h = omega arith
-  join-length (suc n) d f h = length-append (join n f) (f n) ∙ (let e = join-length n d f (λ i l. h i (omega arith)) in let g = h n (omega arith) in let s = suc-mul n d in omega arith)
+  join-length (suc n) d f h = length-append (join n f) (f n) ∙ (let e = join-length n d f (λ i l. h i (omega arith)) in let g = h n
+      (omega arith) in let s = suc-mul n d in omega arith)
 
   -- element j of row i
-  pub join-at : (n d : ℕ) (f : ℕ → List A) (z : A) → ((i : ℕ) → i < n → length (f i) ≡ d) → (i j : ℕ) → i < n → j < d → getD (join n f) (i * d + j) z ≡ getD (f i) j z
+  pub join-at : (n d : ℕ) (f : ℕ → List A) (z : A) → ((i : ℕ) → i < n → length (f i) ≡ d) → (i j : ℕ) → i < n → j < d
+      → getD (join n f) (i * d + j) z ≡ getD (f i) j z
   unfolding join
   join-at zero d f z h i j l g = absurd (omega arith)
   join-at (suc n) d f z h i j l g =
@@ -66,7 +68,8 @@ module _ {A : Type 0} where
   -- equal elements, equal tables
   pub table-ap : (n d : ℕ) (f g : ℕ → ℕ → A) → ((i j : ℕ) → i < n → j < d → f i j ≡ g i j) → table n d f ≡ table n d g
   unfolding table
-  table-ap n d f g h = join-ap n (λ i. listOf d (f i)) (λ i. listOf d (g i)) (λ i l. join-ap d (λ j. f i j ∷ []) (λ j. g i j ∷ []) (λ j m. ap (λ (a : A). a ∷ []) (h i j l m)))
+  table-ap n d f g h = join-ap n (λ i. listOf d (f i)) (λ i. listOf d (g i)) (λ i l. join-ap d (λ j. f i j ∷ []) (λ j. g i j ∷ [])
+      (λ j m. ap (λ (a : A). a ∷ []) (h i j l m)))
 
 -- what holds of every place by row and column holds of every place
 pub by-row : (P : ℕ → Type 0) (n d : ℕ) → ((i j : ℕ) → i < n → j < d → P (i * d + j)) → (p : ℕ) → p < n * d → P p

@@ -17,7 +17,8 @@ module _ {A : Type 0} where
   window-append a b e l h g =
       let q : e - a ≡ (b - a) + (e - b) = omega arith in
       let k : a + (b - a) ≡ b = omega arith in
-      rw q (take-add (b - a) (e - b) (drop a l)) ∙ ap (λ (x : List A). window a b l ++ take (e - b) x) (drop-drop (b - a) a l ∙ ap (λ (i : ℕ). drop i l) k)
+      rw q (take-add (b - a) (e - b) (drop a l)) ∙ ap (λ (x : List A). window a b l ++ take (e - b) x)
+      (drop-drop (b - a) a l ∙ ap (λ (i : ℕ). drop i l) k)
 
   -- a part that lies in the first of two lists
   pub window-front : (a e : ℕ) (x y : List A) → a ≤ e → e ≤ length x → window a e (x ++ y) ≡ window a e x

@@ -41,7 +41,8 @@ module _ {A : Type 0} where
 
     -- what lies after is as it was
     pub window-after : (b f : ℕ) → e ≤ b → a ≤ e → e ≤ length l → length v ≡ e - a → window b f (splice a e v l) ≡ window b f l
-    window-after b f p q r s = ap (λ (t : List A). take (f - b) t) (from (splice a e v l) ∙ ap (λ (t : List A). drop (b - e) t) (drop-put a e l v q r s) ∙ sym (from l))
+    window-after b f p q r s = ap (λ (t : List A). take (f - b) t) (from (splice a e v l) ∙ ap (λ (t : List A). drop (b - e) t)
+        (drop-put a e l v q r s) ∙ sym (from l))
       where
         from : (t : List A) → drop b t ≡ drop (b - e) (drop e t)
         from t = let h : b ≡ e + (b - e) = omega arith in ap (λ (k : ℕ). drop k t) h ∙ sym (drop-drop (b - e) e t)
@@ -49,7 +50,12 @@ module _ {A : Type 0} where
     -- the last of two writes stands
     pub splice-splice : (u : List A) → a ≤ length l → length u ≡ e - a → splice a e v (splice a e u l) ≡ splice a e v l
     splice-splice u p r =
-        rw (take-put a (e - a) l u p, drop-at (take a l) (u ++ drop (e - a) (drop a l)) a (length-take-le a l p), drop-at u (drop (e - a) (drop a l)) (e - a) r)
+        rw (
+          take-put a (e - a) l u p,
+          drop-at (take a l) (u ++ drop (e - a) (drop a l)) a (length-take-le a l p),
+          drop-at u
+              (drop (e - a) (drop a l)) (e - a) r,
+        )
 
   -- a part of a part
   pub window-window : (a e b f : ℕ) (l : List A) → b ≤ f → a + f ≤ e → window b f (window a e l) ≡ window (a + b) (a + f) l
@@ -64,7 +70,8 @@ module _ {A : Type 0} where
       inside (suc b) k (suc n) (x ∷ l) h = inside b k n l (omega arith)
 
   -- a part of the whole as a part of a part: the places are what they are in numbers, however they are written
-  pub window-at : (a e b f b′ f′ : ℕ) (l : List A) → b′ ≡ a + b → f′ ≡ a + f → b ≤ f → a + f ≤ e → window b′ f′ l ≡ window b f (window a e l)
+  pub window-at : (a e b f b′ f′ : ℕ) (l : List A) → b′ ≡ a + b → f′ ≡ a + f → b ≤ f → a + f ≤ e → window b′ f′ l
+      ≡ window b f (window a e l)
   window-at a e b f b′ f′ l p q r t = rw (p, q) (sym (window-window a e b f l r t))
 
   -- a part put back as it was

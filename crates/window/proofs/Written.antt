@@ -27,12 +27,20 @@ module _ {A : Type 0} where
         let k : length (take a l ++ v) ≡ a + n = length-append (take a l) v ∙ ap (λ (i : ℕ). i + n) (length-take-le a l (omega arith)) in
         let w : written a v l ≡ (take a l ++ v) ++ drop (a + n) l = written-plain ∙ sym (append-assoc (take a l) v (drop (a + n) l)) in
         splice-plain (a + n) (a + n + length u) u (written a v l) (omega arith)
-        ∙ rw (w, take-at (take a l ++ v) (drop (a + n) l) (a + n) k, ← drop-drop (length u) (a + n) ((take a l ++ v) ++ drop (a + n) l), drop-at (take a l ++ v) (drop (a + n) l) (a + n) k, drop-drop (length u) (a + n) l)
+        ∙ rw (
+          w,
+          take-at (take a l ++ v) (drop (a + n) l) (a + n) k,
+          ← drop-drop (length u) (a + n) ((take a l ++ v) ++ drop (a + n) l),
+          drop-at (take a l ++ v) (drop (a + n) l) (a + n) k,
+          drop-drop (length u) (a + n) l,
+        )
         (rw (append-assoc (take a l) v (u ++ drop (a + n + length u) l), ← append-assoc v u (drop (a + n + length u) l))
-        (rw (let q : a + n + length u ≡ a + length (v ++ u) = rw (length-append v u) (omega arith) in q) (sym (splice-plain a (a + length (v ++ u)) (v ++ u) l (omega arith)))))
+        (rw (let q : a + n + length u ≡ a + length (v ++ u) = rw (length-append v u) (omega arith) in q)
+        (sym (splice-plain a (a + length (v ++ u)) (v ++ u) l (omega arith)))))
 
   -- of two writes that do not meet, either may be the first
-  pub written-apart : (a b : ℕ) (v u l : List A) → a + length v ≤ b → b + length u ≤ length l → written b u (written a v l) ≡ written a v (written b u l)
+  pub written-apart : (a b : ℕ) (v u l : List A) → a + length v ≤ b → b + length u ≤ length l → written b u (written a v l)
+      ≡ written a v (written b u l)
   written-apart a b v u l h g =
       let n = length v in
       let m = b - (a + n) in
@@ -42,29 +50,38 @@ module _ {A : Type 0} where
       let w : written a v l ≡ (take a l ++ v) ++ r = written-plain a v l ∙ sym (append-assoc (take a l) v r) in
       let eb : b ≡ length (take a l ++ v) + m = omega arith in
       let ec : b + length u ≡ length (take a l ++ v) + (m + length u) = omega arith in
-      let tk : take b ((take a l ++ v) ++ r) ≡ (take a l ++ v) ++ take m r = ap (λ (i : ℕ). take i ((take a l ++ v) ++ r)) eb ∙ take-append-add (take a l ++ v) r m in
+      let tk : take b ((take a l ++ v) ++ r) ≡ (take a l ++ v) ++ take m r = ap (λ (i : ℕ). take i ((take a l ++ v) ++ r)) eb
+      ∙ take-append-add (take a l ++ v) r m in
       let dp : drop (b + length u) ((take a l ++ v) ++ r) ≡ q =
-      ap (λ (i : ℕ). drop i ((take a l ++ v) ++ r)) ec ∙ drop-append-add (take a l ++ v) r (m + length u) ∙ drop-drop (m + length u) (a + n) l
+      ap (λ (i : ℕ). drop i ((take a l ++ v) ++ r)) ec ∙ drop-append-add (take a l ++ v) r (m + length u)
+      ∙ drop-drop (m + length u) (a + n) l
       ∙ ap (λ (i : ℕ). drop i l) {x = a + n + (m + length u)} {y = b + length u} (omega arith) in
       let lt : length (take b l) ≡ b = length-take-le b l (omega arith) in
       let mid : drop (a + n) (take b l) ≡ take m r = drop-take (a + n) b l in
-      let left : written b u (written a v l) ≡ ((take a l ++ v) ++ take m r) ++ (u ++ q) = written-plain b u (written a v l) ∙ rw (w, tk, dp) in
-      let y : take a (take b l ++ (u ++ q)) ≡ take a l = take-append-le a (take b l) (u ++ q) (omega arith) ∙ take-take a b l (omega arith) in
-      let x : drop (a + n) (take b l ++ (u ++ q)) ≡ take m r ++ (u ++ q) = drop-append-le (a + n) (take b l) (u ++ q) (omega arith) ∙ rw mid in
-      let right : written a v (written b u l) ≡ take a l ++ (v ++ (take m r ++ (u ++ q))) = written-plain a v (written b u l) ∙ rw (written-plain b u l, y, x) in
+      let left : written b u (written a v l) ≡ ((take a l ++ v) ++ take m r) ++ (u ++ q) = written-plain b u (written a v l)
+      ∙ rw (w, tk, dp) in
+      let y : take a (take b l ++ (u ++ q)) ≡ take a l = take-append-le a (take b l) (u ++ q) (omega arith)
+      ∙ take-take a b l (omega arith) in
+      let x : drop (a + n) (take b l ++ (u ++ q)) ≡ take m r ++ (u ++ q) = drop-append-le (a + n) (take b l) (u ++ q) (omega arith)
+      ∙ rw mid in
+      let right : written a v (written b u l) ≡ take a l ++ (v ++ (take m r ++ (u ++ q))) = written-plain a v (written b u l)
+      ∙ rw (written-plain b u l, y, x) in
       left ∙ append-assoc (take a l ++ v) (take m r) (u ++ q) ∙ append-assoc (take a l) v (take m r ++ (u ++ q)) ∙ sym right
 
   -- one element is written
   pub set-written : (l : List A) (a : ℕ) (x : A) → a < length l → set l a x ≡ written a (x ∷ []) l
-  set-written l a x h = set-split l a x h ∙ (let e : suc a ≡ a + 1 = omega arith in rw e (sym (splice-plain a (a + 1) (x ∷ []) l (omega arith))))
+  set-written l a x h = set-split l a x h ∙ (let e : suc a ≡ a + 1 = omega arith in rw e
+      (sym (splice-plain a (a + 1) (x ∷ []) l (omega arith))))
 
   -- one element more is written
-  pub set-next : (a : ℕ) (v l : List A) (x : A) → a + length v < length l → set (written a v l) (a + length v) x ≡ written a (v ++ (x ∷ [])) l
+  pub set-next : (a : ℕ) (v l : List A) (x : A) → a + length v < length l → set (written a v l) (a + length v) x
+      ≡ written a (v ++ (x ∷ [])) l
   set-next a v l x h =
       set-written (written a v l) (a + length v) x (rw (written-length a v l (omega arith)) h) ∙ written-next a v l (x ∷ []) (omega arith)
 
   -- the same, of a list f 0, f 1, ..
-  pub fill-next : (a : ℕ) (f : ℕ → A) (j : ℕ) (l : List A) (x : A) → a + j < length l → x ≡ f j → set (written a (listOf j f) l) (a + j) x ≡ written a (listOf (j + 1) f) l
+  pub fill-next : (a : ℕ) (f : ℕ → A) (j : ℕ) (l : List A) (x : A) → a + j < length l → x ≡ f j → set (written a (listOf j f) l) (a + j) x
+      ≡ written a (listOf (j + 1) f) l
   unfolding join
   fill-next a f j l x h e =
       let n = list-length j f in
@@ -124,7 +141,8 @@ module _ {A : Type 0} (s : List A) (n by : ℕ) where
   pub moved-read : (i : ℕ) (z : A) → i < n → n + by ≤ length s → getD (moved (i + 1)) i z ≡ getD s i z
   moved-read i z h room =
       let k = length-take-le (i + 1 + by) s (omega arith) in
-      List·getD-append (take (i + 1 + by) s) (window (i + 1) n s ++ drop (n + by) s) z i (omega arith) ∙ getD-take (i + 1 + by) s i z (omega arith)
+      List·getD-append (take (i + 1 + by) s) (window (i + 1) n s ++ drop (n + by) s) z i (omega arith)
+      ∙ getD-take (i + 1 + by) s i z (omega arith)
 
   pub moved-next : (i : ℕ) (z : A) → i < n → n + by ≤ length s → set (moved (i + 1)) (i + by) (getD s i z) ≡ moved i
   moved-next i z h room =
@@ -132,7 +150,8 @@ module _ {A : Type 0} (s : List A) (n by : ℕ) where
       let r = window (i + 1) n s ++ drop (n + by) s in
       let e : i + 1 + by ≡ suc (i + by) = omega arith in
       let q : n - i ≡ suc (n - (i + 1)) = omega arith in
-      let w : window i n s ≡ v ∷ window (i + 1) n s = rw (q, drop-cons s i z (omega arith)) (ap (λ (k : ℕ). v ∷ take (n - (i + 1)) (drop k s)) {x = suc i} {y = i + 1} (omega arith)) in
+      let w : window i n s ≡ v ∷ window (i + 1) n s = rw (q, drop-cons s i z (omega arith))
+      (ap (λ (k : ℕ). v ∷ take (n - (i + 1)) (drop k s)) {x = suc i} {y = i + 1} (omega arith)) in
       rw (e, take-suc s (i + by) z (omega arith), append-assoc (take (i + by) s) (getD s (i + by) z ∷ []) r)
       (set-at (take (i + by) s) (getD s (i + by) z) r v (i + by) (length-take-le (i + by) s (omega arith)) ∙ rw w)
 

@@ -1,4 +1,5 @@
--- `encoding::digits` meets its contract. The invariant: the i digits left of what is left of the number, before the digits there are, are all its digits.
+-- `encoding::digits` meets its contract. The invariant: the i digits left of what is left of the number, before the digits there are, are
+-- all its digits.
 use mathlib.Core.Path.{_≡_, refl, sym, ap, _∙_}
 use mathlib.Core.List.{List, []}
 use Prim.Native.Nat.{ℕ, suc, _-_, _+_, _%_, _/_, _≤_, _<_}
@@ -29,8 +30,14 @@ loop-holds c = (omega arith, (refl, refl))
 
 loop-again : tie.Need-loop-again Inv-loop μ-loop
 loop-again c =
-    let l = c .before .before .loop in
-    (omega arith, (simp length-set (omega arith), digit-more (l .i) (l .rest) (c .digit .result) (l .bytes) (omega arith) (omega arith) (c .digit .ensures) ∙ l .inv .1 .1))
+    let l = c .before .before .loop in (
+      omega arith,
+      (
+        simp length-set (omega arith),
+        digit-more (l .i) (l .rest) (c .digit .result) (l .bytes) (omega arith) (omega arith)
+            (c .digit .ensures) ∙ l .inv .1 .1,
+      ),
+    )
 
 returns : tie.Need-returns Inv-loop μ-loop
 unfolding hexDigits

@@ -12,7 +12,8 @@ unfolding div ofBits
 zero-over-zero = refl
 
 returns : tie.Need-returns
-returns c = zero-over-zero ∙ sym (ap (ofBits binary64) (sym (c .before .whole .ensures)) ∙ nan-pattern (c .before .whole .result) (c .if1 .taken))
+returns c = zero-over-zero ∙ sym (ap (ofBits binary64) (sym (c .before .whole .ensures))
+    ∙ nan-pattern (c .before .whole .result) (c .if1 .taken))
 
 float-from-bits-result : tie.Need-float-from-bits-result
 float-from-bits-result c = number-pattern (c .before .whole .result) (c .if1 .left)

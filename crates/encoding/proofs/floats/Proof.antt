@@ -31,7 +31,8 @@ loop-again c =
     let a = c .before .before .before .before .before .before .args in (
       omega arith,
       (
-        rw (l .inv .1 .0, floats-more (l .i) (a .bytes .now), c .float .ensures) (write-more (floatsOf (l .i) (a .bytes .now)) (a .cells .now) (l .i) _ (length-floats _ _) (omega arith)),
+        rw (l .inv .1 .0, floats-more (l .i) (a .bytes .now), c .float .ensures) (write-more (floatsOf (l .i) (a .bytes .now))
+            (a .cells .now) (l .i) _ (length-floats _ _) (omega arith)),
         simp length-set (omega arith),
       ),
     )

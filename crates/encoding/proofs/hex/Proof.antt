@@ -20,4 +20,5 @@ returns-2 c =
     (omega arith, rw (d .0, d .1, equal-number (c .before .before .args .x) (c .before .if1 .left)))
 
 pub hex-spec : {M : Type 1} → statement M
-hex-spec = tie.close (tie.spec (λ c. search needs) (λ c. search needs) (λ c. search needs) returns float-to-bits-digits (λ c κs. search needs) returns-2)
+hex-spec = tie.close (tie.spec (λ c. search needs) (λ c. search needs) (λ c. search needs) returns float-to-bits-digits
+    (λ c κs. search needs) returns-2)

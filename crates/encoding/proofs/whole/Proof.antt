@@ -31,7 +31,12 @@ cast-value c = omega (arith, c .shared-slice-known .given (c .before .before .lo
 add-value : tie.Need-add-value Inv-loop μ-loop
 add-value c =
     let l = c .before .before .loop in
-    omega (arith, c .shared-slice-known .given (l .i - 1), seven-bytes (l .value) (length (c .before .before .before .args .bytes .now) - l .i) (l .inv .1 .1) (omega arith))
+    omega (
+      arith,
+      c .shared-slice-known .given (l .i - 1),
+      seven-bytes (l .value) (length (c .before .before .before .args .bytes .now) -
+          l .i) (l .inv .1 .1) (omega arith),
+    )
 
 loop-again : tie.Need-loop-again Inv-loop μ-loop
 loop-again c =
@@ -39,8 +44,14 @@ loop-again c =
     let bytes = c .before .before .before .args .bytes .now in
     let e : l .i - 1 + 1 ≡ l .i = omega arith in
     let k : length bytes - (l .i - 1) ≡ length bytes - l .i + 1 = omega arith in
-    let b : getD bytes (l .i - 1) 0 < 256 = omega (arith, c .shared-slice-known .given (l .i - 1)) in
-    (omega arith, (rw (lowFirst-more bytes (l .i - 1) (omega arith), e, ← l .inv .1 .0), rw k (byte-more (l .value) (getD bytes (l .i - 1) 0) (length bytes - l .i) (l .inv .1 .1) b)))
+    let b : getD bytes (l .i - 1) 0 < 256 = omega (arith, c .shared-slice-known .given (l .i - 1)) in (
+      omega arith,
+      (
+        rw (lowFirst-more bytes (l .i - 1) (omega arith), e, ← l .inv .1 .0),
+        rw k
+            (byte-more (l .value) (getD bytes (l .i - 1) 0) (length bytes - l .i) (l .inv .1 .1) b),
+      ),
+    )
 
 returns : tie.Need-returns Inv-loop μ-loop
 returns c =
@@ -51,4 +62,5 @@ returns c =
 pub whole-spec : {M : Type 1} → statement M
 whole-spec =
     tie.close
-    (tie.spec Inv-loop μ-loop loop-holds (λ c. omega arith) mul-value (λ c. omega arith) cast-value add-value (λ c. omega arith) loop-again returns)
+    (tie.spec Inv-loop μ-loop loop-holds (λ c. omega arith) mul-value (λ c. omega arith) cast-value add-value (λ c. omega arith) loop-again
+    returns)

@@ -15,7 +15,9 @@ use Rattle.normal.proofs.add.Statement.{statement}
 use Rattle.normal.proofs.add.Tie as tie
 
 -- the band is written, then the right sides, which the band's writing left as they were
-both : (n d : ℕ) (l v u : List Float) (f : List Float → List Float) → length l ≡ sizeOf n d → length v ≡ 6 * n → length u ≡ n * d → u ≡ f (systemOf n d (splice 0 (6 * n) v l) .right) → systemOf n d (splice (6 * n) (6 * n + n * d) u (splice 0 (6 * n) v l)) ≡ record { band = v; right = f (systemOf n d l .right); scales = systemOf n d l .scales }
+both : (n d : ℕ) (l v u : List Float) (f : List Float → List Float) → length l ≡ sizeOf n d → length v ≡ 6 * n → length u ≡ n * d → u
+    ≡ f (systemOf n d (splice 0 (6 * n) v l) .right) → systemOf n d (splice (6 * n) (6 * n + n * d) u (splice 0 (6 * n) v l))
+    ≡ record { band = v; right = f (systemOf n d l .right); scales = systemOf n d l .scales }
 both n d l v u f h p q e =
     let b = lend-band n d l v h p in
     let g : length (splice 0 (6 * n) v l) ≡ sizeOf n d = length-splice 0 (6 * n) v l (omega arith) (omega arith) (omega arith) ∙ h in
@@ -29,7 +31,8 @@ returns c =
     let a = c .before .before .before .before .before .before .before .before .before .args in
     let v = c .before .before .before .before .before .before .add-band in
     let u = c .before .before .add-right in
-    both (a .n) (a .d) (a .sys .now) (v .last .0) (u .last .0) (addRightOf (a .a) (a .n) (a .d) (a .row)) (omega arith) (omega arith) (omega arith) (u .ensures) ∙ rw (v .ensures)
+    both (a .n) (a .d) (a .sys .now) (v .last .0) (u .last .0) (addRightOf (a .a) (a .n) (a .d) (a .row)) (omega arith) (omega arith)
+    (omega arith) (u .ensures) ∙ rw (v .ensures)
 
 pub add-spec : {M : Type 1} → statement M
 add-spec =

@@ -20,7 +20,8 @@ abbrev μ-loop : tie.MeasureT-loop
 μ-loop r₀ a n d axis row start residual i₀ r i = 6 - i
 
 -- the control is active, and its axes lie within the right sides
-within : (c : tie.Then1 Inv-loop μ-loop) → let a = c .before .before .before .before .before .before .args in let control = a .t5 .start + c .before .before .before .loop .i in (a .a ≤ control) × ((control - a .a) * a .d + a .d ≤ a .n * a .d)
+within : (c : tie.Then1 Inv-loop μ-loop) → let a = c .before .before .before .before .before .before .args in let control = a .t5 .start +
+    c .before .before .before .loop .i in (a .a ≤ control) × ((control - a .a) * a .d + a .d ≤ a .n * a .d)
 within c =
     let a = c .before .before .before .before .before .before .args in
     let control = a .t5 .start + c .before .before .before .loop .i in
@@ -60,8 +61,13 @@ loop-again c =
     let l = c .before .before .before .loop in
     let a = c .before .before .before .before .before .before .args in
     let t = c .before .is-active .ensures in
-    let e : c .if1 .r ≡ shareOf (a .a) (a .n) (a .d) (a .t5) (a .axis) (l .i) (l .r) = ⊎-elim (λ w. rw (sym t ∙ w .0 .taken) (w .3)) (λ w. rw (sym t ∙ w .0 .left) (w .1)) (c .if1 .came) in
-    (omega arith, ⊎-elim (λ w. rw (w .3) (simp length-set (omega arith))) (λ w. rw (w .1) (omega arith)) (c .if1 .came), rw e (sym (each-turn _ _ _ _ (omega arith)) ∙ l .inv .2))
+    let e : c .if1 .r ≡ shareOf (a .a) (a .n) (a .d) (a .t5) (a .axis) (l .i) (l .r) = ⊎-elim (λ w. rw (sym t ∙ w .0 .taken) (w .3))
+    (λ w. rw (sym t ∙ w .0 .left) (w .1)) (c .if1 .came) in (
+      omega arith,
+      ⊎-elim (λ w. rw (w .3) (simp length-set (omega arith))) (λ w. rw (w .1) (omega arith)) (c .if1 .came),
+      rw e
+          (sym (each-turn _ _ _ _ (omega arith)) ∙ l .inv .2),
+    )
 
 returns : tie.Need-returns Inv-loop μ-loop
 returns c = sym (each-done _ _ _ _ (c .loop-test .left)) ∙ c .before .loop .inv .2

@@ -35,8 +35,13 @@ loop-again c =
     let l = c .before .before .before .loop in
     let a = c .before .before .before .before .before .args in
     let t = c .before .is-active .ensures in
-    let e : c .if1 .h ≡ productsOf (a .a) (a .n) (a .row) (l .i) (l .h) = ⊎-elim (λ w. rw (sym t ∙ w .0 .taken) (w .5 ∙ w .2 .ensures)) (λ w. rw (sym t ∙ w .0 .left) (w .1)) (c .if1 .came) in
-    (omega arith, ⊎-elim (λ w. rw (w .5) (omega arith)) (λ w. rw (w .1) (omega arith)) (c .if1 .came), rw e (sym (each-turn _ _ _ _ (omega arith)) ∙ l .inv .2))
+    let e : c .if1 .h ≡ productsOf (a .a) (a .n) (a .row) (l .i) (l .h) = ⊎-elim (λ w. rw (sym t ∙ w .0 .taken) (w .5 ∙ w .2 .ensures))
+    (λ w. rw (sym t ∙ w .0 .left) (w .1)) (c .if1 .came) in (
+      omega arith,
+      ⊎-elim (λ w. rw (w .5) (omega arith)) (λ w. rw (w .1) (omega arith)) (c .if1 .came),
+      rw e
+          (sym (each-turn _ _ _ _ (omega arith)) ∙ l .inv .2),
+    )
 
 returns : tie.Need-returns Inv-loop μ-loop
 returns c = sym (each-done _ _ _ _ (omega arith)) ∙ c .before .loop .inv .2

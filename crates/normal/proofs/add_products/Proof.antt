@@ -27,8 +27,13 @@ unfolding productOf
 loop-again c =
     let l = c .before .before .loop in
     let a = c .before .before .before .args in
-    let e : c .if1 .h ≡ productOf (a .a) (a .t3) (a .i) (l .j) (l .h) = ⊎-elim (λ w. rw (le-leb _ _ (w .0 .taken)) (w .4)) (λ w. rw (lt-leb _ _ (w .0 .left)) (w .1)) (c .if1 .came) in
-    (omega arith, ⊎-elim (λ w. rw (w .4) (simp length-set (omega arith))) (λ w. rw (w .1) (omega arith)) (c .if1 .came), rw e (sym (each-turn _ _ _ _ (c .before .loop-test .taken)) ∙ l .inv .2))
+    let e : c .if1 .h ≡ productOf (a .a) (a .t3) (a .i) (l .j) (l .h) = ⊎-elim (λ w. rw (le-leb _ _ (w .0 .taken)) (w .4))
+    (λ w. rw (lt-leb _ _ (w .0 .left)) (w .1)) (c .if1 .came) in (
+      omega arith,
+      ⊎-elim (λ w. rw (w .4) (simp length-set (omega arith))) (λ w. rw (w .1) (omega arith)) (c .if1 .came),
+      rw e
+          (sym (each-turn _ _ _ _ (c .before .loop-test .taken)) ∙ l .inv .2),
+    )
 
 returns : tie.Need-returns Inv-loop μ-loop
 returns c = sym (each-done _ _ _ _ (c .loop-test .left)) ∙ c .before .loop .inv .2

@@ -26,8 +26,11 @@ returns c =
 loop-again : tie.Need-loop-again Inv-loop μ-loop
 loop-again c =
     let a = c .before .before .before .before .before .before .args in
-    let l = c .before .before .before .before .loop in
-    (omega arith, sym (any-next (a .positive) (a .s .now) (l .i) (omega arith) (sym (c .before .unfit .ensures) ∙ c .if1 .left)) ∙ l .inv .1)
+    let l = c .before .before .before .before .loop in (
+      omega arith,
+      sym (any-next (a .positive) (a .s .now) (l .i) (omega arith) (sym (c .before .unfit .ensures) ∙ c .if1 .left))
+          ∙ l .inv .1,
+    )
 
 returns-2 : tie.Need-returns-2 Inv-loop μ-loop
 returns-2 c =

@@ -29,8 +29,12 @@ unfolding divideOf
 loop-again c =
     let l = c .before .before .loop in
     let a = c .before .before .before .before .args in
-    let e = put-right (a .n) (a .d) (l .sys) (a .i * a .d + l .axis) _ (omega arith) in
-    (omega arith, simp length-set (omega arith), ap (each (divideOf (a .d) (a .i) _) (l .axis + 1) (a .d)) e ∙ rw (read-right (a .n) (a .d) (l .sys) (a .i * a .d + l .axis) (omega arith)) (sym (each-turn _ _ _ _ (omega arith)) ∙ l .inv .2))
+    let e = put-right (a .n) (a .d) (l .sys) (a .i * a .d + l .axis) _ (omega arith) in (
+      omega arith,
+      simp length-set (omega arith),
+      ap (each (divideOf (a .d) (a .i) _) (l .axis + 1) (a .d)) e
+          ∙ rw (read-right (a .n) (a .d) (l .sys) (a .i * a .d + l .axis) (omega arith)) (sym (each-turn _ _ _ _ (omega arith)) ∙ l .inv .2),
+    )
 
 returns : tie.Need-returns Inv-loop μ-loop
 returns c = sym (each-done _ _ _ _ (omega arith)) ∙ c .before .loop .inv .2

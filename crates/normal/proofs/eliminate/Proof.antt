@@ -22,7 +22,13 @@ loop-holds c = (omega arith, omega arith, refl, rw (c .saturating-sub .ensures))
 
 loop-again : tie.Need-loop-again Inv-loop μ-loop
 unfolding eliminateOf
-loop-again c = (omega arith, omega arith, simp length-set (omega arith), rw (c .before .reduced .ensures) (sym (each-turn _ _ _ _ (omega arith)) ∙ c .before .before .before .before .loop .inv .3))
+loop-again c = (
+  omega arith,
+  omega arith,
+  simp length-set (omega arith),
+  rw (c .before .reduced .ensures)
+      (sym (each-turn _ _ _ _ (omega arith)) ∙ c .before .before .before .before .loop .inv .3),
+)
 
 returns : tie.Need-returns Inv-loop μ-loop
 returns c = sym (each-done _ _ _ _ (omega arith)) ∙ c .before .loop .inv .3

@@ -1,4 +1,5 @@
--- `normal::factor` meets its contract. The invariant: the rows left, from the band as it is, give what the whole factoring gives, a refusal too.
+-- `normal::factor` meets its contract. The invariant: the rows left, from the band as it is, give what the whole factoring gives, a refusal
+-- too.
 use mathlib.Core.Path.{_≡_, refl, sym, ap, _∙_}
 use mathlib.Core.List.{List}
 use Prim.Native.Nat.{_-_, _≤_}
@@ -37,8 +38,12 @@ loop-again c =
     let l = c .before .before .before .before .before .before .before .before .before .before .loop in
     let e = c .before .before .before .before .before .before .before .eliminate .ensures in
     let v = c .before .before .before .reduced .ensures ∙ ap (λ (g : List Float). reducedOf g (l .i) (l .i)) e in
-    let t = sym (c .before .before .unfit .ensures) ∙ c .before .if1 .left in
-    (omega arith, simp length-set (omega arith), rw (c .sqrt .ensures .0, e) (sym (till-next _ _ _ _ _ _ (omega arith) (pivot-next (l .i) (l .h) _ v t)) ∙ l .inv .2))
+    let t = sym (c .before .before .unfit .ensures) ∙ c .before .if1 .left in (
+      omega arith,
+      simp length-set (omega arith),
+      rw (c .sqrt .ensures .0, e)
+          (sym (till-next _ _ _ _ _ _ (omega arith) (pivot-next (l .i) (l .h) _ v t)) ∙ l .inv .2),
+    )
 
 returns-2 : tie.Need-returns-2 Inv-loop μ-loop
 returns-2 c =

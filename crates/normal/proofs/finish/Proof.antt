@@ -8,21 +8,31 @@ use Rattle.normal.proofs.finish.Statement.{statement}
 use Rattle.normal.proofs.finish.Tie as tie
 
 -- what the three phases come to
-substituted : (c : tie.After-any-unfit) → let a = c .before .before .before .before .before .before .before .before .before .before .before .before .before .before .before .before .args in systemOf (a .n) (a .d) (c .before .before .before .before .before .unscale .last .0) ≡ unscaleOf (a .n) (a .d) (backwardOf (a .n) (a .d) (forwardOf (a .n) (a .d) (systemOf (a .n) (a .d) (a .sys .now))))
+substituted : (c : tie.After-any-unfit) → let a = c .before .before .before .before .before .before .before .before .before .before .before
+    .before .before .before .before .before .args in systemOf (a .n) (a .d) (c .before .before .before .before .before .unscale .last .0)
+    ≡ unscaleOf (a .n) (a .d) (backwardOf (a .n) (a .d) (forwardOf (a .n) (a .d) (systemOf (a .n) (a .d) (a .sys .now))))
 substituted c =
-    let a = c .before .before .before .before .before .before .before .before .before .before .before .before .before .before .before .before .args in
-    c .before .before .before .before .before .unscale .ensures ∙ ap (unscaleOf (a .n) (a .d)) (c .before .before .before .before .before .before .before .before .before .backward .ensures ∙ ap (backwardOf (a .n) (a .d)) (c .before .before .before .before .before .before .before .before .before .before .before .before .before .forward .ensures))
+    let a = c .before .before .before .before .before .before .before .before .before .before .before .before .before .before .before
+    .before .args in
+    c .before .before .before .before .before .unscale .ensures ∙ ap (unscaleOf (a .n) (a .d))
+    (c .before .before .before .before .before .before .before .before .before .backward .ensures
+    ∙ ap (backwardOf (a .n) (a .d)) (c .before .before .before .before .before .before .before .before .before .before .before .before
+    .before .forward .ensures))
 
 returns : tie.Need-returns
 returns c =
-    let a = c .before .before .before .before .before .before .before .before .before .before .before .before .before .before .before .before .before .args in
-    let f = bad-solution (a .n) (a .d) (systemOf (a .n) (a .d) (a .sys .now)) _ (substituted (c .before)) (sym (c .before .any-unfit .ensures) ∙ c .if1 .taken) in
+    let a = c .before .before .before .before .before .before .before .before .before .before .before .before .before .before .before
+    .before .before .args in
+    let f = bad-solution (a .n) (a .d) (systemOf (a .n) (a .d) (a .sys .now)) _ (substituted (c .before))
+    (sym (c .before .any-unfit .ensures) ∙ c .if1 .taken) in
     (sym (ap (λ (o : Outcome). o .number) f), sym (ap (λ (o : Outcome). o .system) f))
 
 returns-2 : tie.Need-returns-2
 returns-2 c =
-    let a = c .before .before .before .before .before .before .before .before .before .before .before .before .before .before .before .before .before .args in
-    let f = solution (a .n) (a .d) (systemOf (a .n) (a .d) (a .sys .now)) _ (substituted (c .before)) (sym (c .before .any-unfit .ensures) ∙ c .if1 .left) in
+    let a = c .before .before .before .before .before .before .before .before .before .before .before .before .before .before .before
+    .before .before .args in
+    let f = solution (a .n) (a .d) (systemOf (a .n) (a .d) (a .sys .now)) _ (substituted (c .before))
+    (sym (c .before .any-unfit .ensures) ∙ c .if1 .left) in
     (sym (ap (λ (o : Outcome). o .number) f), sym (ap (λ (o : Outcome). o .system) f))
 
 pub finish-spec : {M : Type 1} → statement M

@@ -19,7 +19,8 @@ abbrev μ-loop : tie.MeasureT-loop
 μ-loop sys n d i axis right end v₀ k₀ v k = end - k
 
 -- the other control's axes lie within the right sides
-within : (c : tie.In-loop Inv-loop μ-loop) → let l = c .before .loop in let a = c .before .before .before .before .before .args in (a .i - l .k) * a .d ≤ a .i * a .d
+within : (c : tie.In-loop Inv-loop μ-loop) → let l = c .before .loop in let a = c .before .before .before .before .before .args in
+    (a .i - l .k) * a .d ≤ a .i * a .d
 within c =
     let l = c .before .loop in
     let a = c .before .before .before .before .before .args in
@@ -28,8 +29,15 @@ within c =
 loop-holds : tie.Need-loop-holds Inv-loop μ-loop
 unfolding forwardValueOf
 loop-holds c =
-    let a = c .before .before .before .args in
-    (omega arith, omega arith, rw (c .before .row-length .ensures, read-right (a .n) (a .d) (a .sys .now) (a .i * a .d + a .axis) (omega arith)))
+    let a = c .before .before .before .args in (
+      omega arith,
+      omega arith,
+      rw (
+        c .before .row-length .ensures,
+        read-right (a .n) (a .d) (a .sys .now) (a .i * a .d + a .axis)
+            (omega arith),
+      ),
+    )
 
 mul-v-5 : tie.Need-mul-v-5 Inv-loop μ-loop
 mul-v-5 c = omega (arith, within (c .before))
@@ -51,8 +59,13 @@ unfolding forwardTermOf
 loop-again c =
     let l = c .before .before .before .loop in
     let a = c .before .before .before .before .before .before .before .args in
-    let h = within (c .before .before) in
-    (omega arith, omega arith, ap (each (forwardTermOf (a .d) (a .i) (a .axis) (systemOf (a .n) (a .d) (a .sys .now))) (l .k + 1) _) (less-product (a .n) (a .d) (a .sys .now) (l .v) (6 * a .i + l .k) ((a .i - l .k) * a .d + a .axis) (omega arith) (omega arith)) ∙ sym (each-turn _ _ _ _ (omega arith)) ∙ l .inv .2)
+    let h = within (c .before .before) in (
+      omega arith,
+      omega arith,
+      ap (each (forwardTermOf (a .d) (a .i) (a .axis) (systemOf (a .n) (a .d) (a .sys .now))) (l .k + 1) _)
+          (less-product (a .n) (a .d) (a .sys .now) (l .v) (6 * a .i + l .k) ((a .i - l .k) * a .d + a .axis) (omega arith) (omega arith))
+          ∙ sym (each-turn _ _ _ _ (omega arith)) ∙ l .inv .2,
+    )
 
 returns : tie.Need-returns Inv-loop μ-loop
 returns c = sym (each-done _ _ _ _ (omega arith)) ∙ c .before .loop .inv .2

@@ -27,8 +27,15 @@ unfolding rootOf
 loop-again c =
     let l = c .before .before .before .loop in
     let a = c .before .before .before .before .before .args in
-    let e = put-scale (a .n) (a .d) (l .sys) (l .i) (c .sqrt .result) (omega arith) in
-    (omega arith, simp length-set (omega arith), ap (each rootOf (l .i + 1) (a .n)) e ∙ rw (c .sqrt .ensures .0, read-band (a .n) (a .d) (l .sys) (6 * l .i) (omega arith)) (sym (each-turn _ _ _ _ (omega arith)) ∙ l .inv .2))
+    let e = put-scale (a .n) (a .d) (l .sys) (l .i) (c .sqrt .result) (omega arith) in (
+      omega arith,
+      simp length-set (omega arith),
+      ap (each rootOf (l .i + 1) (a .n)) e ∙ rw (
+        c .sqrt .ensures .0,
+        read-band (a .n) (a .d)
+            (l .sys) (6 * l .i) (omega arith),
+      ) (sym (each-turn _ _ _ _ (omega arith)) ∙ l .inv .2),
+    )
 
 returns : tie.Need-returns Inv-loop μ-loop
 returns c = sym (each-done _ _ _ _ (omega arith)) ∙ c .before .loop .inv .2

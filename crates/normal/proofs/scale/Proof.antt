@@ -25,14 +25,19 @@ loop-holds c = (omega arith, refl, refl)
 divide-row-requires : tie.Need-divide-row-requires Inv-loop μ-loop
 divide-row-requires c κs =
     let a = c .before .before .before .before .before .before .before .before .args in
-    omega (arith, row-end (c .before .before .before .before .before .before .loop .i) (a .n) (a .d) (a .n * a .d) (omega arith) (omega arith))
+    omega (
+      arith,
+      row-end (c .before .before .before .before .before .before .loop .i) (a .n) (a .d) (a .n * a .d) (omega arith)
+          (omega arith),
+    )
 
 loop-again : tie.Need-loop-again Inv-loop μ-loop
 unfolding scaleBothOf
 loop-again c =
     let l = c .before .before .before .before .before .before .before .before .before .loop in
     let a = c .before .before .before .before .before .before .before .before .before .before .before .args in
-    let e = c .before .before .divide-row .ensures ∙ ap (divideRowOf (a .d) (l .i)) (c .before .before .before .before .before .before .scale-row .ensures) in
+    let e = c .before .before .divide-row .ensures ∙ ap (divideRowOf (a .d) (l .i))
+    (c .before .before .before .before .before .before .scale-row .ensures) in
     (omega arith, omega arith, ap (each (scaleBothOf (a .d)) (l .i + 1) (a .n)) e ∙ sym (each-turn _ _ _ _ (omega arith)) ∙ l .inv .2)
 
 returns : tie.Need-returns Inv-loop μ-loop

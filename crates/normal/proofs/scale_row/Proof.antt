@@ -1,4 +1,5 @@
--- `normal::scale_row` meets its contract. The invariant: the cells left of the row, from the system as it is, give what the whole row gives.
+-- `normal::scale_row` meets its contract. The invariant: the cells left of the row, from the system as it is, give what the whole row
+-- gives.
 use mathlib.Core.Path.{_≡_, refl, sym, ap, _∙_}
 use Prim.Native.Nat.{_+_, _-_, _*_, _≤_}
 use native.Mathlib.Omega.{arith}
@@ -27,8 +28,16 @@ unfolding scaleCellOf
 loop-again c =
     let l = c .before .before .before .before .loop in
     let a = c .before .before .before .before .before .before .before .args in
-    let e = put-band (a .n) (a .d) (l .sys) (6 * a .i + l .k) _ (omega arith) in
-    (omega arith, simp length-set (omega arith), ap (each (scaleCellOf (a .i)) (l .k + 1) _) e ∙ rw (read-band (a .n) (a .d) (l .sys) (6 * a .i + l .k) (omega arith), read-scale (a .n) (a .d) (l .sys) (a .i) (omega arith), read-scale (a .n) (a .d) (l .sys) (a .i - l .k) (omega arith)) (sym (each-turn _ _ _ _ (omega arith)) ∙ l .inv .2))
+    let e = put-band (a .n) (a .d) (l .sys) (6 * a .i + l .k) _ (omega arith) in (
+      omega arith,
+      simp length-set (omega arith),
+      ap (each (scaleCellOf (a .i)) (l .k + 1) _) e
+          ∙ rw (
+            read-band (a .n) (a .d) (l .sys) (6 * a .i + l .k) (omega arith),
+            read-scale (a .n) (a .d) (l .sys) (a .i) (omega arith),
+            read-scale (a .n) (a .d) (l .sys) (a .i - l .k) (omega arith),
+          ) (sym (each-turn _ _ _ _ (omega arith)) ∙ l .inv .2),
+    )
 
 returns : tie.Need-returns Inv-loop μ-loop
 returns c = sym (each-done _ _ _ _ (omega arith)) ∙ c .before .loop .inv .2

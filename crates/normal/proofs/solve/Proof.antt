@@ -13,21 +13,32 @@ use Rattle.normal.proofs.solve.Statement.{statement}
 use Rattle.normal.proofs.solve.Tie as tie
 
 -- the diagonal was fit, and the system is scaled
-scaled : (c : tie.After-factor) → let a = c .before .before .before .before .before .before .before .before .before .before .before .before .before .before .before .args in solveOf (a .n) (a .d) (systemOf (a .n) (a .d) (a .sys .now)) ≡ solveScaledOf (a .n) (a .d) (systemOf (a .n) (a .d) (c .before .before .before .before .scale .last .0))
+scaled : (c : tie.After-factor) → let a = c .before .before .before .before .before .before .before .before .before .before .before .before
+    .before .before .before .args in solveOf (a .n) (a .d) (systemOf (a .n) (a .d) (a .sys .now))
+    ≡ solveScaledOf (a .n) (a .d) (systemOf (a .n) (a .d) (c .before .before .before .before .scale .last .0))
 scaled c =
-    let a = c .before .before .before .before .before .before .before .before .before .before .before .before .before .before .before .args in
-    diagonal (a .n) (a .d) (systemOf (a .n) (a .d) (a .sys .now)) _ (c .before .before .before .before .before .before .before .before .before .before .before .before .roots .ensures) (sym (c .before .before .before .before .before .before .before .any-unfit .ensures) ∙ c .before .before .before .before .before .before .if1 .left) ∙ ap (solveScaledOf (a .n) (a .d)) (sym (c .before .before .before .before .scale .ensures))
+    let a = c .before .before .before .before .before .before .before .before .before .before .before .before .before .before
+    .before .args in
+    diagonal (a .n) (a .d) (systemOf (a .n) (a .d) (a .sys .now)) _
+    (c .before .before .before .before .before .before .before .before .before .before .before .before .roots .ensures)
+    (sym (c .before .before .before .before .before .before .before .any-unfit .ensures)
+    ∙ c .before .before .before .before .before .before .if1 .left) ∙ ap (solveScaledOf (a .n) (a .d))
+    (sym (c .before .before .before .before .scale .ensures))
 
 -- the band is factored, the rest is as it was
-factored : (c : tie.After-factor) → let a = c .before .before .before .before .before .before .before .before .before .before .before .before .before .before .before .args in let l = c .before .before .before .before .scale .last .0 in systemOf (a .n) (a .d) (splice 0 (6 * a .n) (c .factor .last .0) l) ≡ withBand (systemOf (a .n) (a .d) l) (c .factor .last .0)
+factored : (c : tie.After-factor) → let a = c .before .before .before .before .before .before .before .before .before .before .before
+    .before .before .before .before .args in let l = c .before .before .before .before .scale .last .0 in systemOf (a .n) (a .d)
+    (splice 0 (6 * a .n) (c .factor .last .0) l) ≡ withBand (systemOf (a .n) (a .d) l) (c .factor .last .0)
 factored c =
-    let a = c .before .before .before .before .before .before .before .before .before .before .before .before .before .before .before .args in
+    let a = c .before .before .before .before .before .before .before .before .before .before .before .before .before .before
+    .before .args in
     lend-band (a .n) (a .d) (c .before .before .before .before .scale .last .0) (c .factor .last .0) (omega arith) (omega arith)
 
 returns : tie.Need-returns
 returns c =
     let a = c .before .before .before .before .before .before .before .before .before .args in
-    let f = bad-diagonal (a .n) (a .d) (systemOf (a .n) (a .d) (a .sys .now)) _ (c .before .before .before .before .before .before .roots .ensures) (sym (c .before .any-unfit .ensures) ∙ c .if1 .taken) in
+    let f = bad-diagonal (a .n) (a .d) (systemOf (a .n) (a .d) (a .sys .now)) _
+    (c .before .before .before .before .before .before .roots .ensures) (sym (c .before .any-unfit .ensures) ∙ c .if1 .taken) in
     (sym (ap (λ (o : Outcome). o .number) f), sym (ap (λ (o : Outcome). o .system) f))
 
 returns-2 : tie.Need-returns-2
@@ -41,8 +52,10 @@ returns-3 : tie.Need-returns-3
 returns-3 c =
     let k = c .before .before .before .before .before .before .before in
     let p = k .factor in
-    let a = k .before .before .before .before .before .before .before .before .before .before .before .before .before .before .before .args in
-    let f = scaled k ∙ pivots _ _ _ _ _ (p .ensures .0) (p .ensures .1) (not-false _ (c .before .before .before .before .if2 .left)) ∙ ap (finishOf (a .n) (a .d)) (sym (factored k)) in
+    let a = k .before .before .before .before .before .before .before .before .before .before .before .before .before .before
+    .before .args in
+    let f = scaled k ∙ pivots _ _ _ _ _ (p .ensures .0) (p .ensures .1) (not-false _ (c .before .before .before .before .if2 .left))
+    ∙ ap (finishOf (a .n) (a .d)) (sym (factored k)) in
     let e = c .before .before .finish .ensures in
     (e .0 ∙ sym (ap (λ (o : Outcome). o .number) f), e .1 ∙ sym (ap (λ (o : Outcome). o .system) f))
 

@@ -26,7 +26,8 @@ loop-again c =
     (omega arith, (rw (l .inv .1 .0) (copy-more (a .src .now) (a .dst .now) (l .i) _ h (omega arith)), simp length-set (search needs)))
 
 -- the loop ends where the shorter of the two ends
-copied-at : (src dst : List Float) (i : ℕ) {l : List Float} → i ≡ min (length src) (length dst) → l ≡ take i src ++ drop i dst → l ≡ copied src dst
+copied-at : (src dst : List Float) (i : ℕ) {l : List Float} → i ≡ min (length src) (length dst) → l ≡ take i src ++ drop i dst → l
+    ≡ copied src dst
 copied-at src dst i e h = rw e at h
 
 returns : tie.Need-returns Inv-loop μ-loop

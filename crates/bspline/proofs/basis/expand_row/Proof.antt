@@ -12,7 +12,8 @@ use Rattle.bspline.proofs.basis.expand_row.Tie as tie
 
 abbrev Inv-loop : tie.InvT-loop
 Inv-loop b at saved left right j den next₀ upper₀ k₀ next upper k =
-    (k ≤ j + 1) × (each (expansionTurn floats b at saved left right) k (j + 1) (record { next = next; upper = upper }) ≡ expand floats b at saved left right j)
+    (k ≤ j + 1) × (each (expansionTurn floats b at saved left right) k (j + 1) (record { next = next; upper = upper })
+    ≡ expand floats b at saved left right j)
 
 abbrev μ-loop : tie.MeasureT-loop
 μ-loop b at saved left right j den next₀ upper₀ k₀ next upper k = (j + 1) - k

@@ -13,7 +13,8 @@ use Rattle.bspline.proofs.basis.raise.Tie as tie
 
 abbrev Inv-loop : tie.InvT-loop
 Inv-loop j left right b₀ saved₀ r₀ b saved r =
-    (r ≤ j) × (each (innerTurn floats left right j) r j (record { row = b; saved = saved }) ≡ each (innerTurn floats left right j) 0 j (record { row = b₀; saved = saved₀ }))
+    (r ≤ j) × (each (innerTurn floats left right j) r j (record { row = b; saved = saved })
+    ≡ each (innerTurn floats left right j) 0 j (record { row = b₀; saved = saved₀ }))
 
 abbrev μ-loop : tie.MeasureT-loop
 μ-loop j left right b₀ saved₀ r₀ b saved r = j - r

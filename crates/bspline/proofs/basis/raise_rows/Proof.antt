@@ -1,4 +1,5 @@
--- `basis::raise_rows` meets its contract. The invariant: the rows left, from the table now, give the table of degree j but for its last row.
+-- `basis::raise_rows` meets its contract. The invariant: the rows left, from the table now, give the table of degree j but for its last
+-- row.
 use mathlib.Core.Path.{_≡_, refl, sym, _∙_}
 use Prim.Native.Nat.{_≤_, _-_}
 use native.Mathlib.Omega.{arith}
@@ -11,7 +12,8 @@ use Rattle.bspline.proofs.basis.raise_rows.Tie as tie
 
 abbrev Inv-loop : tie.InvT-loop
 Inv-loop t span x j b₀ saved₀ r₀ b saved r =
-    (r ≤ j) × (each (rowTurn floats t span x j) r j (record { rows = b; saved = saved }) ≡ each (rowTurn floats t span x j) 0 j (record { rows = b₀; saved = saved₀ }))
+    (r ≤ j) × (each (rowTurn floats t span x j) r j (record { rows = b; saved = saved }) ≡ each (rowTurn floats t span x j) 0 j (record
+    { rows = b₀; saved = saved₀ }))
 
 abbrev μ-loop : tie.MeasureT-loop
 μ-loop t span x j b₀ saved₀ r₀ b saved r = j - r

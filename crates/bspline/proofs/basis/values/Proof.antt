@@ -12,7 +12,8 @@ use Rattle.bspline.proofs.basis.values.Tie as tie
 
 abbrev Inv-loop : tie.InvT-loop
 Inv-loop t span x b₀ left₀ right₀ j₀ b left right j =
-    (1 ≤ j) × (j ≤ 6) × (each (outerTurn floats t span x) j 6 (record { row = b; left = left; right = right }) .row ≡ valuesOf floats t span x)
+    (1 ≤ j) × (j ≤ 6) × (each (outerTurn floats t span x) j 6 (record { row = b; left = left; right = right }) .row
+    ≡ valuesOf floats t span x)
 
 abbrev μ-loop : tie.MeasureT-loop
 μ-loop t span x b₀ left₀ right₀ j₀ b left right j = 6 - j
@@ -23,7 +24,13 @@ loop-holds c = (omega arith, omega arith, refl)
 
 loop-again : tie.Need-loop-again Inv-loop μ-loop
 unfolding outerTurn
-loop-again c = (omega arith, omega arith, rw (c .before .raise .ensures) (ap (λ (s : Outer Float). s .row) (sym (each-turn _ _ _ _ (c .before .before .before .before .loop-test .taken))) ∙ c .before .before .before .before .before .loop .inv .2))
+loop-again c = (
+  omega arith,
+  omega arith,
+  rw (c .before .raise .ensures) (ap (λ (s : Outer Float). s .row)
+      (sym (each-turn _ _ _ _ (c .before .before .before .before .loop-test .taken)))
+      ∙ c .before .before .before .before .before .loop .inv .2),
+)
 
 returns : tie.Need-returns Inv-loop μ-loop
 returns c = ap (λ (s : Outer Float). s .row) (sym (each-done _ _ _ _ (c .loop-test .left))) ∙ c .before .loop .inv .2

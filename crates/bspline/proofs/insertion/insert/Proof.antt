@@ -28,10 +28,16 @@ insert-knot-requires c κs =
 
 returns : tie.Need-returns
 returns c =
-    let a = c .before .before .before .before .before .before .before .before .before .before .before .before .before .before .before .args in
+    let a = c .before .before .before .before .before .before .before .before .before .before .before .before .before .before
+    .before .args in
     let s = c .before .before .before .before .before .before .before .before .before .before .before .span in
     let w = c .before .before .before .before .before .before .before .before .insert-weights in
-    rw (c .before .before .insert-knot .ensures, c .before .before .before .before .before .before .insert-controls .ensures, w .ensures, s .ensures)
+    rw (
+      c .before .before .insert-knot .ensures,
+      c .before .before .before .before .before .before .insert-controls .ensures,
+      w .ensures,
+      s .ensures,
+    )
     (inserted-is (a .s) (a .x) (a .work .now) (omega arith) (omega arith) (omega arith))
 
 pub insert-spec : {M : Type 1} → statement M

@@ -1,5 +1,5 @@
--- `insertion::insert_controls` meets its contract. The invariant: whatever list was shifted, the controls from i on are as they are to be, and those
--- below as they were.
+-- `insertion::insert_controls` meets its contract. The invariant: whatever list was shifted, the controls from i on are as they are to be,
+-- and those below as they were.
 use mathlib.Core.Path.{_≡_, refl}
 use mathlib.Core.List.{List}
 use Prim.Native.Nat.{_+_, _-_, _*_, _≤_}
@@ -17,7 +17,8 @@ use Rattle.bspline.proofs.insertion.insert_controls.Tie as tie
 abbrev Inv-loop : tie.InvT-loop
 Inv-loop c₀ d m k w low i₀ c i =
     (low ≡ k - 4) × (low ≤ i) × (i ≤ k + 1) × (length c ≡ length c₀)
-    × ((old : List Float) → (m + 1) * d ≤ length old → c₀ ≡ splice (k * d + d) (m * d + d) (window (k * d) (m * d) old) old → Mixing floats (weightAt floats (w .alpha) k) d m k old i c)
+    × ((old : List Float) → (m + 1) * d ≤ length old → c₀ ≡ splice (k * d + d) (m * d + d) (window (k * d) (m * d) old) old
+    → Mixing floats (weightAt floats (w .alpha) k) d m k old i c)
 
 abbrev μ-loop : tie.MeasureT-loop
 μ-loop c₀ d m k w low i₀ c i = i
@@ -44,7 +45,8 @@ loop-holds c =
       omega arith,
       omega arith,
       refl,
-      λ old room e. rw e (mixing-start floats (weightAt floats (a .t2 .alpha) (a .k)) (a .d) (a .m) (a .k) old (omega arith) (omega arith) room),
+      λ old room e. rw e (mixing-start floats (weightAt floats (a .t2 .alpha) (a .k)) (a .d) (a .m) (a .k) old (omega arith) (omega arith)
+          room),
     )
 
 mul-mix-row : tie.Need-mul-mix-row Inv-loop μ-loop
@@ -57,7 +59,12 @@ mix-row-requires : tie.Need-mix-row-requires Inv-loop μ-loop
 mix-row-requires c κs =
     let l = c .before .before .before .loop in
     let a = c .before .before .before .before .before .before .before .before .before .args in
-    omega (arith, row-end (l .i - 1) (a .m + 1) (a .d) (length (a .c .now)) (omega arith) (omega arith), row-start (l .i - 1) (a .d) (omega arith))
+    omega (
+      arith,
+      row-end (l .i - 1) (a .m + 1) (a .d) (length (a .c .now)) (omega arith) (omega arith),
+      row-start (l .i - 1) (a .d)
+          (omega arith),
+    )
 
 loop-again : tie.Need-loop-again Inv-loop μ-loop
 loop-again c =
@@ -70,7 +77,8 @@ loop-again c =
       omega arith,
       omega arith,
       λ old room e. rw (c .before .before .mix-row .ensures)
-          (mixing-next floats alpha (a .d) (a .m) (a .k) old (omega arith) (omega arith) room (l .i - 1) (l .c) _ (omega arith) (omega arith) (rw (l .inv .0)) (rw q (l .inv .4 old room e))),
+          (mixing-next floats alpha (a .d) (a .m) (a .k) old (omega arith) (omega arith) room (l .i - 1) (l .c) _ (omega arith)
+          (omega arith) (rw (l .inv .0)) (rw q (l .inv .4 old room e))),
     )
 
 returns : tie.Need-returns Inv-loop μ-loop

@@ -19,9 +19,16 @@ knot-put : (t : List Float) (x : Float) (n k : ℕ) → k < n → n < length t
 knot-put t x n k h g =
     let r = window (k + 1) n t ++ drop (n + 1) t in
     let e : k + 1 + 1 ≡ suc (k + 1) = omega arith in
-    rw (splice-plain (k + 1 + 1) (n + 1) (window (k + 1) n t) t (omega arith), e, take-suc t (k + 1) nan (omega arith), append-assoc (take (k + 1) t) (getD t (k + 1) nan ∷ []) r)
+    rw (
+      splice-plain (k + 1 + 1) (n + 1) (window (k + 1) n t) t (omega arith),
+      e,
+      take-suc t (k + 1) nan (omega arith),
+      append-assoc
+          (take (k + 1) t) (getD t (k + 1) nan ∷ []) r,
+    )
     (set-at (take (k + 1) t) (getD t (k + 1) nan) r x (k + 1) (length-take-le (k + 1) t (omega arith))
-    ∙ rw (take-take (k + 1) n t (omega arith), drop-take (k + 1) n t) (sym (append-assoc (take (k + 1) t) (x ∷ window (k + 1) n t) (drop (n + 1) t))))
+    ∙ rw (take-take (k + 1) n t (omega arith), drop-take (k + 1) n t)
+    (sym (append-assoc (take (k + 1) t) (x ∷ window (k + 1) n t) (drop (n + 1) t))))
 
 returns : tie.Need-returns
 returns c =
@@ -30,4 +37,5 @@ returns c =
 
 pub insert-knot-spec : {M : Type 1} → statement M
 insert-knot-spec =
-    tie.close (tie.spec (λ c. search needs) (λ c κs. search needs) (λ c. search needs) (λ c. search needs) (λ c. search needs) (λ c. search needs) returns)
+    tie.close (tie.spec (λ c. search needs) (λ c κs. search needs) (λ c. search needs) (λ c. search needs) (λ c. search needs)
+    (λ c. search needs) returns)

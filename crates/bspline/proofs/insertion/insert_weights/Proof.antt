@@ -32,8 +32,12 @@ loop-again : tie.Need-loop-again Inv-loop μ-loop
 loop-again c =
     let l = c .before .before .loop in
     let a = c .before .before .before .before .args in
-    let q : 0 + l .r ≡ l .r = omega arith in
-    (omega arith, refl, rw (l .inv .2) (rw q at (fill-next 0 (alphas (a .t .now) (a .x) (a .k)) (l .r) (zeros 5) (c .weight .result) (omega arith) (c .weight .ensures))))
+    let q : 0 + l .r ≡ l .r = omega arith in (
+      omega arith,
+      refl,
+      rw (l .inv .2) (rw q at (fill-next 0 (alphas (a .t .now) (a .x) (a .k)) (l .r) (zeros 5) (c .weight .result)
+          (omega arith) (c .weight .ensures))),
+    )
 
 returns : tie.Need-returns Inv-loop μ-loop
 returns c =

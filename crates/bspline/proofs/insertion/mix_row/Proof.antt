@@ -18,7 +18,8 @@ abbrev axis : List Float → ℕ → ℕ → Float → ℕ → Float
 axis c d at a i = mixed floats a (getD c (at - d + i) nan) (getD c (at + i) nan)
 
 -- one axis more
-mix-next : (c₀ c : List Float) (d at : ℕ) (a : Float) (j : ℕ) → d ≤ at → at + d ≤ length c₀ → j < d → c ≡ written at (listOf j (axis c₀ d at a)) c₀
+mix-next : (c₀ c : List Float) (d at : ℕ) (a : Float) (j : ℕ) → d ≤ at → at + d ≤ length c₀ → j < d → c
+    ≡ written at (listOf j (axis c₀ d at a)) c₀
     → set c (at + j) (axis c d at a j) ≡ written at (listOf (j + 1) (axis c₀ d at a)) c₀
 mix-next c₀ c d at a j h g l e =
     let v = listOf j (axis c₀ d at a) in
@@ -41,8 +42,12 @@ loop-holds c = (omega arith, refl, sym (written-none (c .args .at) (c .args .c .
 loop-again : tie.Need-loop-again Inv-loop μ-loop
 loop-again c =
     let l = c .before .before .before .loop in
-    let a = c .before .before .before .before .args in
-    (omega arith, simp length-set (omega arith), mix-next (a .c .now) (l .c) (a .d) (a .at) (a .a) (l .j) (omega arith) (omega arith) (omega arith) (l .inv .2))
+    let a = c .before .before .before .before .args in (
+      omega arith,
+      simp length-set (omega arith),
+      mix-next (a .c .now) (l .c) (a .d) (a .at) (a .a) (l .j) (omega arith) (omega arith)
+          (omega arith) (l .inv .2),
+    )
 
 returns : tie.Need-returns Inv-loop μ-loop
 returns c =

@@ -27,7 +27,8 @@ loop-again c =
       omega arith,
       omega arith,
       simp length-set (omega arith),
-      rw (g, moved-read (a .s .now) (a .n) (a .by) (l .i - 1) nan (omega arith) (omega arith)) (moved-next (a .s .now) (a .n) (a .by) (l .i - 1) nan (omega arith) (omega arith)),
+      rw (g, moved-read (a .s .now) (a .n) (a .by) (l .i - 1) nan (omega arith) (omega arith))
+          (moved-next (a .s .now) (a .n) (a .by) (l .i - 1) nan (omega arith) (omega arith)),
     )
 
 returns : tie.Need-returns Inv-loop μ-loop

@@ -1,4 +1,5 @@
--- `search::bisect` meets its contract. The invariant: the halvings left, from the part now, give what all give; there are at least as many as elements.
+-- `search::bisect` meets its contract. The invariant: the halvings left, from the part now, give what all give; there are at least as many
+-- as elements.
 use mathlib.Core.Path.{_≡_, refl, sym, _∙_}
 use Prim.Native.Nat.{ℕ, _+_, _-_, _/_, _≤_, _<_}
 use native.Mathlib.Omega.{arith}
@@ -15,7 +16,9 @@ use Rattle.bspline.proofs.search.bisect.Tie as tie
 
 abbrev Inv-loop : tie.InvT-loop
 Inv-loop list x side base₀ size₀ base size =
-    (1 ≤ size) × (base + size ≤ length list) × ((n : ℕ) × (size ≤ n) × (whilst several (halve nan (passes side x) list) n (record { base = base; size = size }) ≡ whilst several (halve nan (passes side x) list) (length list) (record { base = 0; size = length list })))
+    (1 ≤ size) × (base + size ≤ length list) × ((n : ℕ) × (size ≤ n) × (whilst several (halve nan (passes side x) list) n
+    (record { base = base; size = size }) ≡ whilst several (halve nan (passes side x) list) (length list)
+    (record { base = 0; size = length list })))
 
 abbrev μ-loop : tie.MeasureT-loop
 μ-loop list x side base₀ size₀ base size = size

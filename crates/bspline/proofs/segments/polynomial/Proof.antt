@@ -33,7 +33,8 @@ loop-again c =
         (
           omega arith,
           rw (p .ensures .0, p .ensures .1)
-              (partly-next (a .s) (a .breaks) (a .coefficients) (a .work .now) (omega arith) (omega arith) (omega arith) (omega arith) (l .span) (l .n) (l .work) (omega arith) (omega arith) (l .inv .1 .1 .1)),
+              (partly-next (a .s) (a .breaks) (a .coefficients) (a .work .now) (omega arith) (omega arith) (omega arith) (omega arith)
+              (l .span) (l .n) (l .work) (omega arith) (omega arith) (l .inv .1 .1 .1)),
         ),
       ),
     )
@@ -43,7 +44,8 @@ returns c =
     let a = c .before .before .before .args in
     let l = c .before .loop in
     let e : l .span ≡ a .s .count = omega arith in
-    partly-done (a .s) (a .breaks) (a .coefficients) (a .work .now) (omega arith) (omega arith) (omega arith) (omega arith) (l .n) (l .work) (omega arith) (rw e at (l .inv .1 .1 .1))
+    partly-done (a .s) (a .breaks) (a .coefficients) (a .work .now) (omega arith) (omega arith) (omega arith) (omega arith) (l .n) (l .work)
+    (omega arith) (rw e at (l .inv .1 .1 .1))
 
 pub polynomial-spec : {M : Type 1} → statement M
 polynomial-spec =

@@ -22,9 +22,11 @@ abbrev segments : List Float → List Float → Float → ℕ → ℕ → ℕ �
 segments rows c h at d i = segmentOf floats rows h c (at + i) d
 
 -- where the first i segments stand, the next one is written
-put-next : (rows : List Float) (h : Float) (c e at d to : ℕ) (w₀ w : List Float) (i : ℕ) (p : List Float) → e ≤ to → c ≤ e → i < d → to + 6 * d ≤ length w₀
+put-next : (rows : List Float) (h : Float) (c e at d to : ℕ) (w₀ w : List Float) (i : ℕ) (p : List Float) → e ≤ to → c ≤ e → i < d
+    → to + 6 * d ≤ length w₀
     → w ≡ written to (join i (segments rows (window c e w₀) h at d)) w₀ → p ≡ segmentOf floats rows h (window c e w) (at + i) d
-    → splice (to + 6 * i) (to + 6 * i + 6) (copied p (window (to + 6 * i) (to + 6 * i + 6) w)) w ≡ written to (join (i + 1) (segments rows (window c e w₀) h at d)) w₀
+    → splice (to + 6 * i) (to + 6 * i + 6) (copied p (window (to + 6 * i) (to + 6 * i + 6) w)) w
+    ≡ written to (join (i + 1) (segments rows (window c e w₀) h at d)) w₀
 put-next rows h c e at d to w₀ w i p et ce l room inv q =
     let f = segments rows (window c e w₀) h at d in
     let six : (j : ℕ) → j < i + 1 → length (f j) ≡ 6 = λ j g. segment-length floats rows h (window c e w₀) (at + j) d in
@@ -34,10 +36,12 @@ put-next rows h c e at d to w₀ w i p et ce l room inv q =
     let long : length w ≡ length w₀ = rw inv (written-length to (join i f) w₀ (omega arith)) in
     let lp : length p ≡ 6 = rw v (six i (omega arith)) in
     let lw = length-window (to + 6 * i) (to + 6 * i + 6) w (omega arith) (omega arith) in
-    rw (copied-all p (window (to + 6 * i) (to + 6 * i + 6) w) (omega arith), v, inv) (row-next to 6 i f w₀ (λ j g. six j (omega arith)) (omega arith))
+    rw (copied-all p (window (to + 6 * i) (to + 6 * i + 6) w) (omega arith), v, inv) (row-next to 6 i f w₀ (λ j g. six j (omega arith))
+    (omega arith))
 
 -- the slice keeps its length
-with-length : (rows : List Float) (h : Float) (c : List Float) (at d to i : ℕ) (w₀ : List Float) {w : List Float} → i ≤ d → to + 6 * d ≤ length w₀
+with-length : (rows : List Float) (h : Float) (c : List Float) (at d to i : ℕ) (w₀ : List Float) {w : List Float} → i ≤ d → to + 6 * d
+    ≤ length w₀
     → w ≡ written to (join i (segments rows c h at d)) w₀ → (length w ≡ length w₀) × (w ≡ written to (join i (segments rows c h at d)) w₀)
 with-length rows h c at d to i w₀ l room e =
     let n = join-length i 6 (segments rows c h at d) (λ j g. segment-length floats rows h c (at + j) d) in
@@ -68,9 +72,11 @@ loop-again c =
     let l = c .before .before .before .before .before .before .before .before .before .before .loop in
     let s = c .before .before .before .before .before .before .segment in (
       omega arith,
-      with-length (a .rows .rows) (a .h) (window (a .c) (a .e) (a .work .now)) (a .at) (a .d) (a .to) (l .i + 1) (a .work .now) (omega arith) (omega arith)
+      with-length (a .rows .rows) (a .h) (window (a .c) (a .e) (a .work .now)) (a .at) (a .d) (a .to) (l .i + 1) (a .work .now)
+          (omega arith) (omega arith)
           (rw (c .before .before .copy .ensures)
-          (put-next (a .rows .rows) (a .h) (a .c) (a .e) (a .at) (a .d) (a .to) (a .work .now) (l .work) (l .i) (s .result .powers) (omega arith) (omega arith) (omega arith) (omega arith) (l .inv .1 .1) (s .ensures))),
+          (put-next (a .rows .rows) (a .h) (a .c) (a .e) (a .at) (a .d) (a .to) (a .work .now) (l .work) (l .i) (s .result .powers)
+          (omega arith) (omega arith) (omega arith) (omega arith) (l .inv .1 .1) (s .ensures))),
     )
 
 returns : tie.Need-returns Inv-loop μ-loop

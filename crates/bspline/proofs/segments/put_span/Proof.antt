@@ -25,14 +25,17 @@ rooms : (c : tie.After-put-axes-arg) → let a = c .before .before .before .befo
     × (a .coefficients + a .n * (6 * a .s .axes) + 6 * a .s .axes ≤ length (a .work .now))
 rooms c =
     let a = c .before .before .before .before .before .before .before .before .args in
-    span-room (a .s .controls) (a .s .count) (a .s .axes) (a .span) (a .n) (a .breaks) (a .coefficients) (length (a .work .now)) (omega arith) (omega arith) (omega arith) (omega arith) (omega arith) (omega arith)
+    span-room (a .s .controls) (a .s .count) (a .s .axes) (a .span) (a .n) (a .breaks) (a .coefficients) (length (a .work .now))
+    (omega arith) (omega arith) (omega arith) (omega arith) (omega arith) (omega arith)
 
 returns-2 : tie.Need-returns-2
 returns-2 c =
     let a = c .before .before .before .before .before .before .before .before .before .before .before .args in
     let p = c .before .before .before .before .powers in
     rw (c .before .before .put-axes .ensures)
-    (span-put (a .s) (a .span) (a .work .now) (omega arith) (a .breaks) (a .coefficients) (a .n) (p .result .rows) (c .before .before .before .before .before .before .before .if1 .left) (p .ensures) (rooms (c .before .before .before) .2) (omega arith))
+    (span-put (a .s) (a .span) (a .work .now) (omega arith) (a .breaks) (a .coefficients) (a .n) (p .result .rows)
+    (c .before .before .before .before .before .before .before .if1 .left) (p .ensures) (rooms (c .before .before .before) .2)
+    (omega arith))
 
 pub put-span-spec : {M : Type 1} → statement M
 put-span-spec =

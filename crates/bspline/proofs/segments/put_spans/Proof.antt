@@ -14,7 +14,8 @@ use Rattle.bspline.proofs.segments.put_spans.Tie as tie
 abbrev Inv-loop : tie.InvT-loop
 Inv-loop work₀ s breaks coefficients from to span₀ work span =
     (5 ≤ span) × (length work ≡ length work₀)
-    × (each (λ (i : ℕ) (l : List Float). spanPut s breaks coefficients i (i - 5) l) span to work ≡ spansPut s breaks coefficients from to work₀)
+    × (each (λ (i : ℕ) (l : List Float). spanPut s breaks coefficients i (i - 5) l) span to work
+    ≡ spansPut s breaks coefficients from to work₀)
 
 abbrev μ-loop : tie.MeasureT-loop
 μ-loop work₀ s breaks coefficients from to span₀ work span = to - span

@@ -12,7 +12,8 @@ use Rattle.bspline.proofs.segments.scale_by.Tie as tie
 
 abbrev Inv-loop : tie.InvT-loop
 Inv-loop h p₀ scale₀ k₀ p scale k =
-    (k ≤ 6) × (each (scaleTurn floats h) k 6 (record { coefficients = p; scale = scale }) ≡ each (scaleTurn floats h) 0 6 (record { coefficients = p₀; scale = scale₀ }))
+    (k ≤ 6) × (each (scaleTurn floats h) k 6 (record { coefficients = p; scale = scale }) ≡ each (scaleTurn floats h) 0 6 (record
+    { coefficients = p₀; scale = scale₀ }))
 
 abbrev μ-loop : tie.MeasureT-loop
 μ-loop h p₀ scale₀ k₀ p scale k = 6 - k

@@ -27,23 +27,44 @@ loop-holds c = (omega arith, refl)
 
 mul-add-row : tie.Need-mul-add-row Inv-loop μ-loop
 mul-add-row c =
-    omega (arith, within (c .before .loop .r) (c .before .before .before .args .at) (c .before .before .before .args .d) (length (c .before .before .before .args .c .now)) (c .loop-test .taken) (omega arith))
+    omega (
+      arith,
+      within (c .before .loop .r) (c .before .before .before .args .at) (c .before .before .before .args .d)
+          (length (c .before .before .before .args .c .now)) (c .loop-test .taken) (omega arith),
+    )
 
 add-add-row : tie.Need-add-add-row Inv-loop μ-loop
 add-add-row c =
-    omega (arith, within (c .before .loop .r) (c .before .before .before .args .at) (c .before .before .before .args .d) (length (c .before .before .before .args .c .now)) (c .loop-test .taken) (omega arith))
+    omega (
+      arith,
+      within (c .before .loop .r) (c .before .before .before .args .at) (c .before .before .before .args .d)
+          (length (c .before .before .before .args .c .now)) (c .loop-test .taken) (omega arith),
+    )
 
 mul-add-row-2 : tie.Need-mul-add-row-2 Inv-loop μ-loop
 mul-add-row-2 c =
-    omega (arith, within (c .before .loop .r) (c .before .before .before .args .at) (c .before .before .before .args .d) (length (c .before .before .before .args .c .now)) (c .loop-test .taken) (omega arith))
+    omega (
+      arith,
+      within (c .before .loop .r) (c .before .before .before .args .at) (c .before .before .before .args .d)
+          (length (c .before .before .before .args .c .now)) (c .loop-test .taken) (omega arith),
+    )
 
 shared-slice-read-add-row : tie.Need-shared-slice-read-add-row Inv-loop μ-loop
 shared-slice-read-add-row c =
-    omega (arith, within (c .before .before .loop .r) (c .before .before .before .before .args .at) (c .before .before .before .before .args .d) (length (c .before .before .before .before .args .c .now)) (c .before .loop-test .taken) (omega arith))
+    omega (
+      arith,
+      within (c .before .before .loop .r) (c .before .before .before .before .args .at)
+          (c .before .before .before .before .args .d) (length (c .before .before .before .before .args .c .now)) (c .before .loop-test .taken)
+          (omega arith),
+    )
 
 loop-again : tie.Need-loop-again Inv-loop μ-loop
 unfolding addRow
-loop-again c = (omega arith, rw (c .before .add-row .ensures) (sym (each-turn _ _ _ _ (omega arith)) ∙ c .before .before .before .before .loop .inv .1))
+loop-again c = (
+  omega arith,
+  rw (c .before .add-row .ensures) (sym (each-turn _ _ _ _ (omega arith))
+      ∙ c .before .before .before .before .loop .inv .1),
+)
 
 returns : tie.Need-returns Inv-loop μ-loop
 unfolding segmentOf

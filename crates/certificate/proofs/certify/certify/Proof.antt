@@ -10,8 +10,11 @@ returns : tie.Need-returns
 returns c =
     let a = c .before .before .before .before .before .before .before .args in
     let s = slices (a .breaks .now) (a .coefficients .now) (a .other-breaks .now) (a .other-coefficients .now) in
-    let e = c .checked .ensures in
-    (e, λ F h. certificate-theorem (a .curve) s (a .points .now) (a .n) (a .spacing) (a .parameters .now) (a .axis) F (c .before .shared-slice-known6 .given) (sym e ∙ h))
+    let e = c .checked .ensures in (
+      e,
+      λ F h. certificate-theorem (a .curve) s (a .points .now) (a .n) (a .spacing) (a .parameters .now) (a .axis) F
+          (c .before .shared-slice-known6 .given) (sym e ∙ h),
+    )
 
 pub certify-spec : {M : Type 1} → statement M
 certify-spec = tie.close (tie.spec (λ c κs. search needs) returns)

@@ -1,4 +1,5 @@
--- `certify::checked` meets its contract: by cases on the checks, in their order. What is not refused is `Accepted`, and gives what the walk requires.
+-- `certify::checked` meets its contract: by cases on the checks, in their order. What is not refused is `Accepted`, and gives what the walk
+-- requires.
 use mathlib.Core.Path.{sym, ap, _∙_}
 use Prim.Native.Nat.{_*_, _≤_}
 use native.Mathlib.Nat.{mul-le-mul}
@@ -33,54 +34,125 @@ returns-3 c = rw (le-ltb 16 _ (c .before .before .if1 .left), le-ltb 20000 _ (c 
 
 returns-4 : tie.Need-returns-4
 unfolding certifyOf
-returns-4 c = rw (le-ltb 16 _ (c .before .before .before .before .if1 .left), le-ltb 20000 _ (c .before .before .before .if2 .left), eq-eqb _ _ (c .before .before .if3 .left), sym (c .before .unfit .ensures) ∙ c .if4 .taken)
+returns-4 c = rw (
+  le-ltb 16 _ (c .before .before .before .before .if1 .left),
+  le-ltb 20000 _ (c .before .before .before .if2 .left),
+  eq-eqb
+      _ _ (c .before .before .if3 .left),
+  sym (c .before .unfit .ensures) ∙ c .if4 .taken,
+)
 
 misplaced-requires : tie.Need-misplaced-requires
 misplaced-requires c κs =
-    let a = c .before .before .before .before .before .before .before .before .before .before .before .args in
-    (waypoint-count (a .curve .d) (a .n) (a .points .now) (sym (c .before .unfit .ensures) ∙ c .if4 .left), c .before .before .before .if2 .left)
+    let a = c .before .before .before .before .before .before .before .before .before .before .before .args in (
+      waypoint-count (a .curve .d) (a .n) (a .points .now) (sym (c .before .unfit .ensures) ∙ c .if4 .left),
+      c .before .before .before .if2 .left,
+    )
 
 returns-5 : tie.Need-returns-5
 unfolding certifyOf
-returns-5 c = rw (le-ltb 16 _ (c .before .before .before .before .before .before .if1 .left), le-ltb 20000 _ (c .before .before .before .before .before .if2 .left), eq-eqb _ _ (c .before .before .before .before .if3 .left), sym (c .before .before .before .unfit .ensures) ∙ c .before .before .if4 .left, sym (c .before .misplaced .ensures) ∙ c .if5 .taken)
+returns-5 c = rw (
+  le-ltb 16 _ (c .before .before .before .before .before .before .if1 .left),
+  le-ltb 20000 _
+      (c .before .before .before .before .before .if2 .left),
+  eq-eqb _ _ (c .before .before .before .before .if3 .left),
+  sym
+      (c .before .before .before .unfit .ensures) ∙ c .before .before .if4 .left,
+  sym (c .before .misplaced .ensures) ∙ c .if5 .taken,
+)
 
 unreliable-requires : tie.Need-unreliable-requires
 unreliable-requires c κs =
     let a = c .before .before .before .before .before .before .before .before .before .before .before .before .before .args in
-    let count = listed-count (a .spacing) (a .parameters .now) (a .n) (sym (c .before .misplaced .ensures) ∙ c .if5 .left) in
-    (waypoint-count (a .curve .d) (a .n) (a .points .now) (sym (c .before .before .before .unfit .ensures) ∙ c .before .before .if4 .left), c .before .before .before .before .before .if2 .left, λ e. let l = count e in omega arith)
+    let count = listed-count (a .spacing) (a .parameters .now) (a .n) (sym (c .before .misplaced .ensures) ∙ c .if5 .left) in (
+      waypoint-count (a .curve .d) (a .n) (a .points .now) (sym (c .before .before .before .unfit .ensures) ∙ c .before .before .if4 .left),
+      c .before .before .before .before .before .if2 .left,
+      λ e. let l = count e in omega arith,
+    )
 
 returns-6 : tie.Need-returns-6
 unfolding certifyOf
-returns-6 c = rw (le-ltb 16 _ (c .before .before .before .before .before .before .before .before .if1 .left), le-ltb 20000 _ (c .before .before .before .before .before .before .before .if2 .left), eq-eqb _ _ (c .before .before .before .before .before .before .if3 .left), sym (c .before .before .before .before .before .unfit .ensures) ∙ c .before .before .before .before .if4 .left, sym (c .before .before .before .misplaced .ensures) ∙ c .before .before .if5 .left, sym (c .before .unreliable .ensures) ∙ c .if6 .taken)
+returns-6 c = rw (
+  le-ltb 16 _ (c .before .before .before .before .before .before .before .before .if1 .left),
+  le-ltb 20000 _
+      (c .before .before .before .before .before .before .before .if2 .left),
+  eq-eqb _ _
+      (c .before .before .before .before .before .before .if3 .left),
+  sym (c .before .before .before .before .before .unfit .ensures)
+      ∙ c .before .before .before .before .if4 .left,
+  sym (c .before .before .before .misplaced .ensures)
+      ∙ c .before .before .if5 .left,
+  sym (c .before .unreliable .ensures) ∙ c .if6 .taken,
+)
 
 returns-7 : tie.Need-returns-7
 unfolding certifyOf
-returns-7 c = rw (le-ltb 16 _ (c .before .before .before .before .before .before .before .before .before .before .if1 .left), le-ltb 20000 _ (c .before .before .before .before .before .before .before .before .before .if2 .left), eq-eqb _ _ (c .before .before .before .before .before .before .before .before .if3 .left), sym (c .before .before .before .before .before .before .before .unfit .ensures) ∙ c .before .before .before .before .before .before .if4 .left, sym (c .before .before .before .before .before .misplaced .ensures) ∙ c .before .before .before .before .if5 .left, sym (c .before .before .before .unreliable .ensures) ∙ c .before .before .if6 .left, sym (c .before .well-formed .ensures) ∙ not-true _ (c .if7 .taken))
+returns-7 c = rw (
+  le-ltb 16 _ (c .before .before .before .before .before .before .before .before .before .before .if1 .left),
+  le-ltb 20000 _
+      (c .before .before .before .before .before .before .before .before .before .if2 .left),
+  eq-eqb _ _
+      (c .before .before .before .before .before .before .before .before .if3 .left),
+  sym
+      (c .before .before .before .before .before .before .before .unfit .ensures)
+      ∙ c .before .before .before .before .before .before .if4 .left,
+  sym (c .before .before .before .before .before .misplaced .ensures)
+      ∙ c .before .before .before .before .if5 .left,
+  sym (c .before .before .before .unreliable .ensures)
+      ∙ c .before .before .if6 .left,
+  sym (c .before .well-formed .ensures) ∙ not-true _ (c .if7 .taken),
+)
 
 position-requires : tie.Need-position-requires
 position-requires c κs =
-    let a = c .before .before .before .before .before .before .before .before .before .before .before .before .before .before .before .before .before .before .before .args in
-    let f = formed (a .curve) (slices (a .breaks .now) (a .coefficients .now) (a .other-breaks .now) (a .other-coefficients .now)) (sym (c .before .before .before .well-formed .ensures) ∙ not-false _ (c .before .before .if7 .left)) in
+    let a = c .before .before .before .before .before .before .before .before .before .before .before .before .before .before .before
+    .before .before .before .before .args in
+    let f = formed (a .curve) (slices (a .breaks .now) (a .coefficients .now) (a .other-breaks .now) (a .other-coefficients .now))
+    (sym (c .before .before .before .well-formed .ensures) ∙ not-false _ (c .before .before .if7 .left)) in
     omega (arith, f .k-high, f .d-high)
 
 returns-8 : tie.Need-returns-8
 unfolding certifyOf
-returns-8 c = rw (le-ltb 16 _ (c .before .before .before .before .before .before .before .before .before .before .before .before .before .before .if1 .left), le-ltb 20000 _ (c .before .before .before .before .before .before .before .before .before .before .before .before .before .if2 .left), eq-eqb _ _ (c .before .before .before .before .before .before .before .before .before .before .before .before .if3 .left), sym (c .before .before .before .before .before .before .before .before .before .before .before .unfit .ensures) ∙ c .before .before .before .before .before .before .before .before .before .before .if4 .left, sym (c .before .before .before .before .before .before .before .before .before .misplaced .ensures) ∙ c .before .before .before .before .before .before .before .before .if5 .left, sym (c .before .before .before .before .before .before .before .unreliable .ensures) ∙ c .before .before .before .before .before .before .if6 .left, sym (c .before .before .before .before .before .well-formed .ensures) ∙ not-false _ (c .before .before .before .before .if7 .left), ← c .before .position .ensures, le-ltb _ _ (c .if8 .taken))
+returns-8 c = rw (
+  le-ltb 16 _ (c .before .before .before .before .before .before .before .before .before .before .before .before .before
+      .before .if1 .left),
+  le-ltb 20000 _ (c .before .before .before .before .before .before .before .before .before .before .before .before
+      .before .if2 .left),
+  eq-eqb _ _ (c .before .before .before .before .before .before .before .before .before .before .before
+      .before .if3 .left),
+  sym (c .before .before .before .before .before .before .before .before .before .before .before .unfit .ensures)
+      ∙ c .before .before .before .before .before .before .before .before .before .before .if4 .left,
+  sym
+      (c .before .before .before .before .before .before .before .before .before .misplaced .ensures)
+      ∙ c .before .before .before .before .before .before .before .before .if5 .left,
+  sym
+      (c .before .before .before .before .before .before .before .unreliable .ensures)
+      ∙ c .before .before .before .before .before .before .if6 .left,
+  sym (c .before .before .before .before .before .well-formed .ensures)
+      ∙ not-false _ (c .before .before .before .before .if7 .left),
+  ← c .before .position .ensures,
+  le-ltb _ _ (c .if8 .taken),
+)
 
 walk-requires : tie.Need-walk-requires
 walk-requires c κs =
-    let a = c .before .before .before .before .before .before .before .before .before .before .before .before .before .before .before .before .before .before .before .before .before .args in
+    let a = c .before .before .before .before .before .before .before .before .before .before .before .before .before .before .before
+    .before .before .before .before .before .before .args in
     let s = (slices (a .breaks .now) (a .coefficients .now) (a .other-breaks .now) (a .other-coefficients .now)) in
     let A : Accepted (a .curve) s (a .points .now) (a .n) (a .spacing) (a .parameters .now) (a .axis) =
     record {
-      d-domain = c .before .before .before .before .before .before .before .before .before .before .before .before .before .before .if1 .left;
+      d-domain = c .before .before .before .before .before .before .before .before .before .before .before .before .before
+          .before .if1 .left;
       n-domain = c .before .before .before .before .before .before .before .before .before .before .before .before .before .if2 .left;
       cells = c .before .before .before .before .before .before .before .before .before .before .before .before .if3 .left;
-      points-fit = sym (c .before .before .before .before .before .before .before .before .before .before .before .unfit .ensures) ∙ c .before .before .before .before .before .before .before .before .before .before .if4 .left;
-      placed = sym (c .before .before .before .before .before .before .before .before .before .misplaced .ensures) ∙ c .before .before .before .before .before .before .before .before .if5 .left;
-      reliable = sym (c .before .before .before .before .before .before .before .unreliable .ensures) ∙ c .before .before .before .before .before .before .if6 .left;
-      well-formed = sym (c .before .before .before .before .before .well-formed .ensures) ∙ not-false _ (c .before .before .before .before .if7 .left);
+      points-fit = sym (c .before .before .before .before .before .before .before .before .before .before .before .unfit .ensures)
+          ∙ c .before .before .before .before .before .before .before .before .before .before .if4 .left;
+      placed = sym (c .before .before .before .before .before .before .before .before .before .misplaced .ensures)
+          ∙ c .before .before .before .before .before .before .before .before .if5 .left;
+      reliable = sym (c .before .before .before .before .before .before .before .unreliable .ensures)
+          ∙ c .before .before .before .before .before .before .if6 .left;
+      well-formed = sym (c .before .before .before .before .before .well-formed .ensures)
+          ∙ not-false _ (c .before .before .before .before .if7 .left);
       selected = rw (← c .before .position .ensures) (c .if8 .left);
     }
     in
@@ -100,13 +172,35 @@ walk-requires c κs =
       ),
       (
         breaks-rise (a .curve) s (a .points .now) (a .n) (a .spacing) (a .parameters .now) (a .axis) A,
-        parameters-rise (a .curve) s (a .points .now) (a .n) (a .spacing) (a .parameters .now) (a .axis) A (c .before .before .before .before .before .before .before .before .before .before .before .before .before .before .before .shared-slice-known6 .given),
+        parameters-rise (a .curve) s (a .points .now) (a .n) (a .spacing) (a .parameters .now) (a .axis) A
+            (c .before .before .before .before .before .before .before .before .before .before .before .before .before .before
+            .before .shared-slice-known6 .given),
       ),
     )
 
 returns-9 : tie.Need-returns-9
 unfolding certifyOf
-returns-9 c = rw (le-ltb 16 _ (c .before .before .before .before .before .before .before .before .before .before .before .before .before .before .before .before .if1 .left), le-ltb 20000 _ (c .before .before .before .before .before .before .before .before .before .before .before .before .before .before .before .if2 .left), eq-eqb _ _ (c .before .before .before .before .before .before .before .before .before .before .before .before .before .before .if3 .left), sym (c .before .before .before .before .before .before .before .before .before .before .before .before .before .unfit .ensures) ∙ c .before .before .before .before .before .before .before .before .before .before .before .before .if4 .left, sym (c .before .before .before .before .before .before .before .before .before .before .before .misplaced .ensures) ∙ c .before .before .before .before .before .before .before .before .before .before .if5 .left, sym (c .before .before .before .before .before .before .before .before .before .unreliable .ensures) ∙ c .before .before .before .before .before .before .before .before .if6 .left, sym (c .before .before .before .before .before .before .before .well-formed .ensures) ∙ not-false _ (c .before .before .before .before .before .before .if7 .left), ← c .before .before .before .position .ensures, lt-ltb _ _ (c .before .before .if8 .left)) (c .answer .ensures ∙ ap (outcome 0) (c .before .walk .ensures))
+returns-9 c = rw (
+  le-ltb 16 _ (c .before .before .before .before .before .before .before .before .before .before .before .before .before
+      .before .before .before .if1 .left),
+  le-ltb 20000 _
+      (c .before .before .before .before .before .before .before .before .before .before .before .before .before .before .before .if2 .left),
+  eq-eqb _ _ (c .before .before .before .before .before .before .before .before .before .before .before .before .before
+      .before .if3 .left),
+  sym (c .before .before .before .before .before .before .before .before .before .before .before .before
+      .before .unfit .ensures) ∙ c .before .before .before .before .before .before .before .before .before .before .before .before .if4 .left,
+  sym (c .before .before .before .before .before .before .before .before .before .before .before .misplaced .ensures)
+      ∙ c .before .before .before .before .before .before .before .before .before .before .if5 .left,
+  sym
+      (c .before .before .before .before .before .before .before .before .before .unreliable .ensures)
+      ∙ c .before .before .before .before .before .before .before .before .if6 .left,
+  sym
+      (c .before .before .before .before .before .before .before .well-formed .ensures)
+      ∙ not-false _ (c .before .before .before .before .before .before .if7 .left),
+  ← c .before .before .before .position .ensures,
+  lt-ltb _ _
+      (c .before .before .if8 .left),
+) (c .answer .ensures ∙ ap (outcome 0) (c .before .walk .ensures))
 
 pub checked-spec : {M : Type 1} → statement M
 checked-spec =

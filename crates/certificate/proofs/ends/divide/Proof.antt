@@ -11,7 +11,8 @@ returns : tie.Need-returns
 unfolding dividePairs
 returns c =
     let a = c .before .before .before .before .before .before .before .before .before .before .before .before .before .args in
-    operation-is (dividePairs binary64) divide-strict (a .x .good) (a .y .good) (a .x .low) (a .x .high) (a .y .low) (a .y .high) _ _ _ (c .kept3 .ensures) (c .before .kept2 .ensures)
+    operation-is (dividePairs binary64) divide-strict (a .x .good) (a .y .good) (a .x .low) (a .x .high) (a .y .low) (a .y .high) _ _ _
+    (c .kept3 .ensures) (c .before .kept2 .ensures)
     (rw (c .before .before .before .before .widened .ensures) at (c .before .before .kept .ensures))
 
 pub divide-spec : {M : Type 1} → statement M

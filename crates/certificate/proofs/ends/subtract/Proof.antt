@@ -11,7 +11,8 @@ returns : tie.Need-returns
 unfolding subtractPairs
 returns c =
     let a = c .before .before .before .before .before .before .before .before .before .before .before .args in
-    operation-is (subtractPairs binary64) subtract-strict (a .x .good) (a .y .good) (a .x .low) (a .x .high) (a .y .low) (a .y .high) _ _ _ (c .kept2 .ensures) (c .before .kept .ensures) (c .before .before .widened .ensures)
+    operation-is (subtractPairs binary64) subtract-strict (a .x .good) (a .y .good) (a .x .low) (a .x .high) (a .y .low) (a .y .high) _ _ _
+    (c .kept2 .ensures) (c .before .kept .ensures) (c .before .before .widened .ensures)
 
 pub subtract-spec : {M : Type 1} → statement M
 subtract-spec = tie.close (tie.spec (λ c κs. search needs) (λ c κs. search needs) (λ c κs. search needs) returns)

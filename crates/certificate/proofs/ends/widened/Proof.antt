@@ -11,12 +11,22 @@ returns c =
     let d = c .before .before .before .before in
     let high = d .before .before .before in
     let low = high .before .before .before in
-    let m = moved-is (low .lower3 .result) (high .higher3 .result) _ _ _ (rw (c .before .before .before .is-finite .ensures) at (c .kept2 .ensures)) (rw (c .before .before .is-finite2 .ensures) at (c .before .kept .ensures))
+    let m = moved-is (low .lower3 .result) (high .higher3 .result) _ _ _ (rw (c .before .before .before .is-finite .ensures)
+    at (c .kept2 .ensures)) (rw (c .before .before .is-finite2 .ensures) at (c .before .kept .ensures))
     (rw (d .before .before .next-down .ensures, d .before .next-up .ensures) at (d .finite-ends .ensures)) in
-    rw (low .lower3 .ensures, low .before .lower2 .ensures, low .before .before .lower .ensures, high .higher3 .ensures, high .before .higher2 .ensures, high .before .before .higher .ensures) at m
+    rw (
+      low .lower3 .ensures,
+      low .before .lower2 .ensures,
+      low .before .before .lower .ensures,
+      high .higher3 .ensures,
+      high .before .higher2 .ensures,
+      high .before .before .higher .ensures,
+    ) at m
 
 pub widened-spec : {M : Type 1} → statement M
 widened-spec =
     tie.close
-    (tie.spec (λ c κs. search needs) (λ c κs. search needs) (λ c κs. search needs) (λ c κs. search needs) (λ c κs. search needs) (λ c κs. search needs) (λ c κs. search needs)
-    (λ c κs. search needs) (λ c κs. search needs) (λ c κs. search needs) (λ c κs. search needs) (λ c κs. search needs) (λ c κs. search needs) returns)
+    (tie.spec (λ c κs. search needs) (λ c κs. search needs) (λ c κs. search needs) (λ c κs. search needs) (λ c κs. search needs)
+    (λ c κs. search needs) (λ c κs. search needs)
+    (λ c κs. search needs) (λ c κs. search needs) (λ c κs. search needs) (λ c κs. search needs) (λ c κs. search needs)
+    (λ c κs. search needs) returns)

@@ -36,7 +36,12 @@ loop-again c =
     let l = at-loop .loop in
     let a = at-loop .before .before .args in
     let f = terms (pairAt (a .t1 .ends)) (a .k) in
-    let t : endsOf (d .divide .result) ≡ f (l .j) = rw (d .divide .ensures, d .before .binomial2 .ensures, m .multiply .ensures, b .binomial .ensures) in
+    let t : endsOf (d .divide .result) ≡ f (l .j) = rw (
+      d .divide .ensures,
+      d .before .binomial2 .ensures,
+      m .multiply .ensures,
+      b .binomial .ensures,
+    ) in
     (omega arith, total-more ends 0 (l .j) (l .j + 1) (l .j) f _ _ _ (omega arith) (omega arith) (l .inv .1) t (c .add .ensures))
 
 returns : tie.Need-returns Inv-loop μ-loop
@@ -49,5 +54,6 @@ returns c =
 pub bernstein-spec : {M : Type 1} → statement M
 bernstein-spec =
     tie.close
-    (tie.spec Inv-loop μ-loop (λ c κs. search needs) loop-holds (λ c. omega arith) (λ c. omega arith) (λ c. omega arith) (λ c κs. omega arith) (λ c κs. search needs)
+    (tie.spec Inv-loop μ-loop (λ c κs. search needs) loop-holds (λ c. omega arith) (λ c. omega arith) (λ c. omega arith)
+    (λ c κs. omega arith) (λ c κs. search needs)
     (λ c κs. omega arith) (λ c κs. search needs) (λ c κs. search needs) (λ c. omega arith) (λ c. omega arith) loop-again returns)

@@ -14,4 +14,5 @@ returns c =
     c .both .ensures ∙ ap point (binomial-at (s .args .k) (s .args .j) (s .pre .0) (s .pre .1))
 
 pub binomial-spec : {M : Type 1} → statement M
-binomial-spec = tie.close (tie.spec (λ c. search needs) (λ c. search needs) (λ c. search needs) (λ c. search needs) (λ c κs. search needs) returns)
+binomial-spec = tie.close (tie.spec (λ c. search needs) (λ c. search needs) (λ c. search needs) (λ c. search needs) (λ c κs. search needs)
+    returns)

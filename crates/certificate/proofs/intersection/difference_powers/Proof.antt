@@ -11,8 +11,20 @@ returns c =
     let w = first .before .before .before in
     let u = w .before in
     holds-six _ _ _ _ _ _ _
-    (rw (first .subtract .ensures, first .before .line-at-left .ensures, first .before .before .power .ensures, u .offset .ensures, w .scale .ensures))
-    (rw (second .subtract2 .ensures, second .before .line-rise .ensures, second .before .before .power2 .ensures, u .offset .ensures, w .scale .ensures))
+    (rw (
+      first .subtract .ensures,
+      first .before .line-at-left .ensures,
+      first .before .before .power .ensures,
+      u .offset .ensures,
+      w .scale .ensures,
+    ))
+    (rw (
+      second .subtract2 .ensures,
+      second .before .line-rise .ensures,
+      second .before .before .power2 .ensures,
+      u .offset .ensures,
+      w .scale .ensures,
+    ))
     (rw (c .before .before .before .power3 .ensures, u .offset .ensures, w .scale .ensures))
     (rw (c .before .before .power4 .ensures, u .offset .ensures, w .scale .ensures))
     (rw (c .before .power5 .ensures, u .offset .ensures, w .scale .ensures))
@@ -21,5 +33,6 @@ returns c =
 pub difference-powers-spec : {M : Type 1} → statement M
 difference-powers-spec =
     tie.close
-    (tie.spec (λ c κs. search needs) (λ c κs. search needs) (λ c κs. search needs) (λ c κs. search needs) (λ c κs. search needs) (λ c κs. search needs) (λ c κs. search needs)
+    (tie.spec (λ c κs. search needs) (λ c κs. search needs) (λ c κs. search needs) (λ c κs. search needs) (λ c κs. search needs)
+    (λ c κs. search needs) (λ c κs. search needs)
     (λ c κs. search needs) (λ c κs. search needs) (λ c κs. search needs) (λ c κs. search needs) (λ c κs. search needs) returns)

@@ -1,5 +1,5 @@
--- `intersection::intersection_figure` meets its contract. The invariant: for the pairs p that the array holds, the turns left, from the figure now, give
--- what all give.
+-- `intersection::intersection_figure` meets its contract. The invariant: for the pairs p that the array holds, the turns left, from the
+-- figure now, give what all give.
 use mathlib.Core.Path.{_∙_, _≡_, refl, sym}
 use Prim.Native.Nat.{ℕ, _-_, _≤_}
 use native.Mathlib.Omega.{arith}
@@ -46,4 +46,5 @@ returns c =
 pub intersection-figure-spec : {M : Type 1} → statement M
 intersection-figure-spec =
     tie.close
-    (tie.spec Inv-loop μ-loop (λ c κs. search needs) loop-holds (λ c κs. omega arith) (λ c κs. search needs) (λ c κs. search needs) (λ c. omega arith) (λ c. omega arith) loop-again returns)
+    (tie.spec Inv-loop μ-loop (λ c κs. search needs) loop-holds (λ c κs. omega arith) (λ c κs. search needs) (λ c κs. search needs)
+    (λ c. omega arith) (λ c. omega arith) loop-again returns)

@@ -17,4 +17,5 @@ unfolding larger
 returns-3 c = let y = c .before .before in rw (c .higher .ensures, y .y .given .1, y .before .before .before .x .given .1)
 
 pub larger-spec : {M : Type 1} → statement M
-larger-spec = tie.close (tie.spec (λ c. search needs) (λ c. search needs) returns (λ c. search needs) (λ c. search needs) returns-2 (λ c κs. search needs) returns-3)
+larger-spec = tie.close (tie.spec (λ c. search needs) (λ c. search needs) returns (λ c. search needs) (λ c. search needs) returns-2
+    (λ c κs. search needs) returns-3)

@@ -6,7 +6,14 @@ use Rattle.certificate.proofs.intersection.line_rise.Tie as tie
 returns : tie.Need-returns
 returns c =
     let d = c .before .before in
-    rw (c .multiply .ensures, c .before .difference3 .ensures, d .divide .ensures, d .before .difference2 .ensures, d .before .before .difference .ensures)
+    rw (
+      c .multiply .ensures,
+      c .before .difference3 .ensures,
+      d .divide .ensures,
+      d .before .difference2 .ensures,
+      d .before .before .difference .ensures,
+    )
 
 pub line-rise-spec : {M : Type 1} → statement M
-line-rise-spec = tie.close (tie.spec (λ c κs. search needs) (λ c κs. search needs) (λ c κs. search needs) (λ c κs. search needs) (λ c κs. search needs) returns)
+line-rise-spec = tie.close (tie.spec (λ c κs. search needs) (λ c κs. search needs) (λ c κs. search needs) (λ c κs. search needs)
+    (λ c κs. search needs) returns)

@@ -33,8 +33,12 @@ loop-again : tie.Need-loop-again Inv-loop μ-loop
 loop-again c =
     let at-loop = c .before .before .before in
     let l = at-loop .loop in
-    let a = at-loop .before .before .args in
-    (omega arith, omega arith, total-more ends (a .j) (l .k - a .j) (l .k + 1 - a .j) (l .k) (terms (a .t1) (endsOf (a .u)) (a .j)) _ _ _ (omega arith) (omega arith) (l .inv .2) (c .before .term .ensures) (c .add .ensures))
+    let a = at-loop .before .before .args in (
+      omega arith,
+      omega arith,
+      total-more ends (a .j) (l .k - a .j) (l .k + 1 - a .j) (l .k) (terms (a .t1) (endsOf (a .u)) (a .j)) _ _ _
+          (omega arith) (omega arith) (l .inv .2) (c .before .term .ensures) (c .add .ensures),
+    )
 
 returns : tie.Need-returns Inv-loop μ-loop
 unfolding power
@@ -46,5 +50,6 @@ returns c =
 pub power-spec : {M : Type 1} → statement M
 power-spec =
     tie.close
-    (tie.spec Inv-loop μ-loop (λ c κs. search needs) loop-holds (λ c. omega arith) (λ c. omega arith) (λ c κs. omega arith) (λ c κs. search needs) (λ c. omega arith) (λ c. omega arith)
+    (tie.spec Inv-loop μ-loop (λ c κs. search needs) loop-holds (λ c. omega arith) (λ c. omega arith) (λ c κs. omega arith)
+    (λ c κs. search needs) (λ c. omega arith) (λ c. omega arith)
     loop-again (λ c κs. search needs) (λ c κs. search needs) returns)

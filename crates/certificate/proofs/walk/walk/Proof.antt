@@ -1,4 +1,5 @@
--- `walk::walk` meets its contract. The invariant: where the walk stands, what is left to do gives the figure. The measure: the intervals and segments left.
+-- `walk::walk` meets its contract. The invariant: where the walk stands, what is left to do gives the figure. The measure: the intervals
+-- and segments left.
 use Prim.Native.Nat.{_*_, _+_, _-_}
 use native.Mathlib.Omega.{arith}
 use borrow.Author.Needs.{needs}
@@ -10,16 +11,24 @@ use Rattle.certificate.proofs.walk.walk.Statement.{statement}
 use Rattle.certificate.proofs.walk.walk.Tie as tie
 
 abbrev Inv-loop : tie.InvT-loop
-Inv-loop breaks coefficients k place points d axis n spacing parameters so-far₀ i₀ m₀ from₀ to₀ so-far i m from to = Standing breaks coefficients k place points d axis n spacing parameters i m from to (figureIn so-far)
+Inv-loop breaks coefficients k place points d axis n spacing parameters so-far₀ i₀ m₀ from₀ to₀ so-far i m from to = Standing breaks
+    coefficients k place points d axis n spacing parameters i m from to (figureIn so-far)
 
 abbrev μ-loop : tie.MeasureT-loop
-μ-loop breaks coefficients k place points d axis n spacing parameters so-far₀ i₀ m₀ from₀ to₀ so-far i m from to = n - i + (length breaks - m)
+μ-loop breaks coefficients k place points d axis n spacing parameters so-far₀ i₀ m₀ from₀ to₀ so-far i m from to = n - i +
+    (length breaks - m)
 
 normalised-requires : tie.Need-normalised-requires Inv-loop μ-loop
 normalised-requires c κs = (omega arith, omega arith, omega arith, λ e. omega (arith, c .before .before .before .before .pre .0 .10 e))
 
 normalised-requires-2 : tie.Need-normalised-requires-2 Inv-loop μ-loop
-normalised-requires-2 c κs = (omega arith, omega arith, omega arith, λ e. omega (arith, c .before .before .before .before .before .pre .0 .10 e))
+normalised-requires-2 c κs = (
+  omega arith,
+  omega arith,
+  omega arith,
+  λ e. omega
+      (arith, c .before .before .before .before .before .pre .0 .10 e),
+)
 
 loop-holds : tie.Need-loop-holds Inv-loop μ-loop
 loop-holds c = standing-first (omega arith) (omega arith) (c .before .normalised .ensures) (c .normalised2 .ensures)
@@ -33,13 +42,24 @@ intersect-requires c κs =
     (omega arith, omega arith, omega arith, omega arith, omega arith, omega arith)
 
 loop-again : tie.Need-loop-again Inv-loop μ-loop
-loop-again c = standing-segment (c .before .before .before .before .before .loop .inv) (c .before .before .before .before .before .before .before .before .before .before .before .before .pre .1) (omega arith) (c .before .before .before .intersect .ensures) (c .before .before .with-intersection .ensures) (c .if1 .taken)
+loop-again c = standing-segment (c .before .before .before .before .before .loop .inv)
+    (c .before .before .before .before .before .before .before .before .before .before .before .before .pre .1) (omega arith)
+    (c .before .before .before .intersect .ensures) (c .before .before .with-intersection .ensures) (c .if1 .taken)
 
 end-of-requires : tie.Need-end-of-requires Inv-loop μ-loop
-end-of-requires c κs = (omega arith, omega arith, omega arith, λ e. omega (arith, c .before .before .before .before .before .before .before .before .before .before .before .before .pre .0 .10 e))
+end-of-requires c κs = (
+  omega arith,
+  omega arith,
+  omega arith,
+  λ e. omega
+      (arith, c .before .before .before .before .before .before .before .before .before .before .before .before .pre .0 .10 e),
+)
 
 loop-again-2 : tie.Need-loop-again-2 Inv-loop μ-loop
-loop-again-2 c = standing-interval (c .before .before .before .before .before .before .loop .inv) (c .before .before .before .before .before .before .before .before .before .before .before .before .before .pre .1) (omega arith) (c .before .before .before .before .intersect .ensures) (c .before .before .before .with-intersection .ensures) (c .before .if1 .left) (c .end-of .ensures)
+loop-again-2 c = standing-interval (c .before .before .before .before .before .before .loop .inv)
+    (c .before .before .before .before .before .before .before .before .before .before .before .before .before .pre .1) (omega arith)
+    (c .before .before .before .before .intersect .ensures) (c .before .before .before .with-intersection .ensures) (c .before .if1 .left)
+    (c .end-of .ensures)
 
 returns : tie.Need-returns Inv-loop μ-loop
 returns c = standing-last (c .before .loop .inv) (omega arith)

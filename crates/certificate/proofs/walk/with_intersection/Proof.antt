@@ -11,7 +11,8 @@ returns : tie.Need-returns
 returns c =
     let a = c .before .before .before .before .args in
     let g = figureIn (a .so-far) in
-    c .larger .ensures ∙ ap (larger g) (c .before .intersection-figure .ensures) ∙ sym (ap (λ (b : Bool). cond b (larger g (intersectionFigure (intersectionOf (a .x)))) g) (c .before .before .if1 .taken))
+    c .larger .ensures ∙ ap (larger g) (c .before .intersection-figure .ensures)
+    ∙ sym (ap (λ (b : Bool). cond b (larger g (intersectionFigure (intersectionOf (a .x)))) g) (c .before .before .if1 .taken))
 
 returns-2 : tie.Need-returns-2
 returns-2 c =

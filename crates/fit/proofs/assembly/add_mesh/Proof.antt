@@ -20,7 +20,8 @@ Inv-loop work₀ p a z mesh rows count₀ j₀ end work count j =
     × (count ≤ rows + 6 * (mesh .end + 1))
     × (length work ≡ length work₀)
     × (before p work ≡ before p work₀)
-    × (each (meshTurn (arraysAt p (before p work₀)) a z mesh) j (mesh .end + 1) (assembled count (systemAt p (z - a) work)) ≡ meshOf (arraysAt p (before p work₀)) a z mesh (assembled rows (systemAt p (z - a) work₀)))
+    × (each (meshTurn (arraysAt p (before p work₀)) a z mesh) j (mesh .end + 1) (assembled count (systemAt p (z - a) work))
+    ≡ meshOf (arraysAt p (before p work₀)) a z mesh (assembled rows (systemAt p (z - a) work₀)))
 
 abbrev μ-loop : tie.MeasureT-loop
 μ-loop work₀ p a z mesh rows count₀ j₀ end work count j = end - j
@@ -31,7 +32,14 @@ loop-holds c = (omega arith, omega arith, omega arith, refl, refl, refl)
 
 add-mesh-piece-requires : tie.Need-add-mesh-piece-requires Inv-loop μ-loop
 add-mesh-piece-requires c κs =
-    let l = c .before .before .loop in (rw (l .inv .3) (c .before .before .before .before .before .pre .0), omega arith, omega arith, omega arith, omega arith)
+    let l = c .before .before .loop in (
+      rw (l .inv .3) (c .before .before .before .before .before .pre .0),
+      omega arith,
+      omega arith,
+      omega
+          arith,
+      omega arith,
+    )
 
 loop-again : tie.Need-loop-again Inv-loop μ-loop
 loop-again c =
@@ -40,8 +48,15 @@ loop-again c =
     let l = c .before .before .before .before .before .loop in
     let v = c .before .before .add-mesh-piece .ensures in
     let n = assembled (l .count) (systemAt p (a .z - a .a) (l .work)) in
-    let e = v .1 .0 ∙ ap (λ (u : List Float). meshTurn (arraysAt p u) (a .a) (a .z) (a .mesh) (l .j) n) (l .inv .4) in
-    (omega arith, omega (arith, v .1 .1), omega (arith, v .1 .1), omega arith, v .0 ∙ l .inv .4, each-next _ _ _ (omega arith) e (l .inv .5))
+    let e = v .1 .0 ∙ ap (λ (u : List Float). meshTurn (arraysAt p u) (a .a) (a .z) (a .mesh) (l .j) n) (l .inv .4) in (
+      omega arith,
+      omega (arith, v .1 .1),
+      omega (arith, v .1 .1),
+      omega arith,
+      v .0 ∙ l .inv .4,
+      each-next _ _ _ (omega
+          arith) e (l .inv .5),
+    )
 
 same-length : tie.Need-same-length Inv-loop μ-loop
 same-length c = c .before .loop .inv .3

@@ -18,15 +18,25 @@ node-row-requires c κs = (placed _ _ _ _ (c .before .before .before .pre .0), o
 add-row-requires : tie.Need-add-row-requires
 add-row-requires c κs =
     let a = c .before .before .before .before .before .args in
-    let e = ap (λ (r : Row). r .start) (c .before .node-row .ensures) in
-    (c .before .before .before .before .before .pre .0, omega (arith, e, node-start (arraysAt (a .p) (before (a .p) (a .work .now))) (a .from) (a .h) (a .r) (omega arith)))
+    let e = ap (λ (r : Row). r .start) (c .before .node-row .ensures) in (
+      c .before .before .before .before .before .pre .0,
+      omega (
+        arith,
+        e,
+        node-start (arraysAt (a .p) (before (a .p) (a .work .now)))
+            (a .from) (a .h) (a .r) (omega arith),
+      ),
+    )
 
 returns : tie.Need-returns
 returns c =
     let a = c .before .before .before .before .before .before .before .before .args in
     let w = a .work .now in
-    let x = arraysAt (a .p) (before (a .p) w) in
-    (c .before .before .add-row .ensures .0, c .before .before .add-row .ensures .1 ∙ ap (λ (r : Row). added x (a .a) (a .z) r (systemAt (a .p) (a .z - a .a) w)) (c .before .before .before .before .node-row .ensures))
+    let x = arraysAt (a .p) (before (a .p) w) in (
+      c .before .before .add-row .ensures .0,
+      c .before .before .add-row .ensures .1 ∙ ap (λ (r : Row). added x (a .a) (a .z) r
+          (systemAt (a .p) (a .z - a .a) w)) (c .before .before .before .before .node-row .ensures),
+    )
 
 pub add-node-spec : {M : Type 1} → statement M
 add-node-spec =

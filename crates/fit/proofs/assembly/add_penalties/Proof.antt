@@ -18,7 +18,8 @@ Inv-loop work₀ p a z strength lo hi m span₀ work span =
     (5 ≤ span)
     × (length work ≡ length work₀)
     × (before p work ≡ before p work₀)
-    × (each (penaltyTurn (arraysAt p (before p work₀)) a z strength) span m (systemAt p (z - a) work) ≡ penaltiesOf (arraysAt p (before p work₀)) a z strength (systemAt p (z - a) work₀))
+    × (each (penaltyTurn (arraysAt p (before p work₀)) a z strength) span m (systemAt p (z - a) work)
+    ≡ penaltiesOf (arraysAt p (before p work₀)) a z strength (systemAt p (z - a) work₀))
 
 abbrev μ-loop : tie.MeasureT-loop
 μ-loop work₀ p a z strength lo hi m span₀ work span = m - span
@@ -33,7 +34,10 @@ add-penalty-requires c κs =
     let l = c .before .before .loop in
     let b = sym (l .inv .2) in (
       (rw (l .inv .1) (c .before .before .before .before .pre .0), omega arith, omega arith),
-      (c .before .before .before .before .pre .1 .0 ∙ ap (λ (u : List Float). low (arraysAt (a .p) u) (a .a) (a .z)) b, c .before .before .before .before .pre .1 .1 ∙ ap (λ (u : List Float). high (arraysAt (a .p) u) (a .a) (a .z)) b),
+      (
+        c .before .before .before .before .pre .1 .0 ∙ ap (λ (u : List Float). low (arraysAt (a .p) u) (a .a) (a .z)) b,
+        c .before .before .before .before .pre .1 .1 ∙ ap (λ (u : List Float). high (arraysAt (a .p) u) (a .a) (a .z)) b,
+      ),
     )
 
 loop-again : tie.Need-loop-again Inv-loop μ-loop
@@ -42,7 +46,8 @@ loop-again c =
     let p = a .p in
     let l = c .before .before .before .before .before .loop in
     let v = c .before .before .add-penalty .ensures in
-    let e = v .1 ∙ ap (λ (u : List Float). penaltyTurn (arraysAt p u) (a .a) (a .z) (a .strength) (l .span) (systemAt p (a .z - a .a) (l .work))) (l .inv .2) in
+    let e = v .1 ∙ ap (λ (u : List Float). penaltyTurn (arraysAt p u) (a .a) (a .z) (a .strength) (l .span)
+    (systemAt p (a .z - a .a) (l .work))) (l .inv .2) in
     (omega arith, omega arith, v .0 ∙ l .inv .2, each-next _ _ _ (omega arith) e (l .inv .3))
 
 same-length : tie.Need-same-length Inv-loop μ-loop

@@ -18,8 +18,12 @@ returns : tie.Need-returns
 returns c =
     let a = c .before .before .before .before .before .args in
     let w = a .work .now in
-    let x = arraysAt (a .p) (before (a .p) w) in
-    (refl, penalty-left x (a .a) (a .z) (a .lo) (a .hi) (c .before .before .before .before .before .pre .1 .0) (c .before .before .before .before .before .pre .1 .1) (a .span) _ (a .strength) (systemAt (a .p) (a .z - a .a) w) (c .before .is-left-out .ensures) (c .if1 .taken))
+    let x = arraysAt (a .p) (before (a .p) w) in (
+      refl,
+      penalty-left x (a .a) (a .z) (a .lo) (a .hi) (c .before .before .before .before .before .pre .1 .0)
+          (c .before .before .before .before .before .pre .1 .1) (a .span) _ (a .strength) (systemAt (a .p) (a .z - a .a) w)
+          (c .before .is-left-out .ensures) (c .if1 .taken),
+    )
 
 add-penalty-nodes-requires : tie.Need-add-penalty-nodes-requires
 add-penalty-nodes-requires c κs = (c .before .before .before .before .before .before .pre .0 .0, omega arith, omega arith)
@@ -29,8 +33,14 @@ returns-2 c =
     let a = c .before .before .before .before .before .before .before .before .before .args in
     let w = a .work .now in
     let x = arraysAt (a .p) (before (a .p) w) in
-    let v = c .before .before .add-penalty-nodes .ensures in
-    (v .0, v .1 ∙ penalty-added x (a .a) (a .z) (a .lo) (a .hi) (c .before .before .before .before .before .before .before .before .before .pre .1 .0) (c .before .before .before .before .before .before .before .before .before .pre .1 .1) (a .span) _ (a .strength) (systemAt (a .p) (a .z - a .a) w) (c .before .before .before .before .before .is-left-out .ensures) (c .before .before .before .before .if1 .left))
+    let v = c .before .before .add-penalty-nodes .ensures in (
+      v .0,
+      v .1 ∙ penalty-added x (a .a) (a .z) (a .lo) (a .hi)
+          (c .before .before .before .before .before .before .before .before .before .pre .1 .0)
+          (c .before .before .before .before .before .before .before .before .before .pre .1 .1) (a .span) _ (a .strength)
+          (systemAt (a .p) (a .z - a .a) w) (c .before .before .before .before .before .is-left-out .ensures)
+          (c .before .before .before .before .if1 .left),
+    )
 
 pub add-penalty-spec : {M : Type 1} → statement M
 add-penalty-spec =

@@ -19,7 +19,8 @@ Inv-loop work₀ p a z strength span r₀ work r =
     (r ≤ 3)
     × (length work ≡ length work₀)
     × (before p work ≡ before p work₀)
-    × (each (λ r k. added (arraysAt p (before p work₀)) a z (penaltyRowOf (arraysAt p (before p work₀)) strength span r) k) r 3 (systemAt p (z - a) work) ≡ nodesOf (arraysAt p (before p work₀)) a z strength span (systemAt p (z - a) work₀))
+    × (each (λ r k. added (arraysAt p (before p work₀)) a z (penaltyRowOf (arraysAt p (before p work₀)) strength span r) k) r 3
+    (systemAt p (z - a) work) ≡ nodesOf (arraysAt p (before p work₀)) a z strength span (systemAt p (z - a) work₀))
 
 abbrev μ-loop : tie.MeasureT-loop
 μ-loop work₀ p a z strength span r₀ work r = 3 - r
@@ -29,7 +30,13 @@ unfolding nodesOf
 loop-holds c = (omega arith, refl, refl, refl)
 
 add-penalty-node-requires : tie.Need-add-penalty-node-requires Inv-loop μ-loop
-add-penalty-node-requires c κs = (rw (c .before .before .loop .inv .1) (c .before .before .before .before .pre .0), omega arith, omega arith, omega arith)
+add-penalty-node-requires c κs = (
+  rw (c .before .before .loop .inv .1) (c .before .before .before .before .pre .0),
+  omega arith,
+  omega
+      arith,
+  omega arith,
+)
 
 loop-again : tie.Need-loop-again Inv-loop μ-loop
 loop-again c =
@@ -38,7 +45,8 @@ loop-again c =
     let l = c .before .before .before .before .before .loop in
     let v = c .before .before .add-penalty-node .ensures in
     let s = systemAt p (a .z - a .a) (l .work) in
-    let e = v .1 ∙ ap (λ (u : List Float). added (arraysAt p u) (a .a) (a .z) (penaltyRowOf (arraysAt p u) (a .strength) (a .span) (l .r)) s) (l .inv .2) in
+    let e = v .1 ∙ ap (λ (u : List Float). added (arraysAt p u) (a .a) (a .z) (penaltyRowOf (arraysAt p u) (a .strength) (a .span) (l .r))
+    s) (l .inv .2) in
     (omega arith, omega arith, v .0 ∙ l .inv .2, each-next _ _ _ (omega arith) e (l .inv .3))
 
 same-length : tie.Need-same-length Inv-loop μ-loop

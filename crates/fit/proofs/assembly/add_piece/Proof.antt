@@ -21,7 +21,9 @@ Inv-loop work₀ p a z from to rows h count₀ r₀ work count r =
     × (count ≡ rows + r)
     × (length work ≡ length work₀)
     × (before p work ≡ before p work₀)
-    × (each (λ r k. counted (arraysAt p (before p work₀)) a z (nodeRowOf (arraysAt p (before p work₀)) from h r) k) r 6 (assembled count (systemAt p (z - a) work)) ≡ pieceOf (arraysAt p (before p work₀)) a z from to (assembled rows (systemAt p (z - a) work₀)))
+    × (each (λ r k. counted (arraysAt p (before p work₀)) a z (nodeRowOf (arraysAt p (before p work₀)) from h r) k) r 6
+    (assembled count (systemAt p (z - a) work)) ≡ pieceOf (arraysAt p (before p work₀)) a z from to
+    (assembled rows (systemAt p (z - a) work₀)))
 
 abbrev μ-loop : tie.MeasureT-loop
 μ-loop work₀ p a z from to rows h count₀ r₀ work count r = 6 - r
@@ -42,7 +44,9 @@ loop-again c =
     let v = c .before .before .add-node .ensures in
     let h = sub binary64 (a .to) (a .from) in
     let s = systemAt p (a .z - a .a) (l .work) in
-    let e = ap (assembled (l .count + 1)) (v .1 ∙ ap (λ (u : List Float). added (arraysAt p u) (a .a) (a .z) (nodeRowOf (arraysAt p u) (a .from) h (l .r)) s) (l .inv .3)) ∙ row-counted x (a .a) (a .z) (nodeRowOf x (a .from) h (l .r)) (l .count) s in
+    let e = ap (assembled (l .count + 1)) (v .1 ∙ ap (λ (u : List Float). added (arraysAt p u) (a .a) (a .z)
+    (nodeRowOf (arraysAt p u) (a .from) h (l .r)) s) (l .inv .3)) ∙ row-counted x (a .a) (a .z) (nodeRowOf x (a .from) h (l .r)) (l .count)
+    s in
     (omega arith, omega arith, omega arith, v .0 ∙ l .inv .3, each-next _ _ _ (omega arith) e (l .inv .4))
 
 same-length : tie.Need-same-length Inv-loop μ-loop

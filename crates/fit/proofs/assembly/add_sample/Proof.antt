@@ -18,15 +18,25 @@ sample-row-at-requires c κs = (placed _ _ _ _ (c .before .before .before .pre .
 add-row-requires : tie.Need-add-row-requires
 add-row-requires c κs =
     let a = c .before .before .before .before .before .args in
-    let e = ap (λ (r : Row). r .start) (c .before .sample-row-at .ensures) in
-    (c .before .before .before .before .before .pre .0, omega (arith, e, sample-start (arraysAt (a .p) (before (a .p) (a .work .now))) (a .i) (a .span)))
+    let e = ap (λ (r : Row). r .start) (c .before .sample-row-at .ensures) in (
+      c .before .before .before .before .before .pre .0,
+      omega (
+        arith,
+        e,
+        sample-start (arraysAt (a .p) (before (a .p) (a .work .now)))
+            (a .i) (a .span),
+      ),
+    )
 
 returns : tie.Need-returns
 returns c =
     let a = c .before .before .before .before .before .before .before .before .args in
     let w = a .work .now in
-    let x = arraysAt (a .p) (before (a .p) w) in
-    (c .before .before .add-row .ensures .0, c .before .before .add-row .ensures .1 ∙ ap (λ (r : Row). added x (a .a) (a .z) r (systemAt (a .p) (a .z - a .a) w)) (c .before .before .before .before .sample-row-at .ensures))
+    let x = arraysAt (a .p) (before (a .p) w) in (
+      c .before .before .add-row .ensures .0,
+      c .before .before .add-row .ensures .1 ∙ ap (λ (r : Row). added x (a .a) (a .z) r
+          (systemAt (a .p) (a .z - a .a) w)) (c .before .before .before .before .sample-row-at .ensures),
+    )
 
 pub add-sample-spec : {M : Type 1} → statement M
 add-sample-spec =

@@ -25,7 +25,8 @@ Inv-loop work₀ p a z first last g seen₀ rows₀ i₀ work seen rows i =
     × (length work ≡ length work₀)
     × (before p work ≡ before p work₀)
     × (seen .dense ≡ denseOf (arraysAt p (before p work₀) .t) (arraysAt p (before p work₀) .s) (seen .span))
-    × (each (sampleTurn (arraysAt p (before p work₀)) a z) i last (assembled rows (systemAt p (z - a) work)) ≡ samplesOf (arraysAt p (before p work₀)) a z first last (assembled 0 (systemAt p (z - a) work₀)))
+    × (each (sampleTurn (arraysAt p (before p work₀)) a z) i last (assembled rows (systemAt p (z - a) work))
+    ≡ samplesOf (arraysAt p (before p work₀)) a z first last (assembled 0 (systemAt p (z - a) work₀)))
 
 abbrev μ-loop : tie.MeasureT-loop
 μ-loop work₀ p a z first last g seen₀ rows₀ i₀ work seen rows i = last - i
@@ -44,15 +45,26 @@ loop-holds c = (omega arith, omega arith, refl, refl, c .first-density .ensures,
 look-requires : tie.Need-look-requires Inv-loop μ-loop
 look-requires c κs =
     let a = c .before .before .before .before .before .before .before .before .args in
-    let l = c .before .before .before .loop in
-    ((placed (a .p) (a .a) (a .z) (l .work) (rw (l .inv .2) (c .before .before .before .before .before .before .before .before .pre .0)), omega arith), l .inv .4 ∙ ap (λ (v : List Float). denseOf (arraysAt (a .p) v .t) (arraysAt (a .p) v .s) (l .seen .span)) (sym (l .inv .3)))
+    let l = c .before .before .before .loop in (
+      (
+        placed (a .p) (a .a) (a .z) (l .work) (rw (l .inv .2) (c .before .before .before .before .before .before .before .before .pre .0)),
+        omega arith,
+      ),
+      l .inv .4 ∙ ap (λ (v : List Float). denseOf (arraysAt (a .p) v .t) (arraysAt (a .p) v .s) (l .seen .span))
+          (sym (l .inv .3)),
+    )
 
 add-sample-requires : tie.Need-add-sample-requires Inv-loop μ-loop
 add-sample-requires c κs =
     let a = c .before .before .before .before .before .before .before .before .before .before .before .args in
     let l = c .before .before .before .before .before .before .loop in
-    let s = c .before .before .look .ensures .0 in
-    (rw (l .inv .2) (c .before .before .before .before .before .before .before .before .before .before .before .pre .0), omega arith, omega (arith, s), omega (arith, s))
+    let s = c .before .before .look .ensures .0 in (
+      rw (l .inv .2) (c .before .before .before .before .before .before .before .before .before .before .before .pre .0),
+      omega arith,
+      omega
+          (arith, s),
+      omega (arith, s),
+    )
 
 loop-again : tie.Need-loop-again Inv-loop μ-loop
 loop-again c =
@@ -63,7 +75,8 @@ loop-again c =
     let b = l .inv .3 in
     let s = c .before .look .result in
     let span : s .span ≡ sampleSpan x (l .i) = c .before .look .ensures .0 ∙ ap (λ (v : List Float). sampleSpan (arraysAt p v) (l .i)) b in
-    let dense : s .dense ≡ denseOf (x .t) (x .s) (s .span) = c .before .look .ensures .1 ∙ ap (λ (v : List Float). denseOf (arraysAt p v .t) (arraysAt p v .s) (s .span)) b in
+    let dense : s .dense ≡ denseOf (x .t) (x .s) (s .span) = c .before .look .ensures .1 ∙ ap (λ (v : List Float). denseOf (arraysAt p v .t)
+    (arraysAt p v .s) (s .span)) b in
     let state = systemAt p (a .z - a .a) (l .work) in
     let go = c .before .before .before .before .loop-test .taken in
     ⊎-elim
@@ -73,11 +86,21 @@ loop-again c =
       omega arith,
       w .2 .ensures .0 ∙ b,
       dense,
-      each-next _ _ _ go (ap (assembled (l .rows + 1)) (w .2 .ensures .1 ∙ ap (λ (u : List Float). added (arraysAt p u) (a .a) (a .z) (sampleRowOf (arraysAt p u) (l .i) (s .span)) state) b)
+      each-next _ _ _ go (ap (assembled (l .rows + 1))
+          (w .2 .ensures .1 ∙ ap (λ (u : List Float). added (arraysAt p u) (a .a) (a .z) (sampleRowOf (arraysAt p u) (l .i) (s .span))
+          state) b)
           ∙ row-counted x (a .a) (a .z) (sampleRowOf x (l .i) (s .span)) (l .rows) state
           ∙ sample-counted x (a .a) (a .z) (l .i) (s .span) (s .dense) (assembled (l .rows) state) span dense (w .0 .taken)) (l .inv .5),
     ))
-    (λ w. rw (w .1, w .2) (omega arith, omega arith, l .inv .2, b, dense, each-next _ _ _ go (sample-passed x (a .a) (a .z) (l .i) (s .span) (s .dense) (assembled (l .rows) state) span dense (w .0 .left)) (l .inv .5)))
+    (λ w. rw (w .1, w .2) (
+      omega arith,
+      omega arith,
+      l .inv .2,
+      b,
+      dense,
+      each-next _ _ _ go
+          (sample-passed x (a .a) (a .z) (l .i) (s .span) (s .dense) (assembled (l .rows) state) span dense (w .0 .left)) (l .inv .5),
+    ))
     (c .if1 .came)
 
 same-length : tie.Need-same-length Inv-loop μ-loop

@@ -25,8 +25,15 @@ returns : tie.Need-returns
 returns c =
     let a = c .before .before .before .before .before .args in
     let w = a .work .now in
-    let x = arraysAt (a .p) (before (a .p) w) in
-    (refl, (span-passed x (a .a) (a .z) (a .lo) (a .hi) (c .before .before .before .before .before .pre .1 .0) (c .before .before .before .before .before .pre .1 .1) (a .span) _ (assembled (a .rows) (systemAt (a .p) (a .z - a .a) w)) (c .before .is-passed-over .ensures) (c .if1 .taken), omega arith))
+    let x = arraysAt (a .p) (before (a .p) w) in (
+      refl,
+      (
+        span-passed x (a .a) (a .z) (a .lo) (a .hi) (c .before .before .before .before .before .pre .1 .0)
+            (c .before .before .before .before .before .pre .1 .1) (a .span) _ (assembled (a .rows) (systemAt (a .p) (a .z - a .a) w))
+            (c .before .is-passed-over .ensures) (c .if1 .taken),
+        omega arith,
+      ),
+    )
 
 mesh-at-requires : tie.Need-mesh-at-requires
 mesh-at-requires c κs = (placed _ _ _ _ (c .before .before .before .before .before .before .before .pre .0 .0), omega arith)
@@ -54,7 +61,11 @@ returns-2 c =
     let x = arraysAt (a .p) (before (a .p) w) in
     let n = assembled (a .rows) (systemAt (a .p) (a .z - a .a) w) in
     let v = c .before .before .add-mesh .ensures in
-    let t = span-counted x (a .a) (a .z) (a .lo) (a .hi) (c .before .before .before .before .before .before .before .before .before .before .before .before .pre .1 .0) (c .before .before .before .before .before .before .before .before .before .before .before .before .pre .1 .1) (a .span) _ n (c .before .before .before .before .before .before .before .before .is-passed-over .ensures) (c .before .before .before .before .before .before .before .if1 .left) in
+    let t = span-counted x (a .a) (a .z) (a .lo) (a .hi)
+    (c .before .before .before .before .before .before .before .before .before .before .before .before .pre .1 .0)
+    (c .before .before .before .before .before .before .before .before .before .before .before .before .pre .1 .1) (a .span) _ n
+    (c .before .before .before .before .before .before .before .before .is-passed-over .ensures)
+    (c .before .before .before .before .before .before .before .if1 .left) in
     (v .0, (v .1 .0 ∙ ap (λ (m : Mesh). meshOf x (a .a) (a .z) m n) (c .before .before .before .before .mesh-at .ensures) ∙ t, v .1 .1))
 
 pub add-span-spec : {M : Type 1} → statement M

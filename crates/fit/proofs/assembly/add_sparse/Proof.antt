@@ -1,4 +1,5 @@
--- `assembly::add_sparse` meets its contract. The invariant: the spans left, from the system as it is, give what all give; each adds at most 6 * 65537 rows.
+-- `assembly::add_sparse` meets its contract. The invariant: the spans left, from the system as it is, give what all give; each adds at most
+-- 6 * 65537 rows.
 use mathlib.Core.Path.{_≡_, refl, sym, ap, _∙_}
 use Prim.Native.Nat.{_+_, _-_, _*_, _≤_}
 use native.Mathlib.Omega.{arith}
@@ -20,7 +21,8 @@ Inv-loop work₀ p a z lo hi rows m count₀ span₀ work count span =
     × (count ≤ 65536 + 393222 * (span - 5))
     × (length work ≡ length work₀)
     × (before p work ≡ before p work₀)
-    × (each (sparseTurn (arraysAt p (before p work₀)) a z) span m (assembled count (systemAt p (z - a) work)) ≡ sparseOf (arraysAt p (before p work₀)) a z (assembled rows (systemAt p (z - a) work₀)))
+    × (each (sparseTurn (arraysAt p (before p work₀)) a z) span m (assembled count (systemAt p (z - a) work))
+    ≡ sparseOf (arraysAt p (before p work₀)) a z (assembled rows (systemAt p (z - a) work₀)))
 
 abbrev μ-loop : tie.MeasureT-loop
 μ-loop work₀ p a z lo hi rows m count₀ span₀ work count span = m - span
@@ -35,7 +37,10 @@ add-span-requires c κs =
     let l = c .before .before .loop in
     let b = sym (l .inv .3) in (
       (rw (l .inv .2) (c .before .before .before .before .pre .0 .0), omega arith, omega arith),
-      (c .before .before .before .before .pre .1 .0 ∙ ap (λ (u : List Float). low (arraysAt (a .p) u) (a .a) (a .z)) b, c .before .before .before .before .pre .1 .1 ∙ ap (λ (u : List Float). high (arraysAt (a .p) u) (a .a) (a .z)) b),
+      (
+        c .before .before .before .before .pre .1 .0 ∙ ap (λ (u : List Float). low (arraysAt (a .p) u) (a .a) (a .z)) b,
+        c .before .before .before .before .pre .1 .1 ∙ ap (λ (u : List Float). high (arraysAt (a .p) u) (a .a) (a .z)) b,
+      ),
     )
 
 loop-again : tie.Need-loop-again Inv-loop μ-loop

@@ -22,7 +22,8 @@ Inv-loop work₀ a z d c c-end count right i₀ work i =
     (i ≤ count)
     × (length work ≡ length work₀)
     × (work ≡ splice c c-end (window c c-end work) work₀)
-    × (each (addTurn (window right (right + count) work₀) (a * d)) i count (window c c-end work) ≡ addedTo (window right (right + count) work₀) (a * d) count (window c c-end work₀))
+    × (each (addTurn (window right (right + count) work₀) (a * d)) i count (window c c-end work)
+    ≡ addedTo (window right (right + count) work₀) (a * d) count (window c c-end work₀))
 
 abbrev μ-loop : tie.MeasureT-loop
 μ-loop work₀ a z d c c-end count right i₀ work i = count - i
@@ -37,15 +38,29 @@ inside a z m d h g =
 loop-holds : tie.Need-loop-holds Inv-loop μ-loop
 unfolding addedTo
 loop-holds c =
-    let a = c .before .before .before .args in (omega arith, refl, sym (splice-window (a .p .controls) (a .p .controls + a .p .count * a .p .axes) (a .work .now)), refl)
+    let a = c .before .before .before .args in (
+      omega arith,
+      refl,
+      sym (splice-window (a .p .controls)
+          (a .p .controls + a .p .count * a .p .axes) (a .work .now)),
+      refl,
+    )
 
 mul-add-cell-2 : tie.Need-mul-add-cell-2 Inv-loop μ-loop
 mul-add-cell-2 c =
-    let a = c .before .before .before .before .before .before .before .args in omega (arith, inside (a .a) (a .z) (a .p .count) (a .p .axes) (omega arith) (omega arith))
+    let a = c .before .before .before .before .before .before .before .args in omega (
+      arith,
+      inside (a .a) (a .z) (a .p .count) (a .p .axes)
+          (omega arith) (omega arith),
+    )
 
 add-add-cell : tie.Need-add-add-cell Inv-loop μ-loop
 add-add-cell c =
-    let a = c .before .before .before .before .before .before .before .args in omega (arith, inside (a .a) (a .z) (a .p .count) (a .p .axes) (omega arith) (omega arith))
+    let a = c .before .before .before .before .before .before .before .args in omega (
+      arith,
+      inside (a .a) (a .z) (a .p .count) (a .p .axes)
+          (omega arith) (omega arith),
+    )
 
 add-cell-requires : tie.Need-add-cell-requires Inv-loop μ-loop
 add-cell-requires c κs =
@@ -66,8 +81,10 @@ loop-again c =
     let l = c .before .before .before .before .before .before .loop in
     let v = c .before .before .add-cell in
     let go = c .before .before .before .before .before .loop-test .taken in
-    let kept = others-kept (p .controls) e right (n * d) (l .work) (a .work .now) (omega arith) (omega arith) (omega arith) (l .inv .1) (l .inv .2) (a .a * d) (l .i) go in
-    let added = controls-added (p .controls) e right (n * d) (l .work) (a .work .now) (omega arith) (omega arith) (omega arith) (l .inv .1) (l .inv .2) (a .a * d) (l .i) go in
+    let kept = others-kept (p .controls) e right (n * d) (l .work) (a .work .now) (omega arith) (omega arith) (omega arith) (l .inv .1)
+    (l .inv .2) (a .a * d) (l .i) go in
+    let added = controls-added (p .controls) e right (n * d) (l .work) (a .work .now) (omega arith) (omega arith) (omega arith) (l .inv .1)
+    (l .inv .2) (a .a * d) (l .i) go in
     (omega arith, omega arith, rw (v .ensures) kept, rw (v .ensures) (each-next _ _ _ go added (l .inv .3)))
 
 same-length : tie.Need-same-length Inv-loop μ-loop
@@ -83,7 +100,8 @@ returns c =
     let e = p .controls + p .count * d in
     let right = p .system + 6 * n in
     let l = c .before .loop in
-    let solution = window-at (p .system) (p .system + sizeOf n d) (6 * n) (6 * n + n * d) right (right + n * d) w (omega arith) (omega arith) (omega arith) (omega arith) in
+    let solution = window-at (p .system) (p .system + sizeOf n d) (6 * n) (6 * n + n * d) right (right + n * d) w (omega arith)
+    (omega arith) (omega arith) (omega arith) in
     let controls = window-at 0 (p .system) (p .controls) e (p .controls) e w (omega arith) (omega arith) (omega arith) (omega arith) in
     l .inv .2
     ∙ ap (λ (v : List Float). splice (p .controls) e v w)

@@ -21,24 +21,36 @@ add-sparse-requires c κs =
     let r = c .before .before .before .before .before .reach-of .ensures in
     let b = sym (c .before .before .before .add-samples .ensures .0) in (
       (omega arith, omega (arith, c .before .before .before .add-samples .ensures .1 .1)),
-      (r .0 .0 ∙ ap (λ (l : List Float). low (arraysAt (a .p) l) (a .a) (a .z)) b, r .0 .1 ∙ ap (λ (l : List Float). high (arraysAt (a .p) l) (a .a) (a .z)) b),
+      (
+        r .0 .0 ∙ ap (λ (l : List Float). low (arraysAt (a .p) l) (a .a) (a .z)) b,
+        r .0 .1
+            ∙ ap (λ (l : List Float). high (arraysAt (a .p) l) (a .a) (a .z)) b,
+      ),
     )
 
 add-penalties-requires : tie.Need-add-penalties-requires
 add-penalties-requires c κs =
-    let a = c .before .before .before .before .before .before .before .before .before .before .before .before .before .before .before .before .before .args in
+    let a = c .before .before .before .before .before .before .before .before .before .before .before .before .before .before .before
+    .before .before .args in
     let r = c .before .before .before .before .before .before .before .before .before .reach-of .ensures in
-    let b = sym (c .before .before .before .before .before .before .before .add-samples .ensures .0) ∙ sym (c .before .before .before .add-sparse .ensures .0) in (
+    let b = sym (c .before .before .before .before .before .before .before .add-samples .ensures .0)
+    ∙ sym (c .before .before .before .add-sparse .ensures .0) in (
       omega arith,
-      (r .0 .0 ∙ ap (λ (l : List Float). low (arraysAt (a .p) l) (a .a) (a .z)) b, r .0 .1 ∙ ap (λ (l : List Float). high (arraysAt (a .p) l) (a .a) (a .z)) b),
+      (
+        r .0 .0 ∙ ap (λ (l : List Float). low (arraysAt (a .p) l) (a .a) (a .z)) b,
+        r .0 .1
+            ∙ ap (λ (l : List Float). high (arraysAt (a .p) l) (a .a) (a .z)) b,
+      ),
     )
 
 returns : tie.Need-returns
 returns c =
-    let a = c .before .before .before .before .before .before .before .before .before .before .before .before .before .before .before .before .before .before .before .before .args in
+    let a = c .before .before .before .before .before .before .before .before .before .before .before .before .before .before .before
+    .before .before .before .before .before .args in
     let p = a .p in
     let r = c .before .before .before .before .before .before .before .before .before .before .before .before .reach-of in
-    let v₁ = c .before .before .before .before .before .before .before .before .before .before .before .before .before .before .before .before .before .clear-system .ensures in
+    let v₁ = c .before .before .before .before .before .before .before .before .before .before .before .before .before .before .before
+    .before .before .clear-system .ensures in
     let v₂ = c .before .before .before .before .before .before .before .before .before .before .add-samples .ensures in
     let v₃ = c .before .before .before .before .before .before .add-sparse .ensures in
     let v₄ = c .before .before .add-penalties .ensures in
@@ -51,12 +63,17 @@ returns c =
     let k = a .z - a .a in
     let e =
     v₂ .1 .0
-    ∙ ap (λ (l : List Float). samplesOf (arraysAt p l) (a .a) (a .z) (r .result .first) (r .result .last) (assembled 0 (systemAt p k (c .before .before .before .before .before .before .before .before .before .before .before .before .before .before .before .before .before .clear-system .last .0)))) b₁
+    ∙ ap (λ (l : List Float). samplesOf (arraysAt p l) (a .a) (a .z) (r .result .first) (r .result .last)
+    (assembled 0 (systemAt p k (c .before .before .before .before .before .before .before .before .before .before .before .before .before
+    .before .before .before .before .clear-system .last .0)))) b₁
     ∙ ap (λ (s : System). samplesOf x (a .a) (a .z) (r .result .first) (r .result .last) (assembled 0 s)) (v₁ .1)
     ∙ ap (λ (i : ℕ). samplesOf x (a .a) (a .z) i (r .result .last) (assembled 0 (newOf k (p .axes)))) first
     ∙ ap (λ (i : ℕ). samplesOf x (a .a) (a .z) (below (x .s) (low x (a .a) (a .z))) i (assembled 0 (newOf k (p .axes)))) last in
-    let f = v₃ .1 ∙ ap (λ (l : List Float). sparseOf (arraysAt p l) (a .a) (a .z) (assembled (c .before .before .before .before .before .before .before .before .before .before .add-samples .result) (systemAt p k (c .before .before .before .before .before .before .before .before .before .before .add-samples .last .0)))) b₂ in
-    let g = v₄ .1 ∙ ap (λ (l : List Float). penaltiesOf (arraysAt p l) (a .a) (a .z) (a .strength) (systemAt p k (c .before .before .before .before .before .before .add-sparse .last .0))) b₃ in
+    let f = v₃ .1 ∙ ap (λ (l : List Float). sparseOf (arraysAt p l) (a .a) (a .z)
+    (assembled (c .before .before .before .before .before .before .before .before .before .before .add-samples .result)
+    (systemAt p k (c .before .before .before .before .before .before .before .before .before .before .add-samples .last .0)))) b₂ in
+    let g = v₄ .1 ∙ ap (λ (l : List Float). penaltiesOf (arraysAt p l) (a .a) (a .z) (a .strength)
+    (systemAt p k (c .before .before .before .before .before .before .add-sparse .last .0))) b₃ in
     (v₄ .0 ∙ b₃, (assembly-is x (a .a) (a .z) (a .strength) _ _ _ _ _ _ e f g, (first, last)))
 
 pub assemble-spec : {M : Type 1} → statement M

@@ -16,8 +16,10 @@ returns c =
     let m = c .before .before .before .before .before .before .before .before .before .before .before .before .assemble in
     let v = c .before .before .before .before .before .before .before .before .solve in
     let r =
-    after-solution (a .p) (a .a) (a .z) (a .strength) (a .work .now) (m .last .0) (v .last .0) (m .result .rows) (m .ensures .0) (m .ensures .1 .0) (v .ensures .1) (omega arith) (omega arith) (omega arith)
-    (m .result .first) (m .result .last) (m .ensures .1 .1 .0) (m .ensures .1 .1 .1) (sym (ap numberOf (c .before .before .before .before .enum-told .given .1)) ∙ v .ensures .0) in
+    after-solution (a .p) (a .a) (a .z) (a .strength) (a .work .now) (m .last .0) (v .last .0) (m .result .rows) (m .ensures .0)
+    (m .ensures .1 .0) (v .ensures .1) (omega arith) (omega arith) (omega arith)
+    (m .result .first) (m .result .last) (m .ensures .1 .1 .0) (m .ensures .1 .1 .1)
+    (sym (ap numberOf (c .before .before .before .before .enum-told .given .1)) ∙ v .ensures .0) in
     answer-bounded (a .p) (a .a) (a .z) (a .strength) (a .work .now) (s .pre) (r .0, c .before .before .add-solution .ensures ∙ r .1)
 
 returns-2 : tie.Need-returns-2
@@ -27,7 +29,8 @@ returns-2 c =
     let m = c .before .before .before .before .before .before .before .before .assemble in
     let v = c .before .before .before .before .solve in
     answer-bounded (a .p) (a .a) (a .z) (a .strength) (a .work .now) (s .pre)
-    (after-refusal (a .p) (a .a) (a .z) (a .strength) (a .work .now) (m .last .0) (v .last .0) (m .result .rows) (m .ensures .0) (m .ensures .1 .0) (v .ensures .1) (omega arith) (omega arith) (omega arith) 9
+    (after-refusal (a .p) (a .a) (a .z) (a .strength) (a .work .now) (m .last .0) (v .last .0) (m .result .rows) (m .ensures .0)
+    (m .ensures .1 .0) (v .ensures .1) (omega arith) (omega arith) (omega arith) 9
     (sym (ap numberOf (c .enum-told2 .given .1)) ∙ v .ensures .0) refl)
 
 returns-3 : tie.Need-returns-3
@@ -37,7 +40,8 @@ returns-3 c =
     let m = c .before .before .before .before .before .before .before .before .assemble in
     let v = c .before .before .before .before .solve in
     answer-bounded (a .p) (a .a) (a .z) (a .strength) (a .work .now) (s .pre)
-    (after-refusal (a .p) (a .a) (a .z) (a .strength) (a .work .now) (m .last .0) (v .last .0) (m .result .rows) (m .ensures .0) (m .ensures .1 .0) (v .ensures .1) (omega arith) (omega arith) (omega arith) 10
+    (after-refusal (a .p) (a .a) (a .z) (a .strength) (a .work .now) (m .last .0) (v .last .0) (m .result .rows) (m .ensures .0)
+    (m .ensures .1 .0) (v .ensures .1) (omega arith) (omega arith) (omega arith) 10
     (sym (ap numberOf (c .enum-told3 .given .1)) ∙ v .ensures .0) refl)
 
 returns-4 : tie.Need-returns-4
@@ -47,7 +51,8 @@ returns-4 c =
     let m = c .before .before .before .before .before .before .before .before .assemble in
     let v = c .before .before .before .before .solve in
     answer-bounded (a .p) (a .a) (a .z) (a .strength) (a .work .now) (s .pre)
-    (after-refusal (a .p) (a .a) (a .z) (a .strength) (a .work .now) (m .last .0) (v .last .0) (m .result .rows) (m .ensures .0) (m .ensures .1 .0) (v .ensures .1) (omega arith) (omega arith) (omega arith) 11
+    (after-refusal (a .p) (a .a) (a .z) (a .strength) (a .work .now) (m .last .0) (v .last .0) (m .result .rows) (m .ensures .0)
+    (m .ensures .1 .0) (v .ensures .1) (omega arith) (omega arith) (omega arith) 11
     (sym (ap numberOf (c .enum-told4 .given .1)) ∙ v .ensures .0) refl)
 
 pub fit-spec : {M : Type 1} → statement M

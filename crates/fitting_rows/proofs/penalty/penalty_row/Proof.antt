@@ -8,7 +8,11 @@ use Rattle.fitting_rows.proofs.penalty.penalty_row.Tie as tie
 returns : tie.Need-returns
 unfolding penaltyRowOf ofBits round div
 returns c =
-    rw (c .fitting-row .ensures) (rw (c .before .before .before .third .ensures, c .before .before .before .before .powers .ensures, c .before .before .powi .ensures))
+    rw (c .fitting-row .ensures) (rw (
+      c .before .before .before .third .ensures,
+      c .before .before .before .before .powers .ensures,
+      c .before .before .powi .ensures,
+    ))
 
 pub penalty-row-spec : {M : Type 1} → statement M
 penalty-row-spec =

@@ -19,7 +19,8 @@ returns-3 c = rw (c .before .before .if1 .left, c .before .if2 .left, c .if3 .ta
 
 returns-4 : tie.Need-returns-4
 unfolding passedOver
-returns-4 c = rw (c .before .before .before .if1 .left, c .before .before .if2 .left, c .before .if3 .left) (simp or-false (c .is-dense .ensures))
+returns-4 c = rw (c .before .before .before .if1 .left, c .before .before .if2 .left, c .before .if3 .left)
+    (simp or-false (c .is-dense .ensures))
 
 pub passes-over-spec : {M : Type 1} → statement M
 passes-over-spec =

@@ -18,8 +18,10 @@ returns c =
     let s = c .before .before .before .before .before .before .before in
     let p = s .args .p in
     let l = s .args .cells .now in
-    let cell = window-cell (p .parameters) (p .parameters + p .samples) l (s .args .i) nan (omega arith) in
-    (sym (c .if1 .taken) ∙ c .before .before .span .ensures ∙ ap (λ (x : Float). spanOf floats (arraysAt p l .t) (p .count) x) (sym cell), s .pre .1)
+    let cell = window-cell (p .parameters) (p .parameters + p .samples) l (s .args .i) nan (omega arith) in (
+      sym (c .if1 .taken) ∙ c .before .before .span .ensures ∙ ap (λ (x : Float). spanOf floats (arraysAt p l .t) (p .count) x) (sym cell),
+      s .pre .1,
+    )
 
 is-dense-requires : tie.Need-is-dense-requires
 is-dense-requires c κs =
@@ -36,8 +38,10 @@ returns-2 c =
     let s = c .before .before .before .before .before .before .before .before .before .before in
     let p = s .args .p in
     let l = s .args .cells .now in
-    let cell = window-cell (p .parameters) (p .parameters + p .samples) l (s .args .i) nan (omega arith) in
-    (c .before .before .before .before .before .span .ensures ∙ ap (λ (x : Float). spanOf floats (arraysAt p l .t) (p .count) x) (sym cell), c .is-dense .ensures)
+    let cell = window-cell (p .parameters) (p .parameters + p .samples) l (s .args .i) nan (omega arith) in (
+      c .before .before .before .before .before .span .ensures ∙ ap (λ (x : Float). spanOf floats (arraysAt p l .t) (p .count) x) (sym cell),
+      c .is-dense .ensures,
+    )
 
 pub look-spec : {M : Type 1} → statement M
 look-spec =

@@ -7,7 +7,11 @@ use Rattle.fitting_rows.proofs.samples.sample_row.Tie as tie
 returns : tie.Need-returns
 unfolding sampleRowOf
 returns c =
-    rw (c .fitting-row .ensures) (rw (c .before .before .before .before .before .values .ensures, c .before .before .before .before .weight .ensures, c .before .before .before .point .ensures))
+    rw (c .fitting-row .ensures) (rw (
+      c .before .before .before .before .before .values .ensures,
+      c .before .before .before .before .weight .ensures,
+      c .before .before .before .point .ensures,
+    ))
 
 pub sample-row-spec : {M : Type 1} → statement M
 sample-row-spec =

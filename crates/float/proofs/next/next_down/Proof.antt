@@ -21,7 +21,8 @@ module _ (c : lts.Else1 reads.Pre reads.Post) where
   plain : toBits binary64 (c .before .args .x) % 0x8000_0000_0000_0000 ≤ 0x7ff0_0000_0000_0000
   plain = plain-bits (c .before .args .x) (held (c .before)) (nan-no (c .before .args .x) (c .if1 .left))
 
-  answer : (n : ℕ) → downBits binary64 (toBits binary64 (c .before .args .x)) ≡ n → ofBits binary64 n ≡ nextDown binary64 (c .before .args .x)
+  answer : (n : ℕ) → downBits binary64 (toBits binary64 (c .before .args .x)) ≡ n → ofBits binary64 n
+      ≡ nextDown binary64 (c .before .args .x)
   answer n e = sym (next-down-bits binary64 (c .before .args .x) (nan-no (c .before .args .x) (c .if1 .left)) ∙ ap (ofBits binary64) e)
 
 returns : tie.Need-returns

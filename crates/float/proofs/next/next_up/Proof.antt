@@ -37,7 +37,8 @@ returns-2 : tie.Need-returns-2
 returns-2 c = answer (c .before) _ (up-when-positive binary64 _ (c .if2 .taken))
 
 returns-3 : tie.Need-returns-3
-returns-3 c = sym (ofBits-toBits binary64 _ (held (c .before .before .before))) ∙ answer (c .before .before) _ (up-when-infinity binary64 _ (c .before .if2 .left) (c .if3 .taken))
+returns-3 c = sym (ofBits-toBits binary64 _ (held (c .before .before .before))) ∙ answer (c .before .before) _ (up-when-infinity binary64 _
+    (c .before .if2 .left) (c .if3 .taken))
 
 returns-4 : tie.Need-returns-4
 returns-4 c = answer (c .before .before .before) 1 (up-when-minus-zero binary64 _ (c .if4 .taken))

@@ -17,12 +17,14 @@ returns-2 c =
 returns-3 : tie.Need-returns-3
 returns-3 c =
     let a = c .before .before .before .before .args in
-    le-zero (a .x) (a .y) (nan-no (a .y) (c .before .before .before .if1 .left)) (c .before .before .if2 .left) (c .before .if3 .taken) (c .if4 .taken)
+    le-zero (a .x) (a .y) (nan-no (a .y) (c .before .before .before .if1 .left)) (c .before .before .if2 .left) (c .before .if3 .taken)
+    (c .if4 .taken)
 
 returns-4 : tie.Need-returns-4
 returns-4 c =
     let a = c .before .before .before .before .args in
-    le-same (a .x) (a .y) (nan-no (a .y) (c .before .before .before .if1 .left)) (c .before .before .if2 .left) (c .before .if3 .taken) (c .if4 .left)
+    le-same (a .x) (a .y) (nan-no (a .y) (c .before .before .before .if1 .left)) (c .before .before .if2 .left) (c .before .if3 .taken)
+    (c .if4 .left)
 
 returns-5 : tie.Need-returns-5
 returns-5 c =

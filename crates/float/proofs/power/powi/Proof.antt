@@ -28,10 +28,16 @@ loop-holds : tie.Need-loop-holds Inv-loop μ-loop
 unfolding powerOf
 loop-holds c = (32, omega arith, refl)
 
-turn : (x : Float) (n : ℕ) (r b : Float) (k : ℕ) (r′ : Float) → 0 < k → r′ ≡ cond (eqb (k % 2) 1) (mul binary64 r b) r → Left x n r b k → Left x n r′ (mul binary64 b b) (k / 2)
+turn : (x : Float) (n : ℕ) (r b : Float) (k : ℕ) (r′ : Float) → 0 < k → r′ ≡ cond (eqb (k % 2) 1) (mul binary64 r b) r → Left x n r b k
+    → Left x n r′ (mul binary64 b b) (k / 2)
 unfolding powerIn
 turn x n r b k r′ h e (zero, l, p) = absurd (omega arith)
-turn x n r b k r′ h e (suc d, l, p) = (d, half (2 ^ d) (2 ^ suc d) (pow-suc 2 d) l, ap (λ (z : Float). powerIn floats d z (mul binary64 b b) (k / 2)) e ∙ p)
+turn x n r b k r′ h e (suc d, l, p) = (
+  d,
+  half (2 ^ d) (2 ^ suc d) (pow-suc 2 d) l,
+  ap (λ (z : Float). powerIn floats d z (mul binary64 b b)
+      (k / 2)) e ∙ p,
+)
   where
     half : (p q : ℕ) → q ≡ p * 2 → k < q → k / 2 < p
     half p q e l = omega arith
@@ -47,7 +53,8 @@ loop-again c =
     let l = c .before .before .loop in
     let a = c .before .before .before .args in
     turn (a .x) (a .n) (l .result) (l .base) (l .left) (c .if1 .result) (omega arith)
-    (⊎-elim (λ w. w .1 ∙ odd-digit (l .left) (l .result) (l .base) (w .0 .taken)) (λ w. w .1 ∙ even-digit (l .left) (l .result) (l .base) (w .0 .left)) (c .if1 .came))
+    (⊎-elim (λ w. w .1 ∙ odd-digit (l .left) (l .result) (l .base) (w .0 .taken)) (λ w. w .1 ∙ even-digit (l .left) (l .result) (l .base)
+    (w .0 .left)) (c .if1 .came))
     (l .inv)
 
 none-left : (d : ℕ) (r b : Float) → powerIn floats d r b 0 ≡ r

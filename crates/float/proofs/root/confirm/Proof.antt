@@ -45,7 +45,8 @@ mul-if5 c = omega (arith, bb (c .before .before .before .before .args .k))
 returns-6 : tie.Need-returns-6
 returns-6 c e =
     let s = c .before .before .before .before .before in
-    confirms (s .args .w) (s .args .k) (s .args .k / 0x400_0000) (s .args .k % 0x400_0000) (omega arith) (c .before .before .before .before .if1 .left) (c .before .before .if3 .left) (c .if5 .left) (leb-true _ _ e)
+    confirms (s .args .w) (s .args .k) (s .args .k / 0x400_0000) (s .args .k % 0x400_0000) (omega arith)
+    (c .before .before .before .before .if1 .left) (c .before .before .if3 .left) (c .if5 .left) (leb-true _ _ e)
 
 pub confirm-spec : {M : Type 1} → statement M
 confirm-spec =

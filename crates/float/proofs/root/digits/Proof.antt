@@ -1,4 +1,5 @@
--- `float::root::digits` meets its contract. The invariant: i digits of the root are found, and `left` is what is left of w, at the top of a word.
+-- `float::root::digits` meets its contract. The invariant: i digits of the root are found, and `left` is what is left of w, at the top of a
+-- word.
 use Prim.Native.Nat.{ℕ, _+_, _*_, _-_, _^_, _≤_, _<_}
 use mathlib.Core.Path.{_≡_, ap, _∙_}
 use mathlib.Core.Logic.{⊎-elim}

@@ -26,7 +26,8 @@ returns-3 : tie.Need-returns-3
 returns-3 c =
     let d = c .before .before in
     let a = d .before .before .before .before .args in
-    nearest-down _ (d .digits .result .root) (d .digits .result .rest) (d .digits .ensures) (omega arith) (double-some (a .m) (a .t) (omega arith))
+    nearest-down _ (d .digits .result .root) (d .digits .result .rest) (d .digits .ensures) (omega arith)
+    (double-some (a .m) (a .t) (omega arith))
 
 pub nearest-spec : {M : Type 1} → statement M
 nearest-spec =

@@ -9,13 +9,19 @@ add-result : tie.Need-add-result
 add-result c =
     let s = c .before .before in
     let x = c .before .scale in
-    omega (arith, root-upto (s .args .bits) (x .result .significand) (x .result .exponent) (c .nearest .result) (s .pre .0) (s .pre .1) (x .ensures) (c .nearest .ensures))
+    omega (
+      arith,
+      root-upto (s .args .bits) (x .result .significand) (x .result .exponent) (c .nearest .result) (s .pre .0) (s .pre .1)
+          (x .ensures) (c .nearest .ensures),
+    )
 
 returns : tie.Need-returns
 returns c =
     let s = c .before .before in
     let x = c .before .scale in
-    root-place (s .args .bits) (x .result .significand) (x .result .exponent) (c .nearest .result) (s .pre .0) (s .pre .1) (x .ensures) (c .nearest .ensures)
+    root-place (s .args .bits) (x .result .significand) (x .result .exponent) (c .nearest .result) (s .pre .0) (s .pre .1) (x .ensures)
+    (c .nearest .ensures)
 
 pub root-bits-spec : {M : Type 1} → statement M
-root-bits-spec = tie.close (tie.spec (λ c κs. search needs) (λ c κs. search needs) (λ c. search needs) (λ c. search needs) add-result returns)
+root-bits-spec = tie.close (tie.spec (λ c κs. search needs) (λ c κs. search needs) (λ c. search needs) (λ c. search needs) add-result
+    returns)

@@ -17,7 +17,8 @@ held : (c : tie.Start) → T (fits binary64 (c .args .x))
 held c = subst T (sym (c .good .0 .1)) tt
 
 -- an answer that is the definition's is the square root
-answered : (c : tie.Start) {r : Float} → r ≡ sqrtOf binary64 (c .args .x) → (r ≡ sqrtOf binary64 (c .args .x)) × SquareRoot binary64 (c .args .x) r
+answered : (c : tie.Start) {r : Float} → r ≡ sqrtOf binary64 (c .args .x) → (r ≡ sqrtOf binary64 (c .args .x))
+    × SquareRoot binary64 (c .args .x) r
 answered c e = (e, subst (SquareRoot binary64 (c .args .x)) (sym e) (sqrt-is binary64 (c .args .x) (held c)))
 
 -- in the arm of a finite number above 0
@@ -35,7 +36,8 @@ float-from-bits-result c = rw (c .root-bits .ensures, bits-no-nan binary64 (toBi
 
 returns : tie.Need-returns
 returns c =
-    answered (c .before .before .before) (ap (ofBits binary64) (c .root-bits .ensures) ∙ bits-back binary64 (toBits binary64 (c .before .before .before .args .x)) ∙ question (c .before) .is)
+    answered (c .before .before .before) (ap (ofBits binary64) (c .root-bits .ensures) ∙ bits-back binary64 (toBits binary64
+    (c .before .before .before .args .x)) ∙ question (c .before) .is)
 
 pub sqrt-spec : {M : Type 1} → statement M
 sqrt-spec =

@@ -26,15 +26,19 @@ loop-again : tie.Need-loop-again Inv-loop μ-loop
 loop-again c =
     let a = c .before .before .before .before .before .before .args in
     let l = c .before .before .before .before .loop in
-    let test : ℕ → Bool = λ j. not (finite (parameterOf (a .spacing) (a .list .now) (a .n) j)) in
-    (omega arith, any-next test (l .i) (l .inv .1) (ap (λ (z : Float). not (finite z)) (sym (c .before .before .parameter .ensures)) ∙ ap not (sym (c .before .is-finite .ensures) ∙ c .if1 .taken)))
+    let test : ℕ → Bool = λ j. not (finite (parameterOf (a .spacing) (a .list .now) (a .n) j)) in (
+      omega arith,
+      any-next test (l .i) (l .inv .1) (ap (λ (z : Float). not (finite z)) (sym (c .before .before .parameter .ensures))
+          ∙ ap not (sym (c .before .is-finite .ensures) ∙ c .if1 .taken)),
+    )
 
 returns : tie.Need-returns Inv-loop μ-loop
 returns c =
     let a = c .before .before .before .before .before .before .args in
     let l = c .before .before .before .before .loop in
     let test : ℕ → Bool = λ j. not (finite (parameterOf (a .spacing) (a .list .now) (a .n) j)) in
-    sym (any-found test (a .n) (l .i) (c .before .before .before .loop-test .taken) (ap (λ (z : Float). not (finite z)) (sym (c .before .before .parameter .ensures)) ∙ ap not (sym (c .before .is-finite .ensures) ∙ c .if1 .left)))
+    sym (any-found test (a .n) (l .i) (c .before .before .before .loop-test .taken) (ap (λ (z : Float). not (finite z))
+    (sym (c .before .before .parameter .ensures)) ∙ ap not (sym (c .before .is-finite .ensures) ∙ c .if1 .left)))
 
 returns-2 : tie.Need-returns-2 Inv-loop μ-loop
 returns-2 c =

@@ -7,7 +7,8 @@ use Rattle.request.proofs.parameters.unreliable.Tie as tie
 
 returns : tie.Need-returns
 unfolding unreliable
-returns c = rw (← c .before .before .before .length .ensures, sym (c .before .before .is-finite .ensures) ∙ c .before .if1 .taken) (c .falls .ensures)
+returns c = rw (← c .before .before .before .length .ensures, sym (c .before .before .is-finite .ensures) ∙ c .before .if1 .taken)
+    (c .falls .ensures)
 
 returns-2 : tie.Need-returns-2
 unfolding unreliable

@@ -34,7 +34,8 @@ returns c =
     let a = c .before .before .before .before .before .before .args in
     let l = c .before .before .before .before .loop in
     let test : ℕ → Bool = λ j. not (finite (at (a .points .now) j)) in
-    sym (any-found test (length (a .points .now)) (l .i) (c .before .before .before .loop-test .taken) (ap not (sym (c .before .is-finite .ensures) ∙ c .if1 .left)))
+    sym (any-found test (length (a .points .now)) (l .i) (c .before .before .before .loop-test .taken)
+    (ap not (sym (c .before .is-finite .ensures) ∙ c .if1 .left)))
 
 returns-2 : tie.Need-returns-2 Inv-loop μ-loop
 returns-2 c =

@@ -35,8 +35,13 @@ mul-to c =
 loop-holds : tie.Need-loop-holds Inv-loop μ-loop
 unfolding narrowed
 loop-holds c =
-    let k = c .before .before .before .before .before .before in
-    (omega arith, row-end (k .args .anchor) _ (k .args .d) _ (k .pre .2) (k .pre .1), row-end (k .args .i) _ (k .args .d) _ (k .pre .3) (k .pre .1), refl)
+    let k = c .before .before .before .before .before .before in (
+      omega arith,
+      row-end (k .args .anchor) _ (k .args .d) _ (k .pre .2) (k .pre .1),
+      row-end (k .args .i) _ (k .args .d) _ (k .pre .3)
+          (k .pre .1),
+      refl,
+    )
 
 loop-again : tie.Need-loop-again Inv-loop μ-loop
 unfolding axisTurn ofBits round
@@ -48,7 +53,8 @@ loop-again c =
       l .inv .1,
       l .inv .2,
       rw (c .between .ensures, c .before .before .max .ensures, c .before .min .ensures, c .before .before .before .slope .ensures)
-          (ap (each (axisTurn (a .s .now) (a .y .now) (a .d) (a .anchor) (a .i)) (l .j + 1) (a .d)) (sym (turn-cut (a .s .now) (a .y .now) (a .d) (a .anchor) (a .i) (l .j) (corridor (l .lo) (l .hi) (l .ok)) go))
+          (ap (each (axisTurn (a .s .now) (a .y .now) (a .d) (a .anchor) (a .i)) (l .j + 1) (a .d))
+          (sym (turn-cut (a .s .now) (a .y .now) (a .d) (a .anchor) (a .i) (l .j) (corridor (l .lo) (l .hi) (l .ok)) go))
           ∙ sym (each-turn _ _ _ _ go)
           ∙ l .inv .3),
     )

@@ -29,7 +29,8 @@ returns c =
     let l = c .before .before .before .before .loop in
     let a = c .before .before .before .before .before .before .before .before .args in
     let n = c .before .before .narrow in
-    next-here (a .s .now) (a .y .now) (a .d) (a .anchor) (l .i) _ _ (corridor (take (a .d) (n .result .lo)) (take (a .d) (n .result .hi)) (n .result .ok)) (n .ensures) (omega arith) (sym (c .before .breaks .ensures) ∙ c .if1 .taken)
+    next-here (a .s .now) (a .y .now) (a .d) (a .anchor) (l .i) _ _ (corridor (take (a .d) (n .result .lo)) (take (a .d) (n .result .hi))
+    (n .result .ok)) (n .ensures) (omega arith) (sym (c .before .breaks .ensures) ∙ c .if1 .taken)
     ∙ l .inv .2
 
 loop-again : tie.Need-loop-again Inv-loop μ-loop
@@ -39,7 +40,8 @@ loop-again c =
     let n = c .before .before .narrow in (
       omega arith,
       omega arith,
-      next-on (a .s .now) (a .y .now) (a .d) (a .anchor) (l .i) _ _ (corridor (take (a .d) (n .result .lo)) (take (a .d) (n .result .hi)) (n .result .ok)) (n .ensures) (omega arith) (sym (c .before .breaks .ensures) ∙ c .if1 .left)
+      next-on (a .s .now) (a .y .now) (a .d) (a .anchor) (l .i) _ _ (corridor (take (a .d) (n .result .lo)) (take (a .d) (n .result .hi))
+          (n .result .ok)) (n .ensures) (omega arith) (sym (c .before .breaks .ensures) ∙ c .if1 .left)
           ∙ l .inv .2,
     )
 

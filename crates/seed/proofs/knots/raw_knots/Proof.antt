@@ -12,7 +12,8 @@ use Rattle.seed.proofs.knots.raw_knots.Tie as tie
 
 abbrev Inv-loop : tie.InvT-loop
 Inv-loop work₀ p last from k₀ a₀ b₀ work k a b =
-    Begun (parametersAt p work₀) (pointsAt p work₀) (p .axes) (p .knots) work₀ work a b k × (length work ≡ length work₀) × (length (parametersAt p work₀) ≡ p .samples)
+    Begun (parametersAt p work₀) (pointsAt p work₀) (p .axes) (p .knots) work₀ work a b k × (length work ≡ length work₀)
+    × (length (parametersAt p work₀) ≡ p .samples)
 
 abbrev μ-loop : tie.MeasureT-loop
 μ-loop work₀ p last from k₀ a₀ b₀ work k a b = p .samples - b
@@ -28,16 +29,23 @@ loop-holds c =
 -- the anchor after b, of the waypoints as at entry
 next-is : (c : tie.After-anchor-after2 Inv-loop μ-loop) →
     let g = c .before .before .before .before .before .before .before .before .args in
-    c .anchor-after2 .result ≡ nextAnchor (parametersAt (g .p) (g .work .now)) (pointsAt (g .p) (g .work .now)) (g .p .axes) (c .before .before .before .loop .b)
+    c .anchor-after2 .result ≡ nextAnchor (parametersAt (g .p) (g .work .now)) (pointsAt (g .p) (g .work .now)) (g .p .axes)
+    (c .before .before .before .loop .b)
 next-is c =
     let g = c .before .before .before .before .before .before .before .before .args in
     let laid = c .before .before .before .before .before .before .before .before .pre .0 in
     let z = c .before .before .before .loop .inv .0 in
-    c .anchor-after2 .ensures ∙ rw (z .is, same-parameters (g .p) (g .work .now) laid (z .done), same-points (g .p) (g .work .now) laid (z .done))
+    c .anchor-after2 .ensures ∙ rw (
+      z .is,
+      same-parameters (g .p) (g .work .now) laid (z .done),
+      same-points (g .p) (g .work .now) laid
+          (z .done),
+    )
 
 -- it lies after b
 next-after : (c : tie.After-anchor-after2 Inv-loop μ-loop) → let l = c .before .before .before .loop in
-    (l .b < c .anchor-after2 .result) × (c .anchor-after2 .result < c .before .before .before .before .before .before .before .before .args .p .samples)
+    (l .b < c .anchor-after2 .result) × (c .anchor-after2 .result <
+    c .before .before .before .before .before .before .before .before .args .p .samples)
 next-after c =
     let g = c .before .before .before .before .before .before .before .before .args in
     let l = c .before .before .before .loop in
@@ -61,8 +69,10 @@ loop-again c =
     let l = c .before .before .before .before .before .loop in
     let z = l .inv .0 in
     let t = c .knots-at .result in
-    let e = rw (z .is, same-parameters p w laid (z .done), same-points p w laid (z .done), next-is (c .before .before)) at (c .knots-at .ensures) in (
-      rw (next-is (c .before .before)) (begun-more (parametersAt p w) (pointsAt p w) (p .axes) (p .knots) w (l .work) (l .a) (l .b) (l .k) (t .left) (t .middle) (t .right) (omega arith) (omega arith) e z),
+    let e = rw (z .is, same-parameters p w laid (z .done), same-points p w laid (z .done), next-is (c .before .before))
+    at (c .knots-at .ensures) in (
+      rw (next-is (c .before .before)) (begun-more (parametersAt p w) (pointsAt p w) (p .axes) (p .knots) w (l .work) (l .a) (l .b) (l .k)
+          (t .left) (t .middle) (t .right) (omega arith) (omega arith) e z),
       simp length-set (l .inv .1),
       l .inv .2,
     )

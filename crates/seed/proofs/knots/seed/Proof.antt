@@ -23,7 +23,8 @@ returns c =
 
 -- the raw knots fit
 room : (c : tie.After-raw-knots) → let g = c .before .before .before .before .before .args in
-    g .p .knots + length (rawKnots (parametersAt (g .p) (g .work .now)) (pointsAt (g .p) (g .work .now)) (g .p .axes)) ≤ length (g .work .now)
+    g .p .knots + length (rawKnots (parametersAt (g .p) (g .work .now)) (pointsAt (g .p) (g .work .now)) (g .p .axes))
+    ≤ length (g .work .now)
 room c =
     let g = c .before .before .before .before .before .args in
     let p = g .p in
@@ -38,7 +39,8 @@ returns-2 c =
     let w = g .work .now in
     let r = c .before .before .before .before .before .before .raw-knots .ensures in
     let v = c .before .before .settle .ensures in
-    settled (parametersAt p w) (pointsAt p w) (p .axes) (p .knots) w _ _ _ _ (room (c .before .before .before .before .before .before)) (r .0) (r .1) (v .0) (v .1)
+    settled (parametersAt p w) (pointsAt p w) (p .axes) (p .knots) w _ _ _ _ (room (c .before .before .before .before .before .before))
+    (r .0) (r .1) (v .0) (v .1)
 
 pub seed-spec : {M : Type 1} → statement M
 seed-spec =

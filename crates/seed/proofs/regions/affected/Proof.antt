@@ -13,7 +13,13 @@ unfolding rangeOf
 returns c =
     let down = c .before .before .before .before .down in
     let span = c .before .before .before .before .before .span in
-    rw (clipped (down .result) (c .before .down3 .result) (c .down4 .result) (span .result) (c .before .down3 .ensures) (c .down4 .ensures), c .before .before .larger .ensures, c .before .before .before .down2 .ensures, down .ensures, span .ensures)
+    rw (
+      clipped (down .result) (c .before .down3 .result) (c .down4 .result) (span .result) (c .before .down3 .ensures) (c .down4 .ensures),
+      c .before .before .larger .ensures,
+      c .before .before .before .down2 .ensures,
+      down .ensures,
+      span .ensures,
+    )
 
 pub affected-spec : {M : Type 1} → statement M
 affected-spec =

@@ -1,4 +1,5 @@
--- `regions::next_region` meets its contract. The invariant: the region so far, with the locations left, gives the regions from the first location on.
+-- `regions::next_region` meets its contract. The invariant: the region so far, with the locations left, gives the regions from the first
+-- location on.
 use mathlib.Core.Path.{_≡_, sym, _∙_}
 use Prim.Native.Nat.{_-_, _≤_, _<_}
 use native.Mathlib.Omega.{arith}
@@ -18,8 +19,12 @@ abbrev μ-loop : tie.MeasureT-loop
 loop-holds : tie.Need-loop-holds Inv-loop μ-loop
 loop-holds c =
     let a = c .before .before .before .before .args in
-    let r = c .affected in
-    (omega arith, omega arith, region-opens (a .t .now) (a .m) (a .x .now) (a .from) (range (r .result .a) (r .result .z)) (omega arith) (r .ensures))
+    let r = c .affected in (
+      omega arith,
+      omega arith,
+      region-opens (a .t .now) (a .m) (a .x .now) (a .from) (range (r .result .a) (r .result .z)) (omega arith)
+          (r .ensures),
+    )
 
 loop-again : tie.Need-loop-again Inv-loop μ-loop
 loop-again c =
@@ -28,15 +33,19 @@ loop-again c =
     let a = c .before .before .before .before .before .before .before .before .before .before .before .args in (
       omega arith,
       omega arith,
-      rw (c .larger .ensures) (sym (region-grows (a .t .now) (a .m) (a .x .now) (l .i) _ (l .z) (range (r .result .a) (r .result .z)) (omega arith) (r .ensures) (sym (c .before .before .joins .ensures) ∙ c .before .if1 .taken)) ∙ l .inv .2),
+      rw (c .larger .ensures) (sym (region-grows (a .t .now) (a .m) (a .x .now) (l .i) _ (l .z) (range (r .result .a) (r .result .z))
+          (omega arith) (r .ensures) (sym (c .before .before .joins .ensures) ∙ c .before .if1 .taken)) ∙ l .inv .2),
     )
 
 returns : tie.Need-returns Inv-loop μ-loop
 returns c =
     let l = c .before .before .before .before .before .loop in
     let r = c .before .before .affected2 in
-    let a = c .before .before .before .before .before .before .before .before .before .before .args in
-    (sym (l .inv .2) ∙ region-parts (a .t .now) (a .m) (a .x .now) (l .i) _ (l .z) (range (r .result .a) (r .result .z)) (omega arith) (r .ensures) (sym (c .before .joins .ensures) ∙ c .if1 .left), (omega arith, omega arith))
+    let a = c .before .before .before .before .before .before .before .before .before .before .args in (
+      sym (l .inv .2) ∙ region-parts (a .t .now) (a .m) (a .x .now) (l .i) _ (l .z) (range (r .result .a) (r .result .z)) (omega arith)
+          (r .ensures) (sym (c .before .joins .ensures) ∙ c .if1 .left),
+      (omega arith, omega arith),
+    )
 
 returns-2 : tie.Need-returns-2 Inv-loop μ-loop
 returns-2 c =
