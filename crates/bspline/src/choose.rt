@@ -4,7 +4,8 @@ ghost use Prim.Native.Nat.{_≤_, _<_};
 ghost use Rattle.arith.specs.Operations.{floats};
 ghost use Rattle.bspline.specs.Choose.{chooseOf};
 
-const FACT: [f64; 6] = [1., 1., 2., 6., 24., 120.];
+// 0! to 5!
+pub const FACT: [f64; 6] = [1., 1., 2., 6., 24., 120.];
 
 // n over k, for n up to five.
 pub fn choose(n: usize, k: usize) -> f64

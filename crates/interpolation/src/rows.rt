@@ -9,9 +9,8 @@ ghost use Rattle.smoothing.specs.Interpolate.{derivativeOf};
 ghost use Rattle.interpolation.specs.Rows.{waypointRow, endRow};
 use bspline::basis::Basis;
 use bspline::basis::Taylor;
+use bspline::choose::FACT;
 use fitting_rows::Place;
-
-const FACT: [f64; 6] = [1., 1., 2., 6., 24., 120.];
 
 // The row of waypoint i.
 pub fn waypoint_row(cells: &[f64], q: Place, i: usize) -> normal::Row
