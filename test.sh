@@ -1,6 +1,7 @@
 #!/usr/bin/env bash
-# All tests: the layout, the unchanged Rust with the stored lists of its answers, and last the
-# toolchain's gate, so that the last line is `N passed, 0 failed`.
+# All tests: the layout, the unchanged Rust with the stored lists of its answers, the toolchain's gate, and
+# the examples through the program `lane` that the gate built. The gate's last line, `N passed, 0 failed`,
+# is the last line here too.
 set -euo pipefail
 cd "$(dirname "$0")"
 
@@ -8,6 +9,9 @@ fail() {
     echo "test.sh: $1" >&2
     exit 1
 }
+
+scratch=$(mktemp -d)
+trap 'rm -rf "$scratch"' EXIT
 
 command -v rt > /dev/null || fail "rt, the command of the Rattle toolchain, is not on the path"
 
@@ -19,8 +23,6 @@ source=${SMOOTHING_RS:-../shared/docs/src/path/smoothing.rs}
 if command -v cargo > /dev/null && [ -f "$source" ]; then
     SMOOTHING_RS=$(realpath "$source")
     export SMOOTHING_RS
-    scratch=$(mktemp -d)
-    trap 'rm -rf "$scratch"' EXIT
     (cd oracle && cargo test --release --offline --quiet > "$scratch/log" 2>&1) || {
         cat "$scratch/log" >&2
         fail "the oracle's own tests fail"
@@ -32,6 +34,11 @@ if command -v cargo > /dev/null && [ -f "$source" ]; then
     done
     lines=$(cat crates/replay/stdout crates/replay_builds/stdout | wc -l)
     echo "the oracle's tests pass, and the stored lists are the oracle's: $lines lines"
+    for job in examples/*.job; do
+        oracle/target/release/oracle job < "$job" | cmp - "${job%.job}.txt" ||
+            fail "${job%.job}.txt is not what the oracle prints for its job"
+    done
+    echo "the texts of the examples are the oracle's"
     if command -v python3 > /dev/null; then
         grep '^certify' oracle/lists.txt > "$scratch/recipe"
         oracle/target/release/oracle list "$scratch/recipe" > "$scratch/list"
@@ -49,4 +56,15 @@ else
 fi
 
 echo "== proofs, must-fail edits and programs"
-rt ci
+rt ci | tee "$scratch/gate" || fail "the gate fails"
+
+echo "== the examples, through the program that was built"
+for job in examples/*.job; do
+    target/bin/lane < "$job" > "$scratch/printed" || fail "lane does not end well on $job"
+    cmp "$scratch/printed" "${job%.job}.txt" || fail "lane does not print ${job%.job}.txt"
+done
+echo "$(ls examples/*.job | wc -l) examples print what they must"
+if [ -n "${SMOOTHING_RS:-}" ] && [ -x oracle/target/release/oracle ]; then
+    oracle/target/release/oracle lane target/bin/lane 3 2000 || fail "lane differs from the Rust"
+fi
+tail -n 1 "$scratch/gate"

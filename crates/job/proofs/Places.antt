@@ -208,3 +208,21 @@ point-count l j e = first (countsForm .read l) e
     first (got c rest) e =
         second c rest (readWhole (numbersForm c) rest) refl
         (not-refused (aboveLimits c) 18 (numbered c (readWhole (numbersForm c) rest)) j e .1)
+
+-- and its counts lie within the limits
+pub job-within : (l : List ℕ) (j : Job) → jobOf l ≡ done j
+    → (j .counts .d ≤ 2) × (j .counts .n ≤ 100) × (j .counts .refinements ≤ 200) × (j .counts .segments ≤ 100)
+unfolding jobOf counted numbered
+job-within l j e = first (countsForm .read l) e
+  where
+    second : (c : Counts) (o : Read Numbers) → numbered c o ≡ done j → c ≡ j .counts
+    second c bad e = absurd (refused-done e)
+    second c (got p r) e = ap (λ (j : Job). j .counts) (done-same e)
+
+    first : (o : Read Counts) → counted o ≡ done j
+        → (j .counts .d ≤ 2) × (j .counts .n ≤ 100) × (j .counts .refinements ≤ 200) × (j .counts .segments ≤ 100)
+    first bad e = absurd (refused-done e)
+    first (got c rest) e =
+        let p = not-refused (aboveLimits c) 18 (numbered c (readWhole (numbersForm c) rest)) j e in
+        let k = second c (readWhole (numbersForm c) rest) (p .1) in
+        within-limits (j .counts) (ap aboveLimits (sym k) ∙ p .0)

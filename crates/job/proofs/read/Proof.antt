@@ -72,7 +72,7 @@ returns-3 c =
     let g = e .before in
     let n = length-drop (next g) (bytes g) in
     refused-read (bytes g) (start g .args .cells .now) 25
-    (job-bad (bytes g) (counts g) (drop (next g) (bytes g)) (read-so g) (within e) (λ f. c .if2 .taken (sym n ∙ f)))
+    (job-bad (bytes g) (counts g) (drop (next g) (bytes g)) (read-so g) (within e) (λ f. omega (arith, n, f, c .if2 .taken)))
 
 part-floats-end-2 : tie.Need-part-floats-end-2
 part-floats-end-2 c =
