@@ -13,35 +13,6 @@ use crate::text;
 use building::Answer;
 use building::Report;
 
-// Document 01's number of an answer.
-fn number(answer: Answer) -> u64
-    ensures { λ r. ⌜ r ≡ numberOf (outcomeOf answer) ⌝ }
-{
-    match answer {
-        Answer::Accepted(_) => 0,
-        Answer::BadPoints => 1,
-        Answer::NoAxes => 2,
-        Answer::BadAxes => 3,
-        Answer::BadTolerance => 4,
-        Answer::BadParameters => 5,
-        Answer::BadRange => 6,
-        Answer::Overflow => 7,
-        Answer::InitialSegments => 8,
-        Answer::BadDiagonal => 9,
-        Answer::BadPivot => 10,
-        Answer::BadSolution => 11,
-        Answer::NotAbove => 12,
-        Answer::NotFinite => 13,
-        Answer::RefinementsUsedUp(_) => 14,
-        Answer::SegmentsUsedUp => 15,
-        Answer::BadMidpoint => 16,
-        Answer::ErrorAboveTolerance => 17,
-        Answer::AboveDomain => 18,
-        Answer::ShortSlice => 19,
-        Answer::PointCells => 20,
-    }
-}
-
 // `refused` and document 01's number.
 fn refusal(number: u64, out: &mut [u8]) -> usize
     requires { ⌜ 256 ≤ length (now out) ⌝ }
@@ -129,6 +100,6 @@ pub(crate) fn answered(answer: Answer, errors: &[f64], out: &mut [u8]) -> usize
     match answer {
         Answer::Accepted(report) => accepted(report, errors, out),
         Answer::RefinementsUsedUp(ratio) => exhausted(ratio, out),
-        _ => refused(number(answer), out),
+        _ => refused(building::number(answer), out),
     }
 }

@@ -12,33 +12,6 @@ use listing::output;
 use listing::output::Line;
 use listing::sizes;
 
-// Document 01's number of an answer, 0 where it is accepted.
-fn number(answer: Answer) -> u64 {
-    match answer {
-        Answer::Accepted(_) => 0,
-        Answer::BadPoints => 1,
-        Answer::NoAxes => 2,
-        Answer::BadAxes => 3,
-        Answer::BadTolerance => 4,
-        Answer::BadParameters => 5,
-        Answer::BadRange => 6,
-        Answer::Overflow => 7,
-        Answer::InitialSegments => 8,
-        Answer::BadDiagonal => 9,
-        Answer::BadPivot => 10,
-        Answer::BadSolution => 11,
-        Answer::NotAbove => 12,
-        Answer::NotFinite => 13,
-        Answer::RefinementsUsedUp(_) => 14,
-        Answer::SegmentsUsedUp => 15,
-        Answer::BadMidpoint => 16,
-        Answer::ErrorAboveTolerance => 17,
-        Answer::AboveDomain => 18,
-        Answer::ShortSlice => 19,
-        Answer::PointCells => 20,
-    }
-}
-
 // How many axes are not selected.
 fn others_of(curve: Curve) -> usize {
     if curve.d < curve.k {
@@ -300,9 +273,9 @@ fn refused(
         errors: 0,
     };
     let next = output::text(out, at, b" refused");
-    let next = output::whole(out, next, number(answer));
+    let next = output::whole(out, next, building::number(answer));
     let next = ratio(answer, out, next);
-    if !is_left(work, p.work, number(answer)) {
+    if !is_left(work, p.work, building::number(answer)) {
         return end(false, out, next);
     }
     let kept = are_kept(

@@ -8,7 +8,7 @@ use lib.ListN.{length}
 use Rattle.smoothing.specs.Answer.{Answer}
 use Rattle.smoothing.specs.Request.{Request}
 use Rattle.smoothing.specs.Build.{Result, buildOf, buildIn}
-use Rattle.building.specs.Request.{axesOf, toleranceOf}
+use Rattle.checks.specs.Request.{axesOf, toleranceOf}
 use Rattle.building.specs.Outcome.{Results, results, reported, resultsAfter, lengthsOf}
 use Rattle.lane.specs.Lane.{requestIn}
 use Rattle.lane.proofs.Requests.{roomy, errors-stand}
