@@ -5,11 +5,7 @@ use borrow.Author.Needs.{needs}
 use Rattle.replay_lending.proofs.build_in.Statement.{statement}
 use Rattle.replay_lending.proofs.build_in.Tie as tie
 
--- where a part begins
-starts : {p n : ℕ} → 8 ≤ p → p + 8 ≤ n → 8 ≤ n
-starts h g = omega arith
-
--- and where it ends
+-- a part ends within its buffer
 ends : {p n : ℕ} → p + 8 ≤ n → p ≤ n
 ends g = omega arith
 
@@ -66,22 +62,22 @@ build-in-spec =
     tie.close
     (tie.spec
     (λ c. c .before .before .before .before .before .before .before .before .before .before .pre .0 .0)
-    (λ c. let g = c .before .before .before .before .before .before .before .before .before .before .pre in starts (g .0 .0) (g .1 .0))
+    (λ c. c .before .before .before .before .before .before .before .before .before .before .pre .0 .0)
     (λ c. ends (c .before .before .before .before .before .before .before .before .before .before .pre .1 .0))
     (λ c. c .before .before .before .before .before .before .before .before .before .before .before .pre .0 .1)
-    (λ c. let g = c .before .before .before .before .before .before .before .before .before .before .before .pre in starts (g .0 .1) (g .1 .1))
+    (λ c. c .before .before .before .before .before .before .before .before .before .before .before .pre .0 .1)
     (λ c. ends (c .before .before .before .before .before .before .before .before .before .before .before .pre .1 .1))
     (λ c. c .before .before .before .before .before .before .before .before .before .before .before .before .pre .0 .2)
-    (λ c. let g = c .before .before .before .before .before .before .before .before .before .before .before .before .pre in starts (g .0 .2) (g .1 .2))
+    (λ c. c .before .before .before .before .before .before .before .before .before .before .before .before .pre .0 .2)
     (λ c. ends (c .before .before .before .before .before .before .before .before .before .before .before .before .pre .1 .2))
     (λ c. c .before .before .before .before .before .before .before .before .before .before .before .before .before .pre .0 .3)
-    (λ c. let g = c .before .before .before .before .before .before .before .before .before .before .before .before .before .pre in starts (g .0 .3) (g .1 .3))
+    (λ c. c .before .before .before .before .before .before .before .before .before .before .before .before .before .pre .0 .3)
     (λ c. ends (c .before .before .before .before .before .before .before .before .before .before .before .before .before .pre .1 .3))
     (λ c. c .before .before .before .before .before .before .before .before .before .before .before .before .before .before .pre .0 .4)
-    (λ c. let g = c .before .before .before .before .before .before .before .before .before .before .before .before .before .before .pre in starts (g .0 .4) (g .1 .4))
+    (λ c. c .before .before .before .before .before .before .before .before .before .before .before .before .before .before .pre .0 .4)
     (λ c. ends (c .before .before .before .before .before .before .before .before .before .before .before .before .before .before .pre .1 .4))
     (λ c. c .before .before .before .before .before .before .before .before .before .before .before .before .before .before .before .pre .0 .5)
-    (λ c. let g = c .before .before .before .before .before .before .before .before .before .before .before .before .before .before .before .pre in starts (g .0 .5) (g .1 .5))
+    (λ c. c .before .before .before .before .before .before .before .before .before .before .before .before .before .before .before .pre .0 .5)
     (λ c. ends (c .before .before .before .before .before .before .before .before .before .before .before .before .before .before .before .pre .1 .5))
     (λ c κs. search needs)
     same-length
