@@ -54,7 +54,8 @@ module _ where
   low-value zero n h = omega (arith, pow-zero 256)
   low-value (suc k) n h = rw (low-value k (n / 256) (omega (arith, pow-succ' 256 k))) (omega arith)
 
-  value-low : (k : ℕ) (l : List ℕ) → Bytes l → k ≤ length l → (take k l ≡ lowBytes k (lowFirst (take k l))) × (lowFirst (take k l) < 256 ^ k)
+  value-low : (k : ℕ) (l : List ℕ) → Bytes l → k ≤ length l → (take k l ≡ lowBytes k (lowFirst (take k l)))
+      × (lowFirst (take k l) < 256 ^ k)
   unfolding lowBytes lowFirst
   value-low zero l B h = (refl, omega (arith, pow-zero 256))
   value-low (suc k) [] B h = absurd (omega arith)
@@ -82,20 +83,25 @@ module _ where
       sole : (n : ℕ) (l rest : List ℕ) → Bytes l → readBytes k l ≡ got n rest → (l ≡ lowBytes k n ++ rest) × (n < 256 ^ k)
       sole n l rest N e = go (ltb (length l) k) refl e
         where
-          go : (b : Bool) → ltb (length l) k ≡ b → cond b bad (got (lowFirst (take k l)) (drop k l)) ≡ got n rest → (l ≡ lowBytes k n ++ rest) × (n < 256 ^ k)
+          go : (b : Bool) → ltb (length l) k ≡ b → cond b bad (got (lowFirst (take k l)) (drop k l)) ≡ got n rest
+              → (l ≡ lowBytes k n ++ rest) × (n < 256 ^ k)
           go true t f = absurd (not-got f)
           go false t f =
               let v : lowFirst (take k l) ≡ n = cc in
               let u : drop k l ≡ rest = cc in
               let i = value-low k l N (ltb-false (length l) k t) in
-              subst (λ (m : ℕ). (l ≡ lowBytes k m ++ rest) × (m < 256 ^ k)) v
-              (sym (take-append-drop k l) ∙ ap (λ (t : List ℕ). t ++ drop k l) (i .0) ∙ ap (λ (t : List ℕ). lowBytes k (lowFirst (take k l)) ++ t) u, i .1)
+              subst (λ (m : ℕ). (l ≡ lowBytes k m ++ rest) × (m < 256 ^ k)) v (
+                sym (take-append-drop k l) ∙ ap (λ (t : List ℕ). t ++ drop k l) (i .0) ∙ ap (λ (t : List ℕ). lowBytes k (lowFirst (take k l))
+                    ++ t) u,
+                i .1,
+              )
 
 -- ---- forms put together
 abbrev pub pair : {A : Type 0} {B : A → Type 0} (a : A) → B a → List ℕ → Read (Both A B)
 pair a b s = got (record { first = a; second = b }) s
 
-pub then-exact : {A : Type 0} {B : A → Type 0} (F : Form A) (G : (a : A) → Form (B a)) → Exact F → ((a : A) → Exact (G a)) → Exact (then F G)
+pub then-exact : {A : Type 0} {B : A → Type 0} (F : Form A) (G : (a : A) → Form (B a)) → Exact F → ((a : A) → Exact (G a))
+    → Exact (then F G)
 then-exact {A} {B} F G X Y = record {
   back = λ p rest g.
       let w = G (p .first) .write (p .second) in
@@ -158,7 +164,8 @@ many-exact {A} F X n = record { back = forth n; only = λ vs l rest N e. sole n 
         let u : l ≡ rest = cc in
         subst (λ (vs : List A). Spelled (many F zero) vs l rest) q (u, tt)
     sole (suc n) vs l rest N e =
-        next n vs l rest N (λ r bs s M. sole n bs r s M) (step (F .read l) (λ a r. after (readAll F n r) (λ bs s. got (a ∷ bs) s)) vs rest e)
+        next n vs l rest N (λ r bs s M. sole n bs r s M) (step (F .read l) (λ a r. after (readAll F n r) (λ bs s. got (a ∷ bs) s)) vs rest
+        e)
 
 -- as many values as asked
 pub many-count : {A : Type 0} (F : Form A) (n : ℕ) (l : List ℕ) (vs : List A) (rest : List ℕ) → readAll F n l ≡ got vs rest → length vs ≡ n
@@ -182,7 +189,8 @@ through-exact {A} {B} to from there back F X = record {
   only = λ b l rest N e. go b l rest N (step (F .read l) (λ a r. got (to a) r) b rest e);
 }
   where
-    go : (b : B) (l rest : List ℕ) → Bytes l → Stepped (F .read l) (λ a r. got (to a) r) b rest → (l ≡ F .write (from b) ++ rest) × F .Good (from b)
+    go : (b : B) (l rest : List ℕ) → Bytes l → Stepped (F .read l) (λ a r. got (to a) r) b rest → (l ≡ F .write (from b) ++ rest)
+        × F .Good (from b)
     go b l rest N (stepped a r e f) =
         let v : to a ≡ b = cc in
         let u : r ≡ rest = cc in
@@ -194,7 +202,8 @@ through-exact {A} {B} to from there back F X = record {
 pub whole-back : {A : Type 0} (F : Form A) → Exact F → (a : A) → F .Good a → readWhole F (F .write a) ≡ got a []
 whole-back F X a g = rw (← append-nil (F .write a), X .back a [] g)
 
-pub whole-only : {A : Type 0} (F : Form A) → Exact F → (a : A) (l rest : List ℕ) → Bytes l → readWhole F l ≡ got a rest → (l ≡ F .write a) × F .Good a
+pub whole-only : {A : Type 0} (F : Form A) → Exact F → (a : A) (l rest : List ℕ) → Bytes l → readWhole F l ≡ got a rest → (l ≡ F .write a)
+    × F .Good a
 whole-only {A} F X a l rest N e = go (step (F .read l) noRest a rest e)
   where
     empty : (b : A) (r : List ℕ) → noRest b r ≡ got a rest → (r ≡ []) × (b ≡ a)
@@ -205,4 +214,8 @@ whole-only {A} F X a l rest N e = go (step (F .read l) noRest a rest e)
     go (stepped b r e f) =
         let p = empty b r f in
         let i = X .only b l r N e in
-        subst (λ (a : A). (l ≡ F .write a) × F .Good a) (p .1) (i .0 ∙ ap (λ (z : List ℕ). F .write b ++ z) (p .0) ∙ append-nil (F .write b), i .1)
+        subst (λ (a : A). (l ≡ F .write a) × F .Good a) (p .1) (
+          i .0 ∙ ap (λ (z : List ℕ). F .write b ++ z) (p .0) ∙ append-nil
+              (F .write b),
+          i .1,
+        )

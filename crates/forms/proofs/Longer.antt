@@ -75,11 +75,13 @@ then-within {A} {B} {j} {k} {F} {G} X Y = record {
     second x b (got y s) = refl
 
     both : (a b : List ℕ) → j + k ≤ length a → (o : Read A) → Left j a o
-        → after (more b o) (λ x r. after (G x .read r) (pair {A = A} {B = B} x)) ≡ more b (after o (λ x r. after (G x .read r) (pair {A = A} {B = B} x)))
+        → after (more b o) (λ x r. after (G x .read r) (pair {A = A} {B = B} x))
+        ≡ more b (after o (λ x r. after (G x .read r) (pair {A = A} {B = B} x)))
     both a b h bad i = refl
     both a b h (got x r) i = rw (Y x .longer r b (omega arith)) (second x b (G x .read r))
 
-    left-second : (x : A) (a r : List ℕ) → length a ≤ j + length r → (o : Read (B x)) → Left k r o → Left (j + k) a (after o (pair {A = A} {B = B} x))
+    left-second : (x : A) (a r : List ℕ) → length a ≤ j + length r → (o : Read (B x)) → Left k r o
+        → Left (j + k) a (after o (pair {A = A} {B = B} x))
     left-second x a r h bad i = tt
     left-second x a r h (got y s) i = omega arith
 

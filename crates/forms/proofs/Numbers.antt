@@ -35,7 +35,8 @@ unfolding readBytes
 patterns-short zero l h = absurd (omega arith)
 patterns-short (suc m) l h = go (ltb (length l) 8) refl (patterns-short m (drop 8 l))
   where
-    go : (b : Bool) → ltb (length l) 8 ≡ b → (length (drop 8 l) < 8 * m → readAll (bytes 8) m (drop 8 l) ≡ bad) → readAll (bytes 8) (suc m) l ≡ bad
+    go : (b : Bool) → ltb (length l) 8 ≡ b → (length (drop 8 l) < 8 * m → readAll (bytes 8) m (drop 8 l) ≡ bad)
+        → readAll (bytes 8) (suc m) l ≡ bad
     go true e ih = rw e
     go false e ih = rw (e, ih (rw (length-drop 8 l) (omega (arith, ltb-false (length l) 8 e))))
 

@@ -32,7 +32,8 @@ module _ (l : List ℕ) (at : ℕ) where
   last k h g = ap (readGroups (suc k)) (front h) ∙ rw (lt-ltb (getD l at 0) 128 g)
 
   -- a group before others
-  pub more : (k : ℕ) → at < length l → 128 ≤ getD l at 0 → readGroups (suc k) (drop at l) ≡ after (readGroups k (drop (at + 1) l)) (above (getD l at 0))
+  pub more : (k : ℕ) → at < length l → 128 ≤ getD l at 0 → readGroups (suc k) (drop at l) ≡ after (readGroups k (drop (at + 1) l)) (above
+      (getD l at 0))
   unfolding readGroups
   more k h g = ap (readGroups (suc k)) (front h) ∙ rw (le-ltb (getD l at 0) 128 g)
 
@@ -71,9 +72,11 @@ module _ (l : List ℕ) (at : ℕ) where
 
   pub answer5 : at + 1 < length l → 128 ≤ a → b < 128 → 1 ≤ b → Number (a - 128 + 128 * b) (at + 1 + 1) ≡ numberAt l at
   answer5 h g f z =
-      sym (placed l (at + 1 + 1) (a - 128 + 128 * b) (omega arith)) ∙ ap (found (length l)) (sym (above-is a b (drop (at + 1 + 1) l) z)) ∙ two (omega arith) g _ (last l (at + 1) 1 h f)
+      sym (placed l (at + 1 + 1) (a - 128 + 128 * b) (omega arith)) ∙ ap (found (length l)) (sym (above-is a b (drop (at + 1 + 1) l) z))
+      ∙ two (omega arith) g _ (last l (at + 1) 1 h f)
 
-  three : at + 1 < length l → 128 ≤ a → 128 ≤ b → (r : Read ℕ) → readGroups 1 (drop (at + 1 + 1) l) ≡ r → found (length l) (after (after r (above b)) (above a)) ≡ numberAt l at
+  three : at + 1 < length l → 128 ≤ a → 128 ≤ b → (r : Read ℕ) → readGroups 1 (drop (at + 1 + 1) l) ≡ r
+      → found (length l) (after (after r (above b)) (above a)) ≡ numberAt l at
   three h g f r e = two (omega arith) g (after r (above b)) (more l (at + 1) 1 h f ∙ ap (λ (r : Read ℕ). after r (above b)) e)
 
   pub answer6 : at + 1 < length l → 128 ≤ a → 128 ≤ b → length l ≤ at + 1 + 1 → Nothing ≡ numberAt l at
@@ -81,9 +84,11 @@ module _ (l : List ℕ) (at : ℕ) where
 
   pub answer7 : at + 1 + 1 < length l → 128 ≤ a → 128 ≤ b → d < 128 → d ≡ 0 → Nothing ≡ numberAt l at
   answer7 h g f e z =
-      ap (λ (r : Read ℕ). found (length l) (after r (above a))) (sym (above-zero b (drop (at + 1 + 1 + 1) l) d z)) ∙ three (omega arith) g f (got d (drop (at + 1 + 1 + 1) l)) (last l (at + 1 + 1) 0 h e)
+      ap (λ (r : Read ℕ). found (length l) (after r (above a))) (sym (above-zero b (drop (at + 1 + 1 + 1) l) d z))
+      ∙ three (omega arith) g f (got d (drop (at + 1 + 1 + 1) l)) (last l (at + 1 + 1) 0 h e)
 
-  pub answer8 : at + 1 + 1 < length l → 128 ≤ a → 128 ≤ b → d < 128 → 1 ≤ d → Number (a - 128 + 128 * (b - 128 + 128 * d)) (at + 1 + 1 + 1) ≡ numberAt l at
+  pub answer8 : at + 1 + 1 < length l → 128 ≤ a → 128 ≤ b → d < 128 → 1 ≤ d → Number (a - 128 + 128 * (b - 128 + 128 * d)) (at + 1 + 1 + 1)
+      ≡ numberAt l at
   answer8 h g f e z =
       let rest = drop (at + 1 + 1 + 1) l in
       sym (placed l (at + 1 + 1 + 1) (a - 128 + 128 * (b - 128 + 128 * d)) (omega arith))

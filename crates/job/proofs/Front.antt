@@ -1,5 +1,5 @@
--- The first 1,621 bytes tell whether some bytes are a job, and which: four counts have at most 12 bytes, the numbers of a job at most 1,608,
--- and one byte more is left over.
+-- The first 1,621 bytes tell whether some bytes are a job, and which: four counts have at most 12 bytes, the numbers of a job at most
+-- 1,608, and one byte more is left over.
 use mathlib.Core.Path.{_≡_, refl, sym, ap, _∙_}
 use mathlib.Core.Bool.{Bool, true, false, cond}
 use mathlib.Core.List.{List, _++_}

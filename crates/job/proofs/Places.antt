@@ -72,7 +72,11 @@ module _ (c : Counts) (l : List ℕ) where
 
       fewer : (b : Bool) → ltb (length l) (8 + 8 * (c .d * c .n)) ≡ b → 8 ≤ length l → readWhole (numbersForm c) l ≡ bad
       fewer true e h =
-          rw (read-bytes 8 l h, patterns-short (c .d * c .n) (drop 8 l) (rw (length-drop 8 l) (omega (arith, ltb-true (length l) (8 + 8 * (c .d * c .n)) e))))
+          rw (
+            read-bytes 8 l h,
+            patterns-short (c .d * c .n) (drop 8 l)
+                (rw (length-drop 8 l) (omega (arith, ltb-true (length l) (8 + 8 * (c .d * c .n)) e))),
+          )
       fewer false e h = over (ltb-false (length l) (8 + 8 * (c .d * c .n)) e)
 
       short : (b : Bool) → ltb (length l) 8 ≡ b → readWhole (numbersForm c) l ≡ bad
@@ -161,7 +165,8 @@ module _ (l : List ℕ) (cells : List Float) where
 
 -- the numbers, put to the first cells
 pub put-numbers : (l : List ℕ) (next m : ℕ) (cells v : List Float) → m ≤ length cells → next ≤ length l
-    → v ≡ floatsOf (length (take (m - 0) cells)) (take (length l - next) (drop next l)) → v ++ drop (m - 0) cells ≡ floatsOf m (drop next l) ++ drop m cells
+    → v ≡ floatsOf (length (take (m - 0) cells)) (take (length l - next) (drop next l)) → v ++ drop (m - 0) cells
+    ≡ floatsOf m (drop next l) ++ drop m cells
 put-numbers l next m cells v h k e =
     let a : m - 0 ≡ m = omega arith in
     let p : length (take (m - 0) cells) ≡ m = rw a (length-take-le m cells h) in

@@ -71,11 +71,13 @@ seven a b c d e f g =
 
 pub counts-are : (r : Report) (a b c d e f g : List ℕ) → a ≡ acceptedWord → b ≡ a ++ field (decimalOf (r .segments))
     → c ≡ b ++ field (decimalOf (r .«interpolated_segments»)) → d ≡ c ++ field (decimalOf (r .refinements))
-    → e ≡ d ++ field (decimalOf (r .«fitting_rows»)) → f ≡ e ++ field (decimalOf (r .«checked_intervals»)) → g ≡ f ++ newline → g ≡ countsText r
+    → e ≡ d ++ field (decimalOf (r .«fitting_rows»)) → f ≡ e ++ field (decimalOf (r .«checked_intervals»)) → g ≡ f ++ newline → g
+    ≡ countsText r
 unfolding countsText
 counts-are r a b c d e f g ea eb ec ed ee ef eg =
     rw (eg, ef, ee, ed, ec, eb, ea)
-    (seven acceptedWord (field (decimalOf (r .segments))) (field (decimalOf (r .«interpolated_segments»))) (field (decimalOf (r .refinements)))
+    (seven acceptedWord (field (decimalOf (r .segments))) (field (decimalOf (r .«interpolated_segments»)))
+    (field (decimalOf (r .refinements)))
     (field (decimalOf (r .«fitting_rows»))) (field (decimalOf (r .«checked_intervals»))) newline)
 
 -- ---- the texts of refusals
@@ -103,7 +105,8 @@ accepted-told r errors (done x) e h = rw (done-same e, h x refl)
 accepted-told r errors (refused n) e h = absurd (refused-done (sym e))
 accepted-told r errors (exhausted x) e h = absurd (exhausted-done (sym e))
 
-pub exhausted-told : (x : Float) (y : Answer Result) → _≡_ {A = Answer Report} (exhausted x) (reported y) → printedOf (exhausted x) ≡ printedOf y
+pub exhausted-told : (x : Float) (y : Answer Result) → _≡_ {A = Answer Report} (exhausted x) (reported y) → printedOf (exhausted x)
+    ≡ printedOf y
 unfolding reported
 exhausted-told x (done z) e = absurd (exhausted-done e)
 exhausted-told x (refused n) e = absurd (let z : _≡_ {A = ℕ} 0 1 = cc in omega arith)

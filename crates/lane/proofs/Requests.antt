@@ -40,7 +40,8 @@ module _ (room : Room) (r : Request) where
   m = r .limits .segments
 
   pub roomy : d ≤ 2 → n ≤ 100 → m ≤ 100
-      → (7424 ≤ room .work) × (101 ≤ room .breaks) × (1200 ≤ room .coefficients) × (100 ≤ room .otherBreaks) × (1200 ≤ room .otherCoefficients)
+      → (7424 ≤ room .work) × (101 ≤ room .breaks) × (1200 ≤ room .coefficients) × (100 ≤ room .otherBreaks)
+      × (1200 ≤ room .otherCoefficients)
       × (2 ≤ room .errors) → buildIn room r ≡ buildOf r
   unfolding buildIn buildOf shortRoom
   roomy x y z w = ap (λ (b : Bool). answerOf b r) fine

@@ -47,7 +47,11 @@ mul-t15 : tie.Need-mul-t15
 mul-t15 c = search needs
 
 add-t16 : tie.Need-add-t16
-add-t16 c = omega (arith, c .before .before .shared-slice-known2 .given (c .before .before .before .before .before .before .before .args .at))
+add-t16 c = omega (
+  arith,
+  c .before .before .shared-slice-known2 .given
+      (c .before .before .before .before .before .before .before .args .at),
+)
 
 returns-5 : tie.Need-returns-5
 returns-5 c =
@@ -63,7 +67,11 @@ shared-slice-read-c : tie.Need-shared-slice-read-c
 shared-slice-read-c c = search needs
 
 cast-c : tie.Need-cast-c
-cast-c c = omega (arith, c .shared-slice-known3 .given (c .before .before .before .before .before .before .before .before .args .at + 1 + 1))
+cast-c c = omega (
+  arith,
+  c .shared-slice-known3 .given (c .before .before .before .before .before .before .before .before .args .at + 1 +
+      1),
+)
 
 returns-7 : tie.Need-returns-7
 returns-7 c =
@@ -76,17 +84,32 @@ mul-t21 c = search needs
 add-t22 : tie.Need-add-t22
 add-t22 c =
     let s = c .before .before .before .before .before .before .before .before .before .before in
-    omega (arith, c .before .before .shared-slice-known3 .given (s .args .at), c .before .before .shared-slice-known3 .given (s .args .at + 1))
+    omega (
+      arith,
+      c .before .before .shared-slice-known3 .given (s .args .at),
+      c .before .before .shared-slice-known3 .given
+          (s .args .at + 1),
+    )
 
 mul-t23 : tie.Need-mul-t23
 mul-t23 c =
     let s = c .before .before .before .before .before .before .before .before .before .before in
-    omega (arith, c .before .before .shared-slice-known3 .given (s .args .at), c .before .before .shared-slice-known3 .given (s .args .at + 1))
+    omega (
+      arith,
+      c .before .before .shared-slice-known3 .given (s .args .at),
+      c .before .before .shared-slice-known3 .given
+          (s .args .at + 1),
+    )
 
 add-t24 : tie.Need-add-t24
 add-t24 c =
     let s = c .before .before .before .before .before .before .before .before .before .before in
-    omega (arith, c .before .before .shared-slice-known3 .given (s .args .at), c .before .before .shared-slice-known3 .given (s .args .at + 1))
+    omega (
+      arith,
+      c .before .before .shared-slice-known3 .given (s .args .at),
+      c .before .before .shared-slice-known3 .given
+          (s .args .at + 1),
+    )
 
 add-t25 : tie.Need-add-t25
 add-t25 c = search needs

@@ -7,8 +7,12 @@ use Rattle.replay_lending.proofs.answer.Tie as tie
 
 lend-requires : tie.Need-lend-requires
 lend-requires c κs =
-    let f = c .before .before .before .before .before .before .before .before .before .before .before in
-    (f .before .before .before .before .before .before .asked .ensures, f .before .before .parts-asked .ensures, f .before .fit .ensures (not-false _ (f .if3 .left)))
+    let f = c .before .before .before .before .before .before .before .before .before .before .before in (
+      f .before .before .before .before .before .before .asked .ensures,
+      f .before .before .parts-asked .ensures,
+      f .before .fit .ensures
+          (not-false _ (f .if3 .left)),
+    )
 
 pub answer-spec : {M : Type 1} → statement M
 answer-spec =
@@ -32,4 +36,5 @@ answer-spec =
     (λ c. search needs)
     (λ c. search needs)
     (λ c. search needs)
-    (λ c. told (c .before .before .before .before .before .before .before .before .before .before .before .before .before .before .lend .ensures)))
+    (λ c. told (c .before .before .before .before .before .before .before .before .before .before .before .before .before
+    .before .lend .ensures)))

@@ -14,7 +14,8 @@ same-length c =
     omega (
       arith,
       c .before .before .before .before .before .before .before .before .before .before .before .before .build .kept,
-      c .before .before .before .before .before .before .before .before .before .before .before .before .before .before .before .before .before .before .before .before .before .before .before .before .before .before .before .before .before .pre,
+      c .before .before .before .before .before .before .before .before .before .before .before .before .before .before .before .before
+          .before .before .before .before .before .before .before .before .before .before .before .before .before .pre,
     )
 
 same-length-2 : tie.Need-same-length-2
@@ -22,7 +23,8 @@ same-length-2 c =
     omega (
       arith,
       c .before .before .before .before .before .before .before .before .before .before .before .before .build .kept,
-      c .before .before .before .before .before .before .before .before .before .before .before .before .before .before .before .before .before .before .before .before .before .before .before .before .before .before .before .before .before .pre,
+      c .before .before .before .before .before .before .before .before .before .before .before .before .before .before .before .before
+          .before .before .before .before .before .before .before .before .before .before .before .before .before .pre,
     )
 
 same-length-3 : tie.Need-same-length-3
@@ -30,7 +32,8 @@ same-length-3 c =
     omega (
       arith,
       c .before .before .before .before .before .before .before .before .before .before .before .before .build .kept,
-      c .before .before .before .before .before .before .before .before .before .before .before .before .before .before .before .before .before .before .before .before .before .before .before .before .before .before .before .before .before .pre,
+      c .before .before .before .before .before .before .before .before .before .before .before .before .before .before .before .before
+          .before .before .before .before .before .before .before .before .before .before .before .before .before .pre,
     )
 
 same-length-4 : tie.Need-same-length-4
@@ -38,7 +41,8 @@ same-length-4 c =
     omega (
       arith,
       c .before .before .before .before .before .before .before .before .before .before .before .before .build .kept,
-      c .before .before .before .before .before .before .before .before .before .before .before .before .before .before .before .before .before .before .before .before .before .before .before .before .before .before .before .before .before .pre,
+      c .before .before .before .before .before .before .before .before .before .before .before .before .before .before .before .before
+          .before .before .before .before .before .before .before .before .before .before .before .before .before .pre,
     )
 
 same-length-5 : tie.Need-same-length-5
@@ -46,7 +50,8 @@ same-length-5 c =
     omega (
       arith,
       c .before .before .before .before .before .before .before .before .before .before .before .before .build .kept,
-      c .before .before .before .before .before .before .before .before .before .before .before .before .before .before .before .before .before .before .before .before .before .before .before .before .before .before .before .before .before .pre,
+      c .before .before .before .before .before .before .before .before .before .before .before .before .before .before .before .before
+          .before .before .before .before .before .before .before .before .before .before .before .before .before .pre,
     )
 
 same-length-6 : tie.Need-same-length-6
@@ -54,7 +59,8 @@ same-length-6 c =
     omega (
       arith,
       c .before .before .before .before .before .before .before .before .before .before .before .before .build .kept,
-      c .before .before .before .before .before .before .before .before .before .before .before .before .before .before .before .before .before .before .before .before .before .before .before .before .before .before .before .before .before .pre,
+      c .before .before .before .before .before .before .before .before .before .before .before .before .before .before .before .before
+          .before .before .before .before .before .before .before .before .before .before .before .before .before .pre,
     )
 
 pub build-in-spec : {M : Type 1} → statement M
@@ -75,10 +81,14 @@ build-in-spec =
     (λ c. ends (c .before .before .before .before .before .before .before .before .before .before .before .before .before .pre .1 .3))
     (λ c. c .before .before .before .before .before .before .before .before .before .before .before .before .before .before .pre .0 .4)
     (λ c. c .before .before .before .before .before .before .before .before .before .before .before .before .before .before .pre .0 .4)
-    (λ c. ends (c .before .before .before .before .before .before .before .before .before .before .before .before .before .before .pre .1 .4))
-    (λ c. c .before .before .before .before .before .before .before .before .before .before .before .before .before .before .before .pre .0 .5)
-    (λ c. c .before .before .before .before .before .before .before .before .before .before .before .before .before .before .before .pre .0 .5)
-    (λ c. ends (c .before .before .before .before .before .before .before .before .before .before .before .before .before .before .before .pre .1 .5))
+    (λ c. ends (c .before .before .before .before .before .before .before .before .before .before .before .before .before
+    .before .pre .1 .4))
+    (λ c. c .before .before .before .before .before .before .before .before .before .before .before .before .before .before
+    .before .pre .0 .5)
+    (λ c. c .before .before .before .before .before .before .before .before .before .before .before .before .before .before
+    .before .pre .0 .5)
+    (λ c. ends (c .before .before .before .before .before .before .before .before .before .before .before .before .before .before
+    .before .pre .1 .5))
     (λ c κs. search needs)
     same-length
     same-length-2

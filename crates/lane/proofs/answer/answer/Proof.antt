@@ -50,13 +50,17 @@ build-requires c κs =
 
 part-answered-end : tie.Need-part-answered-end
 part-answered-end c =
-    let k = c .before .before .before .before .before .before .before .before .before .before .before .before .before .before .before .before .before .before .before .before .before .before in
-    let s = read k .before .before .before .before .before .before .before .before .before .before .before in omega (arith, limits k, s .pre, c .before .before .errors .given)
+    let k = c .before .before .before .before .before .before .before .before .before .before .before .before .before .before .before
+    .before .before .before .before .before .before .before in
+    let s = read k .before .before .before .before .before .before .before .before .before .before .before in omega
+    (arith, limits k, s .pre, c .before .before .errors .given)
 
 answered-requires : tie.Need-answered-requires
 answered-requires c κs =
-    let k = c .before .before .before .before .before .before .before .before .before .before .before .before .before .before .before .before .before .before .before .before .before .before .before .before in
-    let s = read k .before .before .before .before .before .before .before .before .before .before .before in (omega (arith, s .pre), two-errors (counts k .d) _ (limits k .0))
+    let k = c .before .before .before .before .before .before .before .before .before .before .before .before .before .before .before
+    .before .before .before .before .before .before .before .before .before in
+    let s = read k .before .before .before .before .before .before .before .before .before .before .before in
+    (omega (arith, s .pre), two-errors (counts k .d) _ (limits k .0))
 
 returns : tie.Need-returns
 returns c =
@@ -70,7 +74,8 @@ returns c =
 returns-2 : tie.Need-returns-2
 returns-2 c =
     let g = c .before .before in
-    let b = g .before .before .before .before .before .before .before .before .before .before .before .before .before .before .before .before in
+    let b = g .before .before .before .before .before .before .before .before .before .before .before .before .before .before .before
+    .before in
     let k = b .before .before .before .before .before .before .before .before .before in
     let r = read k in
     let s = r .before .before .before .before .before .before .before .before .before .before .before in

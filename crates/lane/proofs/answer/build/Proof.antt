@@ -16,7 +16,8 @@ use Rattle.lane.proofs.answer.build.Statement.{statement}
 use Rattle.lane.proofs.answer.build.Tie as tie
 
 abbrev lent : tie.Start → Results
-lent s = let a = s .args in results (a .breaks .now) (a .coefficients .now) (a .other-breaks .now) (a .other-coefficients .now) (a .errors .now)
+lent s = let a = s .args in results (a .breaks .now) (a .coefficients .now) (a .other-breaks .now) (a .other-coefficients .now)
+    (a .errors .now)
 
 abbrev request : tie.Start → Request
 request s = requestIn (s .args .c) (s .args .cells .now)
@@ -57,9 +58,12 @@ returns : tie.Need-returns
 unfolding axesOf toleranceOf
 returns c =
     let b = c .before .before .before .before .before .before .before .before .before .before .before .before in
-    let a = b .before .before .before .before .before .before .before .before .before .before .before .before .before .before .before .before .before .before .before .before .args in
-    let s = lent (b .before .before .before .before .before .before .before .before .before .before .before .before .before .before .before .before .before .before .before .before) in
-    let e = same (b .before .before .before .before .before .before .before .before .before .before .before .before .before .before .before .before .before .before .before .before) in (
+    let a = b .before .before .before .before .before .before .before .before .before .before .before .before .before .before .before
+    .before .before .before .before .before .args in
+    let s = lent (b .before .before .before .before .before .before .before .before .before .before .before .before .before .before .before
+    .before .before .before .before .before) in
+    let e = same (b .before .before .before .before .before .before .before .before .before .before .before .before .before .before .before
+    .before .before .before .before .before) in (
       b .build .ensures .0 ∙ ap reported e,
       λ x h. errors-stand (a .c) (a .cells .now) s _ x (b .build .ensures .1 .1 .1 ∙ ap (λ (y : Answer Result). resultsAfter y s) e) h,
     )

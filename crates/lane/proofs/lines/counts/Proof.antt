@@ -15,7 +15,8 @@ returns c =
     let a = b .before .before .before .before in
     let p = a .before .before .before .before in (
       omega arith,
-      counts-are (p .before .before .before .before .args .report) _ _ _ _ _ _ _ (p .put .ensures .1) (a .number .ensures .1) (b .number2 .ensures .1)
+      counts-are (p .before .before .before .before .args .report) _ _ _ _ _ _ _ (p .put .ensures .1) (a .number .ensures .1)
+          (b .number2 .ensures .1)
           (d .number3 .ensures .1) (e .number4 .ensures .1) (f .number5 .ensures .1) (g .newline .ensures .1),
     )
 

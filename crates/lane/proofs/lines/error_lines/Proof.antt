@@ -60,7 +60,8 @@ returns c =
     let e : l .i ≡ length (a .errors .now) = omega arith in (
       omega arith,
       l .inv .3
-          ∙ ap (λ (t : List Float). take (a .at) (a .out .now) ++ errorLines t) (ap (λ (n : ℕ). take n (a .errors .now)) e ∙ take-length (a .errors .now)),
+          ∙ ap (λ (t : List Float). take (a .at) (a .out .now) ++ errorLines t) (ap (λ (n : ℕ). take n (a .errors .now)) e ∙ take-length
+          (a .errors .now)),
     )
 
 pub error-lines-spec : {M : Type 1} → statement M

@@ -12,7 +12,8 @@ returns c =
     let p = f .before .before .before .before in
     let r = p .before .before .before .before .before in (
       omega arith,
-      exhausted-is (r .before .before .before .args .ratio) _ _ _ _ (r .refusal .ensures .1) (p .put .ensures .1) (f .float .ensures .1) (n .newline .ensures .1),
+      exhausted-is (r .before .before .before .args .ratio) _ _ _ _ (r .refusal .ensures .1) (p .put .ensures .1) (f .float .ensures .1)
+          (n .newline .ensures .1),
     )
 
 pub exhausted-spec : {M : Type 1} → statement M

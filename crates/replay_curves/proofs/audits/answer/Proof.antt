@@ -7,8 +7,21 @@ use Rattle.replay_curves.proofs.audits.answer.Tie as tie
 
 audit-requires : tie.Need-audit-requires
 audit-requires c κs =
-    let p = c .before .before .before .before .before .before .before .before .before .layout .ensures .0 in
-    (record { few = p .few; some = p .some; parameters-end = p .parameters-end; points-end = p .points-end; bounds-end = p .bounds-end; before-breaks = p .before-breaks; before-coefficients = p .before-coefficients; breaks-end = omega arith; coefficients-end = omega arith }, omega arith, omega arith)
+    let p = c .before .before .before .before .before .before .before .before .before .layout .ensures .0 in (
+      record {
+        few = p .few;
+        some = p .some;
+        parameters-end = p .parameters-end;
+        points-end = p .points-end;
+        bounds-end = p .bounds-end;
+        before-breaks = p .before-breaks;
+        before-coefficients = p .before-coefficients;
+        breaks-end = omega arith;
+        coefficients-end = omega arith;
+      },
+      omega arith,
+      omega arith,
+    )
 
 pub answer-spec : {M : Type 1} → statement M
 answer-spec =

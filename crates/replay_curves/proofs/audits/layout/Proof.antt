@@ -44,8 +44,24 @@ add-t7 c = let h = small c in omega arith
 
 returns : tie.Need-returns
 returns c =
-    let h = small c in
-    (record { few = omega arith; some = omega arith; parameters-end = omega arith; points-end = omega arith; bounds-end = omega arith; before-breaks = omega arith; before-coefficients = omega arith; breaks-end = omega arith; coefficients-end = omega arith }, refl, refl, refl, omega arith, omega arith)
+    let h = small c in (
+      record {
+        few = omega arith;
+        some = omega arith;
+        parameters-end = omega arith;
+        points-end = omega arith;
+        bounds-end = omega arith;
+        before-breaks = omega arith;
+        before-coefficients = omega arith;
+        breaks-end = omega arith;
+        coefficients-end = omega arith;
+      },
+      refl,
+      refl,
+      refl,
+      omega arith,
+      omega arith,
+    )
 
 pub layout-spec : {M : Type 1} → statement M
 layout-spec =

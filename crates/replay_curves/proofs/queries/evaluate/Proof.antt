@@ -6,7 +6,12 @@ use Rattle.replay_curves.proofs.queries.evaluate.Statement.{statement}
 use Rattle.replay_curves.proofs.queries.evaluate.Tie as tie
 
 same-length : tie.Need-same-length
-same-length c = omega (arith, c .before .before .end .kept, c .before .before .before .before .before .before .queries .kept, c .before .before .before .before .before .before .before .before .before .before .before .before .before .before .before .text .kept)
+same-length c = omega (
+  arith,
+  c .before .before .end .kept,
+  c .before .before .before .before .before .before .queries .kept,
+  c .before .before .before .before .before .before .before .before .before .before .before .before .before .before .before .text .kept,
+)
 
 pub evaluate-spec : {M : Type 1} → statement M
 evaluate-spec =

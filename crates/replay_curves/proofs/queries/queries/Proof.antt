@@ -7,7 +7,8 @@ use Rattle.replay_curves.proofs.queries.queries.Statement.{statement}
 use Rattle.replay_curves.proofs.queries.queries.Tie as tie
 
 abbrev Inv-loop : tie.InvT-loop
-Inv-loop curve breaks coefficients other-breaks other-coefficients xs out₀ at next₀ i₀ out next i = (i ≤ length xs) × (length out ≡ length out₀)
+Inv-loop curve breaks coefficients other-breaks other-coefficients xs out₀ at next₀ i₀ out next i = (i ≤ length xs)
+    × (length out ≡ length out₀)
 
 abbrev μ-loop : tie.MeasureT-loop
 μ-loop curve breaks coefficients other-breaks other-coefficients xs out₀ at next₀ i₀ out next i = length xs - i

@@ -8,9 +8,12 @@ use Rattle.replay_requests.proofs.parts.fit.Tie as tie
 
 returns-6 : tie.Need-returns-6
 returns-6 c h = (
-  leb-true _ _ (sym (c .before .before .before .before .before .before .before .before .before .before .holds .ensures) ∙ not-false _ (c .before .before .before .before .before .before .before .before .before .if1 .left)),
-  leb-true _ _ (sym (c .before .before .before .before .before .before .before .before .holds2 .ensures) ∙ not-false _ (c .before .before .before .before .before .before .before .if2 .left)),
-  leb-true _ _ (sym (c .before .before .before .before .before .before .holds3 .ensures) ∙ not-false _ (c .before .before .before .before .before .if3 .left)),
+  leb-true _ _ (sym (c .before .before .before .before .before .before .before .before .before .before .holds .ensures)
+      ∙ not-false _ (c .before .before .before .before .before .before .before .before .before .if1 .left)),
+  leb-true _ _ (sym (c .before .before .before .before .before .before .before .before .holds2 .ensures)
+      ∙ not-false _ (c .before .before .before .before .before .before .before .if2 .left)),
+  leb-true _ _ (sym (c .before .before .before .before .before .before .holds3 .ensures)
+      ∙ not-false _ (c .before .before .before .before .before .if3 .left)),
   leb-true _ _ (sym (c .before .before .before .before .holds4 .ensures) ∙ not-false _ (c .before .before .before .if4 .left)),
   leb-true _ _ (sym (c .before .before .holds5 .ensures) ∙ not-false _ (c .before .if5 .left)),
   leb-true _ _ (sym (c .holds6 .ensures) ∙ h),

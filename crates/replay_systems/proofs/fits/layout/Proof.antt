@@ -39,7 +39,21 @@ add-t10 c = let h = small c in omega arith
 returns : tie.Need-returns
 returns c =
     let h = small c in (
-      (omega arith, omega arith, omega arith, omega arith, refl, omega arith, omega arith, omega arith, omega arith, omega arith, omega arith, omega arith),
+      (
+        omega arith,
+        omega arith,
+        omega arith,
+        omega arith,
+        refl,
+        omega arith,
+        omega arith,
+        omega arith,
+        omega arith,
+        omega arith,
+        omega
+            arith,
+        omega arith,
+      ),
       refl,
       omega arith,
       omega arith,

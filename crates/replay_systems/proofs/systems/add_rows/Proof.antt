@@ -26,13 +26,21 @@ add-row-requires : tie.Need-add-row-requires Inv-loop μ-loop
 add-row-requires c κs =
     let a = c .before .before .before .before .before .before .args in
     let l = c .before .before .loop in
-    omega (arith, row-end (a .rows - (l .i + 1)) (a .rows - l .i) (8 + a .w .d) (length (a .cells .now) - l .from) (omega arith) (omega arith))
+    omega (
+      arith,
+      row-end (a .rows - (l .i + 1)) (a .rows - l .i) (8 + a .w .d) (length (a .cells .now) - l .from) (omega arith)
+          (omega arith),
+    )
 
 add-from-2 : tie.Need-add-from-2 Inv-loop μ-loop
 add-from-2 c =
     let a = c .before .before .before .before .before .before .before .before .before .before .before .args in
     let l = c .before .before .before .before .before .before .before .loop in
-    omega (arith, row-end (a .rows - (l .i + 1)) (a .rows - l .i) (8 + a .w .d) (length (a .cells .now) - l .from) (omega arith) (omega arith))
+    omega (
+      arith,
+      row-end (a .rows - (l .i + 1)) (a .rows - l .i) (8 + a .w .d) (length (a .cells .now) - l .from) (omega arith)
+          (omega arith),
+    )
 
 loop-again : tie.Need-loop-again Inv-loop μ-loop
 loop-again c =
