@@ -10,6 +10,7 @@ fail() {
     exit 1
 }
 
+SECONDS=0
 scratch=$(mktemp -d)
 trap 'rm -rf "$scratch"' EXIT
 
@@ -56,7 +57,9 @@ else
 fi
 
 echo "== proofs, must-fail edits and programs"
-rt ci | tee "$scratch/gate" || fail "the gate fails"
+# Four at a time, also on two processors: rt starts the next ones only when all of a batch have ended, so that
+# with more in a batch less time is spent waiting for the last.
+RT_JOBS=${RT_JOBS:-4} rt ci | tee "$scratch/gate" || fail "the gate fails"
 
 echo "== the examples, through the program that was built"
 for job in examples/*.job; do
@@ -67,4 +70,5 @@ echo "$(ls examples/*.job | wc -l) examples print what they must"
 if [ -n "${SMOOTHING_RS:-}" ] && [ -x oracle/target/release/oracle ]; then
     oracle/target/release/oracle lane target/bin/lane 3 2000 || fail "lane differs from the Rust"
 fi
+echo "== seconds: $SECONDS in all"
 tail -n 1 "$scratch/gate"

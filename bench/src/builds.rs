@@ -386,7 +386,8 @@ fn least<const N: usize>(least_time: Duration, work: [&mut dyn FnMut(); N]) -> [
     best
 }
 
-/// One row: the port with the source's own limit of 20,000 segments, the port with no more than are made, and the source.
+/// One row: the port with the source's own limit of 20,000 segments, the port with no more than are made, the source, and the clearing
+/// of that second port's work slice alone.
 fn measure(name: &str, request: &Request, least_time: Duration) {
     let wanted = source(request);
     let (segments, rounds) = match &wanted {
@@ -408,9 +409,14 @@ fn measure(name: &str, request: &Request, least_time: Duration) {
     let mut theirs = || {
         black_box(timed::build(black_box(request)));
     };
-    let [a, b, c] = least(least_time, [&mut roomy, &mut narrow, &mut theirs]);
+    let mut cells = vec![1.; tight.room()[0]];
+    let mut clearing = || black_box(&mut cells).fill(0.);
+    let [a, b, c, cleared] = least(
+        least_time,
+        [&mut roomy, &mut narrow, &mut theirs, &mut clearing],
+    );
     println!(
-        "{:6} {:2} {name:28} | {segments:5} {rounds:3} | {a:9.3} {:5.2} | {b:9.3} {:5.2} | {c:9.3} | {}",
+        "{:6} {:2} {name:28} | {segments:5} {rounds:3} | {a:9.3} {:5.2} | {b:9.3} {:5.2} | {c:9.3} | {cleared:7.3} | {}",
         request.n,
         request.d,
         a / c,
@@ -439,7 +445,7 @@ pub fn run() {
     }
     let time = Duration::from_secs_f64(seconds);
     println!(
-        "n d lane | segments rounds | port, limit 20,000: ms, ratio | port, limit as made | source: ms"
+        "n d lane | segments rounds | port, limit 20,000: ms, ratio | port, limit as made | source: ms | clearing alone: ms"
     );
     let mut r = Random::new(4);
     for (shape, name, tolerance) in SHAPES {
