@@ -20,7 +20,7 @@ use Rattle.smoothing.specs.Rows.{laneTask, laneUnits, taskOf}
 use Rattle.smoothing.specs.Build.{Result, resultOf, answerOf, buildOf, buildIn}
 use Rattle.smoothing.proofs.Accepted.{build-accepted}
 use Rattle.smoothing.proofs.Rooms.{selected-room}
-use Rattle.building.specs.Outcome.{Results, resultsAfter, onto}
+use Rattle.building.specs.Outcome.{Results, resultsAfter}
 use Rattle.checks.proofs.Selected.{all-count}
 use Rattle.job.specs.declared.Counts.{Counts}
 use Rattle.job.specs.Job.{Job, jobOf}
