@@ -6,7 +6,8 @@ use Rattle.replay_builds.proofs.run.Statement.{statement}
 use Rattle.replay_builds.proofs.run.Tie as tie
 
 abbrev Inv-loop : tie.InvT-loop
-Inv-loop bytes₀ cells₀ work₀ breaks₀ coefficients₀ other-breaks₀ other-coefficients₀ errors₀ out₀ at₀ place₀ left₀ bytes cells work breaks coefficients other-breaks other-coefficients errors out at place left =
+Inv-loop bytes₀ cells₀ work₀ breaks₀ coefficients₀ other-breaks₀ other-coefficients₀ errors₀ out₀ at₀ place₀ left₀ bytes cells work breaks
+    coefficients other-breaks other-coefficients errors out at place left =
     (length bytes ≡ length bytes₀)
     × (length cells ≡ length cells₀)
     × (length work ≡ length work₀)
@@ -18,7 +19,8 @@ Inv-loop bytes₀ cells₀ work₀ breaks₀ coefficients₀ other-breaks₀ oth
     × (length out ≡ length out₀)
 
 abbrev μ-loop : tie.MeasureT-loop
-μ-loop bytes₀ cells₀ work₀ breaks₀ coefficients₀ other-breaks₀ other-coefficients₀ errors₀ out₀ at₀ place₀ left₀ bytes cells work breaks coefficients other-breaks other-coefficients errors out at place left = left
+μ-loop bytes₀ cells₀ work₀ breaks₀ coefficients₀ other-breaks₀ other-coefficients₀ errors₀ out₀ at₀ place₀ left₀ bytes cells work breaks
+    coefficients other-breaks other-coefficients errors out at place left = left
 
 pub run-spec : {M : Type 1} → statement M
 run-spec =

@@ -5,7 +5,12 @@ use Rattle.replay_builds.proofs.step.Statement.{statement}
 use Rattle.replay_builds.proofs.step.Tie as tie
 
 same-length : tie.Need-same-length
-same-length c = omega (arith, c .before .before .before .before .before .before .before .before .before .before .before .before .before .before .before .before .before .before .before .before .before .before .before .before .before .before .before .before .before .before .before .before .before .before .next-case .kept)
+same-length c = omega (
+  arith,
+  c .before .before .before .before .before .before .before .before .before .before .before .before .before
+      .before .before .before .before .before .before .before .before .before .before .before .before .before .before .before .before .before
+      .before .before .before .before .next-case .kept,
+)
 
 pub step-spec : {M : Type 1} → statement M
 step-spec =
