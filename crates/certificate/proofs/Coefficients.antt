@@ -9,10 +9,10 @@ use lib.ListN.{drop, length, take}
 use lib.Seq.{drop-cons, getD-drop, getD-take}
 use Rattle.window.specs.Cells.{+0, at}
 use Rattle.fraction.specs.Pair.{Ends}
-use Rattle.certificate.specs.Operations.{ends}
-use Rattle.certificate.specs.Intersection.{Intersection, differenceBernstein, differencePower, lineAtLeft, lineRise, offset, power, scale}
-use Rattle.certificate.specs.Figure.{absoluteEnd, figure, intersectionFigure, larger}
-use Rattle.certificate.proofs.Enclosure.{bernstein-keeps, power-keeps, without-keeps}
+use Rattle.figure.specs.Operations.{ends}
+use Rattle.figure.specs.Intersection.{Intersection, differenceBernstein, differencePower, lineAtLeft, lineRise, offset, power, scale}
+use Rattle.figure.specs.Figure.{absoluteEnd, figure, intersectionFigure, larger}
+use Rattle.figure.proofs.Enclosure.{bernstein-keeps, power-keeps, without-keeps}
 use Rattle.arith.proofs.Loops.{each-same}
 use Rattle.certificate.proofs.Sums.{same-keeps}
 

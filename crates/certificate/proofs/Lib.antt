@@ -1,16 +1,6 @@
 -- The laws.
-pub mod Answers
-pub mod Certified
 pub mod Coefficients
-pub mod Covering
-pub mod Distance
-pub mod Enclosure
-pub mod Exact
-pub mod Finite
-pub mod Largest
-pub mod Overlap
 pub mod Pairs
-pub mod Rising
 pub mod Standing
 pub mod Steps
 pub mod Sums

@@ -5,7 +5,7 @@ use lib.Ieee.{Float, binary64}
 use lib.Ieee.Scale.{finite}
 use Rattle.fraction.specs.NextNumber.{nextDown, nextUp}
 use Rattle.fraction.specs.Pair.{Ends, finiteEnds, moved, none, pair}
-use Rattle.certificate.proofs.Enclosure.{Strict}
+use Rattle.figure.proofs.Enclosure.{Strict}
 
 -- kept if both tests hold
 pub kept-twice : (g h : Bool) (e r k : Ends) → r ≡ cond g k none → k ≡ cond h e none → r ≡ cond (g && h) e none

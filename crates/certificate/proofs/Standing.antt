@@ -10,10 +10,10 @@ use lib.ListN.{drop, length, take}
 use Rattle.window.specs.Cells.{+0, at}
 use Rattle.request.specs.declared.parameters.Spacing.{Spacing}
 use Rattle.request.specs.Parameters.{normalisedOf}
-use Rattle.certificate.specs.Axis.{axisOf}
-use Rattle.certificate.specs.Distance.{Rises}
-use Rattle.certificate.specs.Figure.{Figure, figure, figureOf, intersection, intersectionFigure, larger, meeting, withIntersection}
-use Rattle.certificate.specs.Intersection.{Intersection}
+use Rattle.figure.specs.Axis.{axisOf}
+use Rattle.figure.specs.Distance.{Rises}
+use Rattle.figure.specs.Figure.{Figure, figure, figureOf, intersection, intersectionFigure, larger, meeting, withIntersection}
+use Rattle.figure.specs.Intersection.{Intersection}
 use Rattle.certificate.proofs.Coefficients.{cell-of-six, six-count}
 use Rattle.certificate.proofs.Steps.{next-interval, next-segment, rest, rest-all, rest-done, segment-remains}
 

@@ -19,9 +19,9 @@ use Rattle.fraction.proofs.Lowest.{IsHighest, IsLowest, highest-is, lowest-is}
 use Rattle.fraction.proofs.Rational.{<q-weaken, never, ≤q-trans}
 use Rattle.fraction.proofs.Value.{value-le-of-not-lt}
 use Rattle.fraction.proofs.Comparison.{lt-value}
-use Rattle.certificate.specs.Distance.{Rises}
-use Rattle.certificate.specs.Figure.{Axis, Figure, figure, figureOf, intersection, intersectionFigure, larger, withIntersection}
-use Rattle.certificate.proofs.Rising.{last-is, rises-finite, rises-to}
+use Rattle.figure.specs.Distance.{Rises}
+use Rattle.figure.specs.Figure.{Axis, Figure, figure, figureOf, intersection, intersectionFigure, larger, withIntersection}
+use Rattle.figure.proofs.Rising.{last-is, rises-finite, rises-to}
 
 -- ---- loops
 -- turns that leave the state

@@ -9,11 +9,11 @@ use lib.Ieee.{Float, binary64, nan, round}
 use lib.ListN.{getD}
 use Rattle.fraction.specs.Binomial.{choose}
 use Rattle.fraction.specs.Pair as pairs
-use Rattle.certificate.specs.Operations.{Operations, ends}
-use Rattle.certificate.specs.Intersection.{bernstein, raised, total}
+use Rattle.figure.specs.Operations.{Operations, ends}
+use Rattle.figure.specs.Intersection.{bernstein, raised, total}
 use Rattle.certificate.specs.Structs.{Holds, endsOf, pairAt}
 use Rattle.certificate.specs.declared.ends.Ends.{Ends}
-use Rattle.certificate.proofs.Enclosure.{Keeps, bernstein-keeps}
+use Rattle.figure.proofs.Enclosure.{Keeps, bernstein-keeps}
 
 -- ---- sums and powers
 module _ {A : Type 0} (o : Operations A) where

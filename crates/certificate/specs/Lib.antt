@@ -1,9 +1,4 @@
--- Definitions: the figure (Operations, Intersection, Figure), what the code's structs stand for (Structs), what is certified, as slices
--- hold it (Axis), the entry point's answer (Certify), and what the distance theorem says of the figure (Distance).
-pub mod Axis
-pub mod Certify
-pub mod Distance
-pub mod Figure
-pub mod Intersection
-pub mod Operations
+-- Definitions: what the code's structs stand for (Structs), and document 01's numbers of its answers (Outcome). The figure and the answer
+-- are defined in crate `figure`.
+pub mod Outcome
 pub mod Structs

@@ -8,9 +8,9 @@ use lib.ListN.{getD}
 use Rattle.window.specs.Cells.{at}
 use Rattle.fraction.specs.Pair.{none, pair}
 use Rattle.fraction.specs.Pair as pairs
-use Rattle.certificate.specs.Figure as figures
-use Rattle.certificate.specs.Figure.{figure, noFigure}
-use Rattle.certificate.specs.Intersection as intersections
+use Rattle.figure.specs.Figure as figures
+use Rattle.figure.specs.Figure.{figure, noFigure}
+use Rattle.figure.specs.Intersection as intersections
 use Rattle.certificate.specs.declared.ends.Ends.{Ends}
 use Rattle.certificate.specs.declared.intersection.Figure.{Figure}
 use Rattle.certificate.specs.declared.intersection.Figure.the-variants.{Known, None}

@@ -3,8 +3,9 @@
 ghost use mathlib.Core.Path.{_≡_};
 ghost use Rattle.curve.specs.Form.{slices};
 ghost use lib.Ieee.{Float};
-ghost use Rattle.certificate.specs.Certify.{Certified, certifyOf, outcome, outcomeOf};
-ghost use Rattle.certificate.specs.Figure.{figure};
+ghost use Rattle.figure.specs.Certify.{Certified, certifyOf, outcome};
+ghost use Rattle.certificate.specs.Outcome.{outcomeOf};
+ghost use Rattle.figure.specs.Figure.{figure};
 ghost use Rattle.certificate.specs.Structs.{figureIn};
 use crate::intersection::Figure;
 use crate::walk;

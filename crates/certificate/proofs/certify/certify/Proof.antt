@@ -2,7 +2,7 @@
 use mathlib.Core.Path.{sym, _∙_}
 use borrow.Author.Needs.{needs}
 use Rattle.curve.specs.Form.{slices}
-use Rattle.certificate.proofs.Certified.{certificate-theorem}
+use Rattle.figure.proofs.Certified.{certificate-theorem}
 use Rattle.certificate.proofs.certify.certify.Statement.{statement}
 use Rattle.certificate.proofs.certify.certify.Tie as tie
 

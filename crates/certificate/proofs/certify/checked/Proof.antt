@@ -9,8 +9,8 @@ use borrow.Author.Tests.{le-ltb, lt-ltb, eq-eqb, ne-eqb, not-true, not-false}
 use Rattle.request.proofs.Counts.{listed-count, waypoint-count}
 use Rattle.curve.specs.Form.{slices}
 use Rattle.curve.proofs.Formed.{formed}
-use Rattle.certificate.specs.Certify.{certifyOf, outcome}
-use Rattle.certificate.proofs.Certified.{Accepted, axis-below, breaks-rise, lengths, parameters-rise}
+use Rattle.figure.specs.Certify.{certifyOf, outcome}
+use Rattle.figure.proofs.Certified.{Accepted, axis-below, breaks-rise, lengths, parameters-rise}
 use Rattle.certificate.proofs.certify.checked.Statement.{statement}
 use Rattle.certificate.proofs.certify.checked.Tie as tie
 

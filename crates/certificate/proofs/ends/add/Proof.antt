@@ -1,7 +1,7 @@
 -- `certificate::ends::add` meets its contract.
 use lib.Ieee.{binary64}
 use Rattle.fraction.specs.Pair.{addPairs}
-use Rattle.certificate.proofs.Enclosure.{add-strict}
+use Rattle.figure.proofs.Enclosure.{add-strict}
 use Rattle.certificate.proofs.Pairs.{operation-is}
 use borrow.Author.Needs.{needs}
 use Rattle.certificate.proofs.ends.add.Statement.{statement}

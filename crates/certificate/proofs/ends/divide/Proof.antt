@@ -1,7 +1,7 @@
 -- `certificate::ends::divide` meets its contract.
 use lib.Ieee.{binary64}
 use Rattle.fraction.specs.Pair.{dividePairs}
-use Rattle.certificate.proofs.Enclosure.{divide-strict}
+use Rattle.figure.proofs.Enclosure.{divide-strict}
 use Rattle.certificate.proofs.Pairs.{operation-is}
 use borrow.Author.Needs.{needs}
 use Rattle.certificate.proofs.ends.divide.Statement.{statement}

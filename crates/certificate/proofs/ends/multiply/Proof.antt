@@ -1,7 +1,7 @@
 -- `certificate::ends::multiply` meets its contract.
 use lib.Ieee.{binary64}
 use Rattle.fraction.specs.Pair.{multiplyPairs}
-use Rattle.certificate.proofs.Enclosure.{multiply-strict}
+use Rattle.figure.proofs.Enclosure.{multiply-strict}
 use Rattle.certificate.proofs.Pairs.{operation-is}
 use borrow.Author.Needs.{needs}
 use Rattle.certificate.proofs.ends.multiply.Statement.{statement}

@@ -1,7 +1,7 @@
 -- `certificate::ends::subtract` meets its contract.
 use lib.Ieee.{binary64}
 use Rattle.fraction.specs.Pair.{subtractPairs}
-use Rattle.certificate.proofs.Enclosure.{subtract-strict}
+use Rattle.figure.proofs.Enclosure.{subtract-strict}
 use Rattle.certificate.proofs.Pairs.{operation-is}
 use borrow.Author.Needs.{needs}
 use Rattle.certificate.proofs.ends.subtract.Statement.{statement}

@@ -1,6 +1,6 @@
 -- `intersection::absolute_end` meets its contract.
 use borrow.Author.Needs.{needs}
-use Rattle.certificate.specs.Figure.{absoluteEnd}
+use Rattle.figure.specs.Figure.{absoluteEnd}
 use Rattle.certificate.proofs.intersection.absolute_end.Statement.{statement}
 use Rattle.certificate.proofs.intersection.absolute_end.Tie as tie
 

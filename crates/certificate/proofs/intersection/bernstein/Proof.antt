@@ -6,8 +6,8 @@ use borrow.Author.Needs.{needs}
 use lib.Ieee.{ofBits, round}
 use Rattle.fraction.specs.Binomial.{choose}
 use Rattle.fraction.specs.Pair as pairs
-use Rattle.certificate.specs.Intersection.{bernstein, total}
-use Rattle.certificate.specs.Operations.{ends}
+use Rattle.figure.specs.Intersection.{bernstein, total}
+use Rattle.figure.specs.Operations.{ends}
 use Rattle.certificate.specs.Structs.{endsOf, pairAt}
 use Rattle.certificate.proofs.Sums.{total-more, total-none}
 use Rattle.certificate.proofs.intersection.bernstein.Statement.{statement}

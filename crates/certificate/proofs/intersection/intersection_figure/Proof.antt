@@ -7,9 +7,9 @@ use borrow.Author.Needs.{needs}
 use Rattle.arith.specs.Loop.{each}
 use Rattle.arith.proofs.Loops.{each-done, each-turn}
 use Rattle.fraction.specs.Pair as pairs
-use Rattle.certificate.specs.Figure.{Figure, absoluteEnd, intersectionFigure, larger}
-use Rattle.certificate.specs.Intersection.{bernstein, differencePower}
-use Rattle.certificate.specs.Operations.{ends}
+use Rattle.figure.specs.Figure.{Figure, absoluteEnd, intersectionFigure, larger}
+use Rattle.figure.specs.Intersection.{bernstein, differencePower}
+use Rattle.figure.specs.Operations.{ends}
 use Rattle.certificate.specs.Structs.{Holds, figureIn, intersectionOf}
 use Rattle.certificate.proofs.Sums.{holds-bernstein}
 use Rattle.certificate.proofs.intersection.intersection_figure.Statement.{statement}

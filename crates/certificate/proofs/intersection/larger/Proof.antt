@@ -1,6 +1,6 @@
 -- `intersection::larger` meets its contract.
 use borrow.Author.Needs.{needs}
-use Rattle.certificate.specs.Figure.{larger}
+use Rattle.figure.specs.Figure.{larger}
 use Rattle.certificate.proofs.intersection.larger.Statement.{statement}
 use Rattle.certificate.proofs.intersection.larger.Tie as tie
 

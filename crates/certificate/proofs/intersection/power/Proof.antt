@@ -8,8 +8,8 @@ use lib.Ieee.{Float, ofBits, round}
 use Rattle.window.specs.Cells.{at}
 use Rattle.fraction.specs.Binomial.{choose}
 use Rattle.fraction.specs.Pair as pairs
-use Rattle.certificate.specs.Intersection.{power, raised, total}
-use Rattle.certificate.specs.Operations.{ends}
+use Rattle.figure.specs.Intersection.{power, raised, total}
+use Rattle.figure.specs.Operations.{ends}
 use Rattle.certificate.specs.Structs.{endsOf}
 use Rattle.certificate.proofs.Sums.{total-more, total-none}
 use Rattle.certificate.proofs.intersection.power.Statement.{statement}

@@ -4,8 +4,8 @@ use Prim.Native.Nat.{_-_, _≤_}
 use native.Mathlib.Omega.{arith}
 use borrow.Author.Needs.{needs}
 use lib.Ieee.{ofBits, round}
-use Rattle.certificate.specs.Intersection.{raised}
-use Rattle.certificate.specs.Operations.{ends}
+use Rattle.figure.specs.Intersection.{raised}
+use Rattle.figure.specs.Operations.{ends}
 use Rattle.certificate.specs.Structs.{endsOf}
 use Rattle.certificate.proofs.Sums.{raised-more}
 use Rattle.certificate.proofs.intersection.raise.Statement.{statement}

@@ -2,7 +2,7 @@
 use mathlib.Core.Bool.{Bool, cond}
 use mathlib.Core.Path.{_∙_, ap, sym}
 use borrow.Author.Needs.{needs}
-use Rattle.certificate.specs.Figure.{intersectionFigure, larger}
+use Rattle.figure.specs.Figure.{intersectionFigure, larger}
 use Rattle.certificate.specs.Structs.{figureIn, intersectionOf}
 use Rattle.certificate.proofs.walk.with_intersection.Statement.{statement}
 use Rattle.certificate.proofs.walk.with_intersection.Tie as tie

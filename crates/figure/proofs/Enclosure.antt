@@ -15,8 +15,8 @@ use Rattle.fraction.specs.Pair.{Between, Contains, Ends, addPairs, dividePairs,
 use Rattle.fraction.specs.Rational.{_*q_, _+q_, _-q_, _/q_, atMostq, wholeq, ℚ}
 use Rattle.fraction.specs.Value.{value}
 use Rattle.fraction.proofs.Pair.{add-contains, divide-contains, multiply-contains, point-contains, subtract-contains}
-use Rattle.certificate.specs.Operations.{Operations, ends}
-use Rattle.certificate.specs.Intersection.{Intersection, bernstein, differenceBernstein, differencePower, lineAtLeft, lineRise, offset, power, raised, scale, total, without}
+use Rattle.figure.specs.Operations.{Operations, ends}
+use Rattle.figure.specs.Intersection.{Intersection, bernstein, differenceBernstein, differencePower, lineAtLeft, lineRise, offset, power, raised, scale, total, without}
 
 -- the same operations on exact fractions
 abbrev pub exact : Operations ℚ

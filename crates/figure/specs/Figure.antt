@@ -5,8 +5,8 @@ use lib.Ieee.{Float, lt}
 use Rattle.arith.specs.Loop.{each}
 use Rattle.window.specs.Cells.{+0}
 use Rattle.fraction.specs.Pair.{Ends, highest, largestAbsolute, lowest, none, pair}
-use Rattle.certificate.specs.Operations.{ends}
-use Rattle.certificate.specs.Intersection.{Intersection, differenceBernstein}
+use Rattle.figure.specs.Operations.{ends}
+use Rattle.figure.specs.Intersection.{Intersection, differenceBernstein}
 
 -- a figure, or none
 pub data Figure : Type 0 where

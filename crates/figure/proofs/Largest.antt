@@ -15,10 +15,10 @@ use Rattle.fraction.specs.Value.{value}
 use Rattle.fraction.proofs.Lowest.{highest-is}
 use Rattle.fraction.proofs.Pair.{largest-absolute-bounds}
 use Rattle.fraction.proofs.Rational.{≤q-refl, ≤q-trans}
-use Rattle.certificate.specs.Operations.{ends}
-use Rattle.certificate.specs.Intersection.{Intersection, differenceBernstein}
-use Rattle.certificate.specs.Figure.{Axis, Figure, absoluteEnd, figure, figureOf, intersection, intersectionFigure, larger, noFigure, withIntersection}
-use Rattle.certificate.proofs.Enclosure.{Encloses, bernstein-encloses, exact}
+use Rattle.figure.specs.Operations.{ends}
+use Rattle.figure.specs.Intersection.{Intersection, differenceBernstein}
+use Rattle.figure.specs.Figure.{Axis, Figure, absoluteEnd, figure, figureOf, intersection, intersectionFigure, larger, noFigure, withIntersection}
+use Rattle.figure.proofs.Enclosure.{Encloses, bernstein-encloses, exact}
 
 -- a figure is finite
 abbrev pub Sound : Figure → Type 0

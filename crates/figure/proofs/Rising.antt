@@ -11,7 +11,7 @@ use Rattle.fraction.specs.Rational.{_<q_, _≤q_, atMostq, ℚ}
 use Rattle.fraction.specs.Value.{value}
 use Rattle.fraction.proofs.Comparison.{between-finite, eq-finite, eq-value, lt-value}
 use Rattle.fraction.proofs.Rational.{<q-weaken, never, ≤q-refl, ≤q-trans}
-use Rattle.certificate.specs.Distance.{Rises}
+use Rattle.figure.specs.Distance.{Rises}
 
 -- ---- 0 and 1
 abbrev pub one : Float

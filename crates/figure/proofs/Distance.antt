@@ -21,13 +21,13 @@ use Rattle.fraction.specs.Ring.{_⊕_, _⊖_, _⊗_, combine, con, solve, v0, v
 use Rattle.fraction.specs.Value.{exactFraction, value}
 use Rattle.fraction.proofs.Inverse.{inverse-is}
 use Rattle.fraction.proofs.Rational.{<q-weaken, <q-≤q-trans, difference-above, never, ≤f-gives-≤q, ≤q-<q-trans, ≤q-antisymmetric, ≤q-means-≤f, ≤q-or-<, ≤q-trans}
-use Rattle.certificate.specs.Distance.{DistanceRule, Rises, curveAt, lineAt}
-use Rattle.certificate.specs.Figure.{Axis, figure, figureOf, intersection}
-use Rattle.certificate.proofs.Exact.{curve, difference-within, line}
-use Rattle.certificate.proofs.Largest.{given-at-least, given-finite, intersection-bounds}
-use Rattle.certificate.proofs.Finite.{coefficients-finite, waypoints-finite}
-use Rattle.certificate.proofs.Overlap.{highest-has, lowest-has, overlap, overlap-values}
-use Rattle.certificate.proofs.Rising.{first-is, last-is, rises-finite, rises-strictly, rises-to}
+use Rattle.figure.specs.Distance.{DistanceRule, Rises, curveAt, lineAt}
+use Rattle.figure.specs.Figure.{Axis, figure, figureOf, intersection}
+use Rattle.figure.proofs.Exact.{curve, difference-within, line}
+use Rattle.figure.proofs.Largest.{given-at-least, given-finite, intersection-bounds}
+use Rattle.figure.proofs.Finite.{coefficients-finite, waypoints-finite}
+use Rattle.figure.proofs.Overlap.{highest-has, lowest-has, overlap, overlap-values}
+use Rattle.figure.proofs.Rising.{first-is, last-is, rises-finite, rises-strictly, rises-to}
 
 -- ---- the line passes through both waypoints
 line-start : (s s′ y y′ : ℚ) → line s s′ y y′ s ≡ y

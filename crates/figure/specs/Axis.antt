@@ -6,7 +6,7 @@ use lib.ListN.{length}
 use Rattle.window.specs.Cells.{at}
 use Rattle.request.specs.declared.parameters.Spacing.{Spacing}
 use Rattle.request.specs.Parameters.{normalisedOf}
-use Rattle.certificate.specs.Figure.{Axis}
+use Rattle.figure.specs.Figure.{Axis}
 
 -- The axis at a place of the k axes of a set of segments: "their breaks and six power coefficients per segment and, within it, per axis".
 -- Its waypoints are row `axis` of "waypoint after waypoint, d rows each, n waypoints"; s are "the parameters normalised as `build` does

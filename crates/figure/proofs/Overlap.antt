@@ -13,9 +13,9 @@ use Rattle.fraction.specs.Value.{value}
 use Rattle.fraction.proofs.Lowest.{highest-is, lowest-is}
 use Rattle.fraction.proofs.Rational.{<q-≤q-trans, never, ≤q-or-<}
 use Rattle.fraction.proofs.Value.{value-le-of-not-lt}
-use Rattle.certificate.specs.Distance.{Rises}
-use Rattle.certificate.specs.Figure.{Axis, intersection}
-use Rattle.certificate.proofs.Rising.{first-is, last-is, rises-finite, rises-strictly, rises-to}
+use Rattle.figure.specs.Distance.{Rises}
+use Rattle.figure.specs.Figure.{Axis, intersection}
+use Rattle.figure.proofs.Rising.{first-is, last-is, rises-finite, rises-strictly, rises-to}
 
 -- what holds of both holds of the one chosen
 either : (P : Float → Type 0) (b : Bool) (x y : Float) → P x → P y → P (cond b x y)

@@ -9,7 +9,7 @@ use Rattle.window.specs.Cells.{+0}
 use Rattle.fraction.specs.Fraction.{Fraction, _≤f_, addFractions, divideFractions, multiplyFractions, negateFraction, subtractFractions}
 use Rattle.fraction.specs.Polynomial.{fractionPolynomial}
 use Rattle.fraction.specs.Value.{exactFraction}
-use Rattle.certificate.specs.Figure.{Axis}
+use Rattle.figure.specs.Figure.{Axis}
 
 -- x 0 .. x count rise strictly from 0 to 1. So breaks do in a well-formed curve (24), and so do the normalised parameters (5, 6).
 pub record Rises (count : ℕ) (x : ℕ → Float) : Type 0 where

@@ -22,11 +22,11 @@ use Rattle.curve.specs.Form.{Slices, rises, setFormed, wellFormed}
 use Rattle.curve.specs.Places.{positionOf}
 use Rattle.curve.proofs.Firsts.{every-at, first-passes}
 use Rattle.curve.proofs.Formed.{axes-good, formed, set-sizes}
-use Rattle.certificate.specs.Certify.{Certified, Outcome, certifiedAxis, certifyOf, outcome}
-use Rattle.certificate.specs.Distance.{Rises}
-use Rattle.certificate.specs.Figure.{Figure, figure, figureOf, noFigure}
-use Rattle.certificate.proofs.Covering.{covered}
-use Rattle.certificate.proofs.Distance.{distance-theorem}
+use Rattle.figure.specs.Certify.{Certified, Outcome, certifiedAxis, certifyOf, outcome}
+use Rattle.figure.specs.Distance.{Rises}
+use Rattle.figure.specs.Figure.{Figure, figure, figureOf, noFigure}
+use Rattle.figure.proofs.Covering.{covered}
+use Rattle.figure.proofs.Distance.{distance-theorem}
 
 -- ---- a set of segments that is well formed
 -- its breaks rise strictly from 0 to 1

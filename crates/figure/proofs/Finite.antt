@@ -13,14 +13,14 @@ use Rattle.fraction.specs.Pair.{Ends, addPairs, dividePairs, finiteEnds, isPair
 use Rattle.fraction.specs.Rational.{_<q_, ℚ}
 use Rattle.fraction.specs.Value.{value}
 use Rattle.fraction.proofs.Rational.{≤q-<q-trans}
-use Rattle.certificate.specs.Distance.{Rises}
-use Rattle.certificate.specs.Figure.{Axis, absoluteEnd, figure, figureOf, intersection}
-use Rattle.certificate.specs.Intersection.{Intersection, bernstein, differenceBernstein, differencePower, lineAtLeft, offset, power, raised, scale, total}
-use Rattle.certificate.specs.Operations.{ends}
-use Rattle.certificate.proofs.Enclosure.{Strict, add-strict, divide-strict, multiply-strict, subtract-strict}
-use Rattle.certificate.proofs.Largest.{AtMost, given-at-least, intersection-ends}
-use Rattle.certificate.proofs.Overlap.{located, overlap}
-use Rattle.certificate.proofs.Rising.{rises-strictly, some-step}
+use Rattle.figure.specs.Distance.{Rises}
+use Rattle.figure.specs.Figure.{Axis, absoluteEnd, figure, figureOf, intersection}
+use Rattle.figure.specs.Intersection.{Intersection, bernstein, differenceBernstein, differencePower, lineAtLeft, offset, power, raised, scale, total}
+use Rattle.figure.specs.Operations.{ends}
+use Rattle.figure.proofs.Enclosure.{Strict, add-strict, divide-strict, multiply-strict, subtract-strict}
+use Rattle.figure.proofs.Largest.{AtMost, given-at-least, intersection-ends}
+use Rattle.figure.proofs.Overlap.{located, overlap}
+use Rattle.figure.proofs.Rising.{rises-strictly, some-step}
 
 -- ---- an operation that gives a pair had two
 sides : (f : Ends → Ends → Ends) → Strict f → (X Y : Ends) → T (isPair (f X Y)) → T (isPair X) × T (isPair Y)

@@ -15,13 +15,9 @@ use Rattle.request.specs.Points.{unfit}
 use Rattle.curve.specs.declared.Curve.{Curve}
 use Rattle.curve.specs.Form.{Slices, wellFormed}
 use Rattle.curve.specs.Places.{positionOf}
-use Rattle.certificate.specs.Axis.{axisOf}
-use Rattle.certificate.specs.Distance.{Covered, DistanceRule, Rises}
-use Rattle.certificate.specs.Figure.{Axis, Figure, figure, figureOf, noFigure}
-use Rattle.certificate.specs.declared.certify.Certificate.{Certificate}
-use Rattle.certificate.specs.declared.certify.Certificate.the-variants as answers
-use Rattle.certificate.specs.declared.certify.Refusal.{Refusal}
-use Rattle.certificate.specs.declared.certify.Refusal.the-variants.{AboveDomain, PointCells, BadPoints, BadParameters, BadRange, Malformed, NotSelected}
+use Rattle.figure.specs.Axis.{axisOf}
+use Rattle.figure.specs.Distance.{Covered, DistanceRule, Rises}
+use Rattle.figure.specs.Figure.{Axis, Figure, figure, figureOf, noFigure}
 
 -- document 01's number, 0 where nothing is refused; and the figure, or none
 pub record Outcome : Type 0 where
@@ -47,22 +43,6 @@ certifyOf c s points n spacing parameters axis =
     (cond (not (wellFormed c s)) (outcome 24 noFigure)
     (cond (not (ltb (positionOf (c .axes) (c .k) axis) (c .k))) (outcome 3 noFigure)
     (outcome 0 (figureOf (certifiedAxis c s points n spacing parameters axis)))))))))
-
--- document 01's number of a refusal
-abbrev pub refusalNumber : Refusal → ℕ
-refusalNumber AboveDomain = 18
-refusalNumber PointCells = 20
-refusalNumber BadPoints = 1
-refusalNumber BadParameters = 5
-refusalNumber BadRange = 6
-refusalNumber Malformed = 24
-refusalNumber NotSelected = 3
-
--- and of an answer, with its figure
-abbrev pub outcomeOf : Certificate → Outcome
-outcomeOf (answers.Figure x) = outcome 0 (figure x)
-outcomeOf answers.None = outcome 0 noFigure
-outcomeOf (answers.Refused r) = outcome (refusalNumber r) noFigure
 
 -- What the figure F says: the curve is well formed, its breaks and the normalised parameters rise strictly from 0 to 1, every exact
 -- fraction from 0 to 1 lies in a segment and in an interval, and the distance rule holds: so curve and line are at most F apart at every

@@ -3,7 +3,7 @@
 use Prim.Native.Nat.{ℕ, zero, suc, _+_, _-_}
 use lib.Ieee.{Float}
 use Rattle.fraction.specs.Binomial.{choose}
-use Rattle.certificate.specs.Operations.{Operations}
+use Rattle.figure.specs.Operations.{Operations}
 
 -- the numbers that an intersection is computed from
 pub record Intersection : Type 0 where

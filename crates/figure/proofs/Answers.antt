@@ -18,9 +18,9 @@ use Rattle.curve.specs.declared.Curve.{Curve}
 use Rattle.curve.specs.declared.Mode.the-variants.{Error}
 use Rattle.curve.specs.First.{firstOf}
 use Rattle.curve.specs.Form.{Slices, slices, axesFormed, setFormed, othersFormed, rangeFormed, wellFormed}
-use Rattle.certificate.specs.Certify.{certifyOf, outcome}
-use Rattle.certificate.specs.Figure.{figure, figureOf}
-use Rattle.certificate.specs.Intersection.{bernstein, power}
+use Rattle.figure.specs.Certify.{certifyOf, outcome}
+use Rattle.figure.specs.Figure.{figure, figureOf}
+use Rattle.figure.specs.Intersection.{bernstein, power}
 
 abbrev float : ℕ → Float
 float = ofBits binary64

@@ -11,10 +11,10 @@ use Rattle.fraction.specs.Fraction.{Fraction, _≤f_, wholeFraction}
 use Rattle.fraction.specs.Rational.{_≤q_, atMostq, wholeq, ℚ}
 use Rattle.fraction.specs.Value.{exactFraction, value}
 use Rattle.fraction.proofs.Rational.{<q-weaken, ≤f-gives-≤q, ≤q-means-≤f, ≤q-or-<, ≤q-trans}
-use Rattle.certificate.specs.Distance.{Covered, LiesIn, Rises}
-use Rattle.certificate.specs.Figure.{Axis}
-use Rattle.certificate.proofs.Overlap.{find}
-use Rattle.certificate.proofs.Rising.{first-is, last-is, one, rises-to, some-step}
+use Rattle.figure.specs.Distance.{Covered, LiesIn, Rises}
+use Rattle.figure.specs.Figure.{Axis}
+use Rattle.figure.proofs.Overlap.{find}
+use Rattle.figure.proofs.Rising.{first-is, last-is, one, rises-to, some-step}
 
 -- +0 is worth 0, and the float 1 is worth 1
 zero-worth : value +0 ≤q wholeq (pos 0)

@@ -21,9 +21,9 @@ use Rattle.fraction.proofs.Inverse.{inverse-is, inverse-nonnegative}
 use Rattle.fraction.proofs.Polynomial.{expand}
 use Rattle.fraction.proofs.Rational.{<q-weaken, absolute-above, difference-above, rationalOrder, ≤q-trans, ≤q-whole}
 use Rattle.fraction.proofs.Sum.{sum-equal, sum-last, sum-scale}
-use Rattle.certificate.specs.Intersection.{Intersection, bernstein, differenceBernstein, differencePower, lineAtLeft, lineRise, offset, raised, scale, total, without}
-use Rattle.certificate.specs.Intersection as intersection
-use Rattle.certificate.proofs.Enclosure.{exact}
+use Rattle.figure.specs.Intersection.{Intersection, bernstein, differenceBernstein, differencePower, lineAtLeft, lineRise, offset, raised, scale, total, without}
+use Rattle.figure.specs.Intersection as intersection
+use Rattle.figure.proofs.Enclosure.{exact}
 
 -- ---- the sums and powers of the formulas are those of `fraction`
 -- terms that are 0 before the first

@@ -1,0 +1,11 @@
+-- The laws.
+pub mod Answers
+pub mod Certified
+pub mod Covering
+pub mod Distance
+pub mod Enclosure
+pub mod Exact
+pub mod Finite
+pub mod Largest
+pub mod Overlap
+pub mod Rising
