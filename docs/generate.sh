@@ -27,10 +27,10 @@ bare=$(for c in crates/*; do cat "$c"/src/*.rt | grep -q 'fn ' || echo "${c#crat
     cat << 'END'
 # The layers
 
-Made from `crates.txt` by `docs/generate.sh`; [ARCHITECTURE.md](ARCHITECTURE.md) says what each crate holds. A box is a layer: its crates need
-nothing of each other and are proved side by side. Beside a crate stand the crates that it uses and that no other of these uses;
-what it may use besides stands in its line of `crates.txt`. Libraries of the toolchain are left out. `*` is a program, `-` has definitions and
-laws and no function.
+Made from `crates.txt` by `docs/generate.sh`. [ARCHITECTURE.md](ARCHITECTURE.md) says what each crate holds. A box is a layer: its crates
+need nothing of each other, and are proved side by side. Beside a crate stand the crates that it rests on directly: those of its line in
+`crates.txt` that no other crate of that line uses. Libraries of the toolchain are left out. `*` is a program, `-` has definitions and laws
+and no function.
 
 END
     echo '```'
@@ -62,18 +62,19 @@ END
             }
             return s
         }
-        function rule(n,    s) { s = "+-- " n " "; while (length(s) < 99) s = s "-"; return s "+" }
+        function rule(n,    s) { s = n == "" ? "+" : "+-- " n " "; while (length(s) < width + 25) s = s "-"; return s "+" }
         { sub(/#.*/, "") }
         /:/ { n = substr($0, 1, index($0, ":") - 1); uses[n] = substr($0, index($0, ":") + 1); list[++count] = n }
         END {
             m = split(ENVIRON["PROGRAMS"], word, " "); for (k = 1; k <= m; k++) mark[word[k]] = "*"
             m = split(ENVIRON["BARE"], word, " "); for (k = 1; k <= m; k++) mark[word[k]] = "-"
             for (i = 1; i <= count; i++) { level_of(list[i]); reach(list[i]) }
+            for (i = 1; i <= count; i++) if (length(direct(list[i])) > width) width = length(direct(list[i]))
             for (l = top; l >= 0; l--) {
                 print rule(l)
-                for (i = 1; i <= count; i++) if (level[list[i]] == l) printf "| %1s %-18s %-76s|\n", mark[list[i]], list[i], direct(list[i])
+                for (i = 1; i <= count; i++) if (level[list[i]] == l) printf "| %1s %-18s  %-" width "s |\n", mark[list[i]], list[i], direct(list[i])
             }
-            bottom = rule("x"); gsub(/ x /, "---", bottom); print bottom
+            print rule("")
         }' crates.txt
     echo '```'
 } > "$made"
