@@ -4,13 +4,31 @@
 # as a declaration in it (a line's first word in a .txt, a heading in an .md). The numbers of document 01's
 # sentences are 1 to N, each once, and the counts at the top are those of the rows; a row of document 02 is
 # REQUEST.SENTENCE. Where the folder of the papers is at hand, beside the checkout or as the argument, each row must
-# begin as its sentence does, and a request with rows must have all. One line for each wrong row; status 1.
+# begin as its sentence does, and a request with rows must have all. The functions of the Rust bindings that have an
+# `unsafe` block are those of docs/REVIEW.md. One line for each wrong row; status 1.
 set -eu
 cd "$(dirname "$0")/.."
 papers=${1:-../shared/docs}
 scope=$papers/01-scope.md requests=$papers/02-change-requests.md
 [ -f "$scope" ] || scope=''
 [ -f "$requests" ] || requests=''
+there=$(mktemp) told=$(mktemp)
+trap 'rm -f "$there" "$told"' EXIT
+
+status=0
+if [ -d bindings/rust/src ]; then
+    # the function around each block, and the rows of the table
+    find bindings/rust/src -name '*.rs' | sort | while read -r file; do
+        awk -v file="$file" '
+            match($0, /fn [a-z_0-9]+/) { name = substr($0, RSTART + 3, RLENGTH - 3) }
+            /unsafe \{/ && !/^ *\/\// { print file ": " name }' "$file"
+    done > "$there"
+    sed -n 's/^| `\(bindings\/rust\/[^`]*\)` .*/\1/p' docs/REVIEW.md > "$told"
+    sort "$there" -o "$there"; sort "$told" -o "$told"
+    comm -23 "$there" "$told" | sed 's/^/docs\/REVIEW.md: no row for the unsafe block of /'
+    comm -13 "$there" "$told" | sed 's/^/docs\/REVIEW.md: there is no unsafe block in /'
+    cmp -s "$there" "$told" || status=1
+fi
 
 awk -v scope="$scope" -v requests="$requests" -v trace=docs/TRACE.md -v builds=docs/BAD-BUILDS.md '
     # the first word of s, up to a blank or a sign that cannot be in a name
@@ -163,4 +181,5 @@ awk -v scope="$scope" -v requests="$requests" -v trace=docs/TRACE.md -v builds=d
         if (stated != right) { printf "%s: the counts are: %s\n", trace, right; bad = 1 }
         if (!bad) printf "%s: %s Document 02: %d rows. %s: %d edits. %d references, all there%s\n", trace, right, more, builds, edits, count, scope == "" ? "; the papers are not at hand" : ""
         exit bad
-    }' < /dev/null
+    }' < /dev/null || status=1
+exit $status

@@ -122,7 +122,7 @@ def check():
     """REVIEW.md: its contracts are `PATH: NAME` or a file of theorems in a row of a table; its files, a row each with a count."""
     text = open(os.path.join(ROOT, "docs", "REVIEW.md"), encoding="utf8").read()
     listed = set(re.findall(r"^\| `([^`]*/specs/[^`]*)` \| \d", text, re.M))
-    entries = re.findall(r"^\| `([^`]*/(?:src|proofs)/[^`]*)` \|", text, re.M)
+    entries = re.findall(r"^\| `([^`]*/(?:src/[^`]*\.rt: \w+|proofs/[^`]*\.antt))` \|", text, re.M)
     found = reached(entries)
     need = {p for p, _ in found if not open(os.path.join(CRATES, p), encoding="utf8").read().startswith(LAWS)}
     for path in sorted(need - listed):
