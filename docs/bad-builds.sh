@@ -4,6 +4,7 @@
 # LOGS is target/must-fail unless given. It is the first error of a theorem that the column before names, or the
 # first of all. A row without a log stays as it is.
 set -eu
+export LC_ALL=C
 logs=$(cd "${1:-$(dirname "$0")/../target/must-fail}" && pwd)
 cd "$(dirname "$0")"
 made=$(mktemp)

@@ -7,6 +7,7 @@
 # begin as its sentence does, and a request with rows must have all. The functions of the Rust bindings that have an
 # `unsafe` block are those of docs/REVIEW.md. One line for each wrong row; status 1.
 set -eu
+export LC_ALL=C
 cd "$(dirname "$0")/.."
 papers=${1:-../shared/docs}
 scope=$papers/01-scope.md requests=$papers/02-change-requests.md
@@ -24,7 +25,8 @@ if [ -d bindings/rust/src ]; then
             /unsafe \{/ && !/^ *\/\// { print file ": " name }' "$file"
     done > "$there"
     sed -n 's/^| `\(bindings\/rust\/[^`]*\)` .*/\1/p' docs/REVIEW.md > "$told"
-    sort "$there" -o "$there"; sort "$told" -o "$told"
+    sort -o "$there" "$there"
+    sort -o "$told" "$told"
     comm -23 "$there" "$told" | sed 's/^/docs\/REVIEW.md: no row for the unsafe block of /'
     comm -13 "$there" "$told" | sed 's/^/docs\/REVIEW.md: there is no unsafe block in /'
     cmp -s "$there" "$told" || status=1

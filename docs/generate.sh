@@ -3,6 +3,7 @@
 # docs/LAYERS.md is drawn from crates.txt; the lines in the tables of docs/REVIEW.md are counted. With --check
 # nothing is written, and the status is 1 where a document is not what would be made.
 set -eu
+export LC_ALL=C
 cd "$(dirname "$0")/.."
 mode=${1:-}
 made=$(mktemp)
