@@ -63,16 +63,19 @@ awk -v scope="$scope" -v requests="$requests" -v trace=docs/TRACE.md -v builds=d
     }
 
     # reads the names of a file, once; 0 where there is none
-    function load(path,    f, line, got, n, part, kind, name) {
+    function load(path,    f, line, before, got, n, part, kind, name) {
         if (path in found) return found[path]
         f = "crates/" path
         got = (getline line < f)
         if (got < 0) { f = path; got = (getline line < f) }
         found[path] = (got >= 0)
         n = split(path, part, "."); kind = part[n]
+        before = ""
         while (got > 0) {
             name = declared(line, kind)
-            if (name != "") names[path, name] = 1
+            # in a file of tests a name is that of a test
+            if (name != "" && (path !~ /tests\.rs$/ || before ~ /#\[test\]/)) names[path, name] = 1
+            before = line
             got = (getline line < f)
         }
         close(f)
