@@ -13,7 +13,8 @@ use Rattle.query.specs.declared.segment.Derivatives.{Derivatives}
 use Rattle.query.specs.declared.segment.Local.{Local}
 use Rattle.query.specs.Segment.{axisAt, located}
 use Rattle.query.specs.Row.{Outputs, rowOf, filled}
-use Rattle.query.specs.Query.{lengthOf, normalised, scaleOf, axisOf, columnOf}
+use Rattle.query.specs.Range.{rangedOf}
+use Rattle.query.specs.Query.{lengthOf, normalised, scaleOf, axisOf, columnOf, spanAt}
 
 -- the axes at x, which stand at these places
 module _ (c : Curve) (s : Slices) (x : Float) (places : List ℕ) where
@@ -47,3 +48,8 @@ module _ (c : Curve) (s : Slices) (x : Float) (places : List ℕ) where
 -- a column has d cells
 pub column-length : (part : Derivatives → Float) (c : Curve) (s : Slices) (x : Float) → length (columnOf part c s x) ≡ c .d
 column-length part c s x = list-length (c .d) (λ a. part (axisOf c s x a))
+
+-- the segment that the code has found is the one in which the query is answered
+pub span-found : (c : Curve) (breaks : List Float) (here : Local) (x answered whole : Float) → answered ≡ rangedOf c x .at
+    → whole ≡ lengthOf c → here ≡ located breaks (div binary64 (sub binary64 answered (c .start)) whole) → here .span ≡ spanAt c breaks x
+span-found c breaks here x answered whole a w e = rw (e, a, w)

@@ -1,8 +1,9 @@
 -- One query: the source's `SmoothedSpline::evaluate`, with document 01's checks before it; and many queries in one call.
 use mathlib.Core.Bool.{Bool, not, _&&_, _||_, cond}
 use mathlib.Core.List.{List}
-use Prim.Native.Nat.{ℕ, _-_, _*_}
-use lib.Dec.{leb, ltb}
+use mathlib.Core.Path.{_≡_}
+use Prim.Native.Nat.{ℕ, _+_, _-_, _*_}
+use lib.Dec.{leb, ltb, eqb}
 use lib.ListN.{length}
 use lib.Ieee.{Float, binary64, ofBits, sub, div}
 use Rattle.window.specs.Cells.{at}
@@ -86,6 +87,19 @@ evaluateAllOf c s xs order o =
     (cond (ltb (firstRefused c xs) (length xs))
     (outcome 22 (firstRefused c xs) o)
     (outcome 0 0 (filled order 0 (λ part. columnsOf part c s xs) o)))
+
+-- the segment of a set in which the query at x is answered
+abbrev pub spanAt : Curve → List Float → Float → ℕ
+spanAt c breaks x = located breaks (normalised c (rangedOf c x .at)) .span
+
+-- "its last span": after a query with this number the segment of its answer; a refusal keeps the one before
+abbrev pub keptOf : ℕ → Curve → List Float → Float → ℕ → ℕ
+keptOf number c breaks x near = cond (eqb number 0) (spanAt c breaks x) near
+
+-- the segments of the last of the first n parameters, if there is one
+abbrev pub Last : Curve → Slices → List Float → ℕ → ℕ → ℕ → Type 0
+Last c s xs n span otherSpan = (i : ℕ) → i + 1 ≡ n
+    → (span ≡ spanAt c (s .breaks) (at xs i)) × (otherSpan ≡ spanAt c (s .otherBreaks) (at xs i))
 
 -- document 01's number of an answer; 0 says that there is one
 abbrev pub numberOf : Answer → ℕ

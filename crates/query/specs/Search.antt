@@ -2,7 +2,7 @@
 use mathlib.Core.Path.{_≡_}
 use mathlib.Core.Bool.{true, false}
 use mathlib.Core.List.{List}
-use Prim.Native.Nat.{ℕ, _+_, _<_}
+use Prim.Native.Nat.{ℕ, _+_, _≤_, _<_}
 use lib.ListN.{length}
 use lib.Ieee.{Float, lt, le}
 use Rattle.window.specs.Cells.{+0, at}
@@ -16,3 +16,7 @@ Rising breaks = (0 < length breaks → le +0 (at breaks 0) ≡ true)
 abbrev pub Found : List Float → Float → ℕ → Type 0
 Found breaks x r =
     (r + 1 < length breaks) × (0 < r → le (at breaks r) x ≡ true) × (r + 2 < length breaks → le (at breaks (r + 1)) x ≡ false)
+
+-- a search may begin at this segment: it is one, where there are segments
+abbrev pub Begins : List Float → ℕ → Type 0
+Begins breaks near = 2 ≤ length breaks → near + 1 < length breaks

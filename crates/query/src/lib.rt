@@ -9,5 +9,9 @@ mod entry; // entry.rt: one query, and many in one call
 
 pub use entry::Answer;
 pub use entry::Answers;
+pub use entry::Found;
 pub use entry::evaluate;
 pub use entry::evaluate_all;
+pub use entry::evaluate_all_formed;
+pub use entry::evaluate_formed;
+pub use entry::evaluate_near;

@@ -2,7 +2,7 @@
 ghost use mathlib.Core.Path.{_≡_};
 ghost use Prim.Native.Nat.{_+_, _-_, _*_, _≤_, _<_};
 ghost use lib.ListN.{length};
-ghost use Rattle.query.specs.Search.{Rising};
+ghost use Rattle.query.specs.Search.{Rising, Begins};
 ghost use Rattle.query.specs.Segment.{hornerOf, atOf, localOn, located, coefficientsOf, scaledOf, axisAt};
 use crate::search;
 use bspline::choose::FACT;
@@ -83,7 +83,7 @@ fn on_span(breaks: &[f64], span: usize, x: f64) -> Local
 // Where x lies among the breaks, of which the segment `near` is tried first. A set without segments has
 // nothing to find.
 pub fn locate(breaks: &[f64], x: f64, near: usize) -> Local
-    requires { ⌜ Rising (now breaks) × (2 ≤ length (now breaks) → near + 1 < length (now breaks)) ⌝ }
+    requires { ⌜ Rising (now breaks) × Begins (now breaks) near ⌝ }
     ensures { λ r. ⌜ r ≡ located (now (breaks .entry)) x ⌝ }
 {
     if breaks.len() < 2 {
@@ -95,6 +95,19 @@ pub fn locate(breaks: &[f64], x: f64, near: usize) -> Local
     }
     let span = search::span(breaks, x, near);
     on_span(breaks, span, x)
+}
+
+// Where a search may begin: at the segment `near` if there is such a one, otherwise at the first.
+pub fn begin(breaks: &[f64], near: usize) -> usize
+    ensures { λ r. ⌜ Begins (now (breaks .entry)) r ⌝ }
+{
+    if breaks.len() < 2 {
+        return 0;
+    }
+    if near < breaks.len() - 1 {
+        return near;
+    }
+    0
 }
 
 // The six coefficients of the axis at a place, a part of whichever slice holds them: the selected

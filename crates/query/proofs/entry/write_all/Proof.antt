@@ -12,15 +12,20 @@ find-places-requires c κs = let b = c .before .before .before .before .before .
     (omega (arith, f .k-high, f .d-high), f .d-high)
 
 write-rows-requires : tie.Need-write-rows-requires
-write-rows-requires c κs = let found = c .before .before .before .before .before .before .before in
-    let b = found .before .before .before .before .before .before .before .before .before .before .before .before in
-    (b .pre .0, (found .find-places .ensures, ((refl, refl), b .pre .1)))
+write-rows-requires c κs = let begun = c .before .before .before .before .before in
+    let found = begun .before .before .before .before in
+    let b = found .before .before .before .before .before .before .before .before .before .before .before .before in (
+      b .pre .0,
+      (found .find-places .ensures, ((refl, refl), (b .pre .1 .0, ((begun .before .begin .ensures, begun .begin2 .ensures), b .pre .1 .1)))),
+    )
 
 pub write-all-spec : {M : Type 1} → statement M
 write-all-spec =
     tie.close
     (tie.spec
     find-places-requires
+    (λ c κs. search needs)
+    (λ c κs. search needs)
     write-rows-requires
     (λ c. search needs)
     (λ c. search needs)

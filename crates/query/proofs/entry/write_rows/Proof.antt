@@ -14,10 +14,11 @@ use Rattle.curve.proofs.Placing.{place-below}
 use Rattle.curve.proofs.Formed.{Formed, formed, axes-good}
 use Rattle.query.specs.declared.segment.Derivatives.{Derivatives}
 use Rattle.query.specs.Row.{Outputs, outputs, filled}
-use Rattle.query.specs.Query.{columnOf}
+use Rattle.query.specs.Search.{Begins}
+use Rattle.query.specs.Query.{columnOf, Last}
 use Rattle.query.specs.Range.{rangedOf}
 use Rattle.query.proofs.Sets.{set-rows, other-rows, set-rising, others-rising, located-within}
-use Rattle.query.proofs.Columns.{rows-columns, column-length}
+use Rattle.query.proofs.Columns.{rows-columns, column-length, span-found}
 use Rattle.query.proofs.Filled.{SameLengths, as-long, room-for, filled-none, rows-next}
 use Rattle.query.proofs.entry.write_rows.Statement.{statement}
 use Rattle.query.proofs.entry.write_rows.Tie as tie
@@ -26,21 +27,17 @@ use Rattle.query.proofs.entry.write_rows.Tie as tie
 abbrev column : Curve → Slices → List Float → (Derivatives → Float) → ℕ → List Float
 column c s xs part j = columnOf part c s (rangedOf c (at xs j) .at)
 
--- a search may begin there
-abbrev Begins : List Float → ℕ → Type 0
-Begins breaks span = 2 ≤ length breaks → span + 1 < length breaks
-
 abbrev Inv-loop : tie.InvT-loop
-Inv-loop curve table whole scale breaks coefficients other-breaks other-coefficients xs inside order q₀ dq₀ ddq₀ dddq₀ d k m start span₀
+Inv-loop curve table whole scale breaks coefficients other-breaks other-coefficients near other-near xs inside order q₀ dq₀ ddq₀ dddq₀ d k m start span₀
     other-span₀ i₀ q dq ddq dddq span other-span i =
     let s = slices breaks coefficients other-breaks other-coefficients in
     let o₀ = outputs q₀ dq₀ ddq₀ dddq₀ in
     let o = outputs q dq ddq dddq in
     (i ≤ length xs) × Begins breaks span × Begins other-breaks other-span × SameLengths o₀ o
-    × (o ≡ filled order 0 (λ part. join i (column curve s xs part)) o₀)
+    × (o ≡ filled order 0 (λ part. join i (column curve s xs part)) o₀) × Last curve s xs i span other-span
 
 abbrev μ-loop : tie.MeasureT-loop
-μ-loop curve table whole scale breaks coefficients other-breaks other-coefficients xs inside order q₀ dq₀ ddq₀ dddq₀ d k m start span₀
+μ-loop curve table whole scale breaks coefficients other-breaks other-coefficients near other-near xs inside order q₀ dq₀ ddq₀ dddq₀ d k m start span₀
     other-span₀ i₀ q dq ddq dddq span other-span i =
     length xs - i
 
@@ -66,7 +63,8 @@ sub-m c = omega (arith, well-formed (c .before .before .before .before .before .
 loop-holds : tie.Need-loop-holds Inv-loop μ-loop
 unfolding join
 loop-holds c = let b = c .before .before .before .before .before .before .before .before .before in
-    (omega arith, λ h. omega arith, λ h. omega arith, as-long (given b), filled-none (b .args .order) 0 (given b))
+    let n = b .pre .1 .1 .1 .1 .0 in
+    (omega arith, n .0, n .1, as-long (given b), filled-none (b .args .order) 0 (given b), λ j e. absurd (omega arith))
 
 answered-at-requires : tie.Need-answered-at-requires Inv-loop μ-loop
 answered-at-requires c κs = λ h. start (c .before .before) .pre .1 .1 .1 .0 h (c .before .before .loop .i) (c .before .loop-test .taken)
@@ -85,7 +83,7 @@ mul-put-axes c = let l = c .before .before .before .before .before in
     let b = start l in
     let g = b .args in
     let r = row-end (l .loop .i) (length (g .xs .now)) (g .curve .d) (length (g .q .now))
-    (c .before .before .before .before .loop-test .taken) (b .pre .1 .1 .1 .1 .0) in
+    (c .before .before .before .before .loop-test .taken) (b .pre .1 .1 .1 .1 .1 .0) in
     omega (arith, r, b .good)
 
 -- the place of an axis is below d
@@ -118,7 +116,7 @@ put-axes-requires c κs = let t = c .before .before .before .before in
       (
         places-below b,
         room-for (g .order) (i * d + (g .curve .k + (d - g .curve .k))) (n * d) (given b) o (omega (arith, f .k-high, r)) (l .loop .inv .3)
-            (b .pre .1 .1 .1 .1),
+            (b .pre .1 .1 .1 .1 .1),
       ),
     )
 
@@ -145,19 +143,23 @@ loop-again c = let p = c .before .before .before .before .before .before .before
     let r = rows-next (g .order) 0 d i (length (g .xs .now)) (i * d) (column (g .curve) (read b) (g .xs .now)) (given b) o _ (omega arith)
     (λ part j. column-length part (g .curve) (read b) (rangedOf (g .curve) (at (g .xs .now) j) .at)) h
     (room-for (g .order) (0 + length (g .xs .now) * d) (length (g .xs .now) * d) (given b) (given b) (omega arith) (as-long (given b))
-    (b .pre .1 .1 .1 .1))
+    (b .pre .1 .1 .1 .1 .1))
     (l .loop .inv .4) e in (
       omega (arith, h),
       rw (t .before .locate .ensures) (located-within _ _),
       rw (t .locate2 .ensures) (located-within _ _),
       r .0,
       r .1,
+      λ j e. let same : j ≡ i = omega arith in (
+        rw same (span-found (g .curve) (g .breaks .now) _ _ _ _ x (w .0) (t .before .locate .ensures)),
+        rw same (span-found (g .curve) (g .other-breaks .now) _ _ _ _ x (w .0) (t .locate2 .ensures)),
+      ),
     )
 
 returns : tie.Need-returns Inv-loop μ-loop
 returns c = let l = c .before in
     let e : l .loop .i ≡ length (start l .args .xs .now) = omega arith in
-    rw e at (l .loop .inv .4)
+    (rw e at (l .loop .inv .4), rw e at (l .loop .inv .5))
 
 pub write-rows-spec : {M : Type 1} → statement M
 write-rows-spec =
