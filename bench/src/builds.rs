@@ -30,8 +30,8 @@ unsafe extern "C" {
         even: bool,
         parameters: *const f64,
         parameters_len: usize,
-        refinements: usize,
-        segments: usize,
+        max_refinements: usize,
+        max_segments: usize,
         clamp: bool,
         work: *mut f64,
         work_len: usize,
@@ -47,6 +47,8 @@ unsafe extern "C" {
         errors_len: usize,
         counts: *mut [usize; 5],
         ratio: *mut f64,
+        k: *mut usize,
+        axes: *mut [usize; 16],
         start: *mut f64,
         end: *mut f64,
     ) -> u64;
@@ -84,6 +86,8 @@ struct Told {
     number: u64,
     counts: [usize; 5],
     ratio: f64,
+    k: usize,
+    axes: [usize; 16],
     start: f64,
     end: f64,
 }
@@ -114,6 +118,8 @@ fn build(request: &Request, lent: &mut Lent) -> Told {
         number: 0,
         counts: [usize::MAX; 5],
         ratio: MARK,
+        k: usize::MAX,
+        axes: [usize::MAX; 16],
         start: MARK,
         end: MARK,
     };
@@ -150,6 +156,8 @@ fn build(request: &Request, lent: &mut Lent) -> Told {
             errors.len(),
             &mut told.counts,
             &mut told.ratio,
+            &mut told.k,
+            &mut told.axes,
             &mut told.start,
             &mut told.end,
         )
@@ -191,7 +199,10 @@ fn agrees(wanted: &Result<Built, Refusal>, told: &Told, lent: &Lent) -> bool {
                 Some(other) => (&other.breaks[..], &other.coefficients[..]),
                 None => (&[][..], &[][..]),
             };
+            let mut axes = [0; 16];
+            axes[..curve.axes.len()].copy_from_slice(&curve.axes);
             let told_alike = told.counts == built.counts
+                && (told.k, told.axes) == (curve.axes.len(), axes)
                 && alike(&[told.start, told.end], &[curve.start, curve.end]);
             if !told_alike {
                 return false;
@@ -208,7 +219,9 @@ fn agrees(wanted: &Result<Built, Refusal>, told: &Told, lent: &Lent) -> bool {
         }
         Err(refusal) => {
             let ratio = refusal.ratio.unwrap_or(MARK);
-            let kept = told.counts == [usize::MAX; 5] && all(&[told.start, told.end], MARK);
+            let kept = told.counts == [usize::MAX; 5]
+                && (told.k, told.axes) == (usize::MAX, [usize::MAX; 16])
+                && all(&[told.start, told.end], MARK);
             if !kept || !same(told.ratio, ratio) {
                 return false;
             }

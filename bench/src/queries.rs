@@ -64,6 +64,7 @@ unsafe extern "C" {
         ddq_len: usize,
         dddq: *mut f64,
         dddq_len: usize,
+        refused_at: *mut usize,
     ) -> u64;
 }
 
@@ -188,6 +189,7 @@ impl Case {
     /// The port's answers, many in one call.
     fn all(&self, xs: &[f64], out: &mut [Vec<f64>; 4]) -> u64 {
         let [q, dq, ddq, dddq] = out;
+        let mut refused_at = 0;
         unsafe {
             of_curve!(
                 pamitoye_evaluate_all,
@@ -203,6 +205,7 @@ impl Case {
                 ddq.len(),
                 dddq.as_mut_ptr(),
                 dddq.len(),
+                &mut refused_at,
             )
         }
     }

@@ -1,2 +1,0 @@
-mod Refusals
-mod Writing

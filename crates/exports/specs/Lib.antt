@@ -1,4 +1,0 @@
--- Definitions that the contracts cite.
-
-pub mod Curve
-pub mod Builds

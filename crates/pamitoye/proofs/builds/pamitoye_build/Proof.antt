@@ -1,0 +1,81 @@
+-- `builds::pamitoye_build` meets its contract.
+use mathlib.Core.Path.{_≡_, ap, _∙_}
+use mathlib.Core.List.{List}
+use borrow.Author.Needs.{needs}
+use lib.Ieee.{Float}
+use Rattle.request.specs.declared.parameters.Spacing.{Spacing}
+use Rattle.smoothing.specs.Answer.{Answer, numberOf}
+use Rattle.smoothing.specs.Build.{Result}
+use Rattle.checks.specs.declared.Axes.{Axes}
+use Rattle.checks.specs.declared.Tolerance.{Tolerance}
+use Rattle.checks.specs.Request.{laneOf}
+use Rattle.building.specs.Outcome.{outcomeOf, reported, Results, results}
+use Rattle.building.specs.Answered.{answerTo}
+use Rattle.pamitoye.specs.Choices.{axesOf, toleranceOf, spacingOf}
+use Rattle.pamitoye.specs.Builds.{outline, Written, written, writtenAfter}
+use Rattle.pamitoye.proofs.Writing.{all-written}
+use Rattle.pamitoye.proofs.builds.pamitoye_build.Statement.{statement}
+use Rattle.pamitoye.proofs.builds.pamitoye_build.Tie as tie
+
+abbrev lent : tie.Start → Results
+lent s =
+    let a = s .args in
+    results (a .breaks .now) (a .coefficients .now) (a .other-breaks .now) (a .other-coefficients .now) (a .errors .now)
+
+-- all that is written, as it was
+abbrev old : tie.Start → Written
+old s =
+    let a = s .args in
+    written (a .work .now) (lent s) (a .counts .now) (a .ratio .now) (a .start .now) (a .end .now)
+
+abbrev answered : tie.Start → Axes → Tolerance → Spacing → Answer Result
+answered s axes tolerance spacing =
+    let a = s .args in
+    answerTo (laneOf (a .d) (a .n) axes (a .axis-list .now) tolerance (a .tolerance-list .now) spacing (a .parameters .now)
+    (a .points .now))
+    (record { refinements = a .refinements; segments = a .segments }) (a .work .now) (lent s)
+
+returns : tie.Need-returns
+returns c =
+    let h = c .before .before .before .before .before .before .before in
+    let g = h .before .before .before .before .before .before .before .before .before .before .before .before .before .before in
+    let m = g .before .before .before .before .before .before .before in
+    let p = m .before in
+    let t = p .before in
+    let x = t .before in
+    let s = x .before .before .before .before .before .before .before .before .before .before .before in
+    let a = s .args in
+    let b = g .build in
+    let n = h .number in
+    let v = c .before .before .before .before .put-answer in
+    let e : answered s (x .axes-of .result) (t .tolerance-of .result) (p .spacing-of .result)
+    ≡ answered s (axesOf (a .all)) (toleranceOf (a .uniform) (a .tolerance)) (spacingOf (a .even)) =
+    λ i. answered s (x .axes-of .ensures i) (t .tolerance-of .ensures i) (p .spacing-of .ensures i) in (
+      n .ensures ∙ ap numberOf (b .ensures .0) ∙ ap (λ (z : Answer Result). numberOf (reported z)) e,
+      all-written (m .mode .result) (a .d) _ (outcomeOf (b .result .answer)) (b .result .curve) (n .result) (b .ensures .0)
+          (b .ensures .1 .0)
+          (n .ensures) (old s) (b .ensures .1 .1 .0) (b .ensures .1 .1 .1) (v .ensures .0) (v .ensures .1)
+          (c .before .before .put-end .ensures) (c .put-end2 .ensures)
+          ∙ (λ i. writtenAfter (m .mode .ensures i) (a .d) (e i) (old s)),
+    )
+
+pub pamitoye-build-spec : {M : Type 1} → statement M
+pamitoye-build-spec =
+    tie.close
+    (tie.spec
+    (λ c κs. search needs)
+    (λ c κs. search needs)
+    (λ c κs. search needs)
+    (λ c κs. search needs)
+    (λ c κs. search needs)
+    (λ c κs. search needs)
+    (λ c κs. search needs)
+    (λ c κs. search needs)
+    (λ c κs. search needs)
+    (λ c. search needs)
+    (λ c. search needs)
+    (λ c. search needs)
+    (λ c. search needs)
+    (λ c. search needs)
+    (λ c. search needs)
+    returns)

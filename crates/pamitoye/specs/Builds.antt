@@ -1,0 +1,71 @@
+-- The request that the numbers and slices of a caller in C make, and what a call writes.
+use Prim.Native.Nat.{ℕ}
+use mathlib.Core.Bool.{Bool, cond}
+use mathlib.Core.List.{List, [], _∷_}
+use lib.Dec.{eqb}
+use lib.Ieee.{Float}
+use Rattle.smoothing.specs.Answer.{Answer, numberOf}
+use Rattle.smoothing.specs.Answer.Answer.{done, refused, exhausted}
+use Rattle.smoothing.specs.Build.{Result}
+use Rattle.checks.specs.Request.{laneOf}
+use Rattle.curve.specs.declared.Curve.{Curve}
+use Rattle.curve.specs.declared.Mode.{Mode}
+use Rattle.building.specs.declared.Report.{Report}
+use Rattle.building.specs.Outcome.{reported, Results, resultsAfter, workAfter, curveAfter}
+use Rattle.building.specs.Answered.{answerTo}
+use Rattle.pamitoye.specs.Choices.{axesOf, toleranceOf, spacingOf}
+
+-- the request that the numbers and slices make, answered
+abbrev pub requested : ℕ → ℕ → Bool → List ℕ → Bool → Float → List Float → Bool → List Float → List Float → ℕ → ℕ → List Float → Results
+    → Answer Result
+requested d n all axes uniform tolerance tolerances even parameters points refinements segments work s =
+    answerTo (laneOf d n (axesOf all) axes (toleranceOf uniform tolerance) tolerances (spacingOf even) parameters points)
+    (record { refinements = refinements; segments = segments }) work s
+
+-- the report's counts
+abbrev pub countsOf : Report → List ℕ
+countsOf r = r .segments ∷ r .«interpolated_segments» ∷ r .refinements ∷ r .«fitting_rows» ∷ r .«checked_intervals» ∷ []
+
+-- they are written where the request is accepted
+abbrev pub countsAfter : Answer Report → List ℕ → List ℕ
+countsAfter (done r) old = countsOf r
+countsAfter (refused n) old = old
+countsAfter (exhausted x) old = old
+
+-- "number 14 carries the worst ratio of error to tolerance": it is written with 14
+abbrev pub ratioAfter : Answer Report → Float → Float
+ratioAfter (done r) old = old
+ratioAfter (refused n) old = old
+ratioAfter (exhausted x) old = x
+
+-- the numbers of a curve that the caller does not hold already
+pub record Outline : Type 0 where
+  pub k : ℕ
+  pub axes : List ℕ
+  pub start : Float
+  pub end : Float
+
+abbrev pub outline : ℕ → List ℕ → Float → Float → Outline
+outline k axes start end = record { k = k; axes = axes; start = start; end = end }
+
+-- they are written where the answer's number is 0
+abbrev pub outlineAfter : ℕ → Curve → Outline → Outline
+outlineAfter number c old = cond (eqb number 0) (outline (c .k) (c .axes) (c .start) (c .end)) old
+
+-- all that a call writes
+pub record Written : Type 0 where
+  pub work : List Float
+  pub results : Results
+  pub counts : List ℕ
+  pub ratio : Float
+  pub curve : Outline
+
+abbrev pub written : List Float → Results → List ℕ → Float → Outline → Written
+written work results counts ratio curve =
+    record { work = work; results = results; counts = counts; ratio = ratio; curve = curve }
+
+abbrev pub writtenAfter : Mode → ℕ → Answer Result → Written → Written
+writtenAfter mode d z w =
+    written (workAfter z (w .work)) (resultsAfter z (w .results)) (countsAfter (reported z) (w .counts))
+    (ratioAfter (reported z) (w .ratio))
+    (outlineAfter (numberOf (reported z)) (curveAfter mode d z) (w .curve))

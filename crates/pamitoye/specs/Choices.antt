@@ -1,0 +1,32 @@
+-- What the bools of a caller in C choose, and the curve that its numbers make.
+use mathlib.Core.Bool.{Bool, cond}
+use mathlib.Core.List.{List}
+use Prim.Native.Nat.{ℕ}
+use lib.Ieee.{Float}
+use Rattle.request.specs.declared.parameters.Spacing.{Spacing}
+use Rattle.request.specs.declared.parameters.Spacing.the-variants.{Listed, Even}
+use Rattle.checks.specs.declared.Axes.{Axes}
+use Rattle.checks.specs.declared.Axes.the-variants.{All, Listed as ListedAxes}
+use Rattle.checks.specs.declared.Tolerance.{Tolerance}
+use Rattle.checks.specs.declared.Tolerance.the-variants.{Uniform, PerAxis}
+use Rattle.curve.specs.declared.Curve.{Curve}
+use Rattle.curve.specs.declared.Mode.{Mode}
+use Rattle.curve.specs.declared.Mode.the-variants.{Error, Clamp}
+
+-- all axes, or those listed; one tolerance, or those listed; even parameters, or those listed
+abbrev pub axesOf : Bool → Axes
+axesOf all = cond all All ListedAxes
+
+abbrev pub toleranceOf : Bool → Float → Tolerance
+toleranceOf uniform x = cond uniform (Uniform x) PerAxis
+
+abbrev pub spacingOf : Bool → Spacing
+spacingOf even = cond even Even Listed
+
+-- mode Clamp, or mode Error
+abbrev pub modeOf : Bool → Mode
+modeOf clamp = cond clamp Clamp Error
+
+abbrev pub curveOf : ℕ → ℕ → List ℕ → Float → Float → Bool → ℕ → ℕ → Curve
+curveOf d k axes start end clamp segments others =
+    record { d = d; k = k; axes = axes; start = start; end = end; mode = modeOf clamp; segments = segments; «other_segments» = others }

@@ -1,0 +1,47 @@
+// What a request or a curve chooses: each comes as a bool.
+ghost use mathlib.Core.Path.{_≡_};
+ghost use Rattle.pamitoye.specs.Choices.{axesOf, toleranceOf, spacingOf, modeOf};
+use checks::Axes;
+use checks::Tolerance;
+use curve::Mode;
+use request::parameters::Spacing;
+
+// All axes, or those of a list.
+pub(crate) fn axes_of(all: bool) -> Axes
+    ensures { λ r. ⌜ r ≡ axesOf all ⌝ }
+{
+    if all {
+        return Axes::All;
+    }
+    Axes::Listed
+}
+
+// One tolerance, or those of a list.
+pub(crate) fn tolerance_of(uniform: bool, x: f64) -> Tolerance
+    ensures { λ r. ⌜ r ≡ toleranceOf uniform x ⌝ }
+{
+    if uniform {
+        return Tolerance::Uniform(x);
+    }
+    Tolerance::PerAxis
+}
+
+// Even parameters, or those of a list.
+pub(crate) fn spacing_of(even: bool) -> Spacing
+    ensures { λ r. ⌜ r ≡ spacingOf even ⌝ }
+{
+    if even {
+        return Spacing::Even;
+    }
+    Spacing::Listed
+}
+
+// What a parameter outside start to end gets.
+pub(crate) fn mode_of(clamp: bool) -> Mode
+    ensures { λ r. ⌜ r ≡ modeOf clamp ⌝ }
+{
+    if clamp {
+        return Mode::Clamp;
+    }
+    Mode::Error
+}

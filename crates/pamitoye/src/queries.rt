@@ -1,0 +1,138 @@
+// One query, and many in one call.
+ghost use mathlib.Core.Path.{_≡_};
+ghost use Rattle.curve.specs.Form.{slices};
+ghost use Rattle.query.specs.Row.{outputs};
+ghost use Rattle.query.specs.Query.{evaluateOf, evaluateAllOf, numberOf, numberOfAll, refusedAt};
+ghost use Rattle.pamitoye.specs.Choices.{curveOf};
+ghost use Rattle.pamitoye.specs.Queries.{placeAfter};
+use crate::curves;
+use query::Answer;
+use query::Answers;
+
+// The number of an answer.
+fn number(answer: Answer) -> u64
+    ensures { λ r. ⌜ r ≡ numberOf answer ⌝ }
+{
+    match answer {
+        Answer::Done => 0,
+        Answer::Malformed => 24,
+        Answer::OrderAboveThree => 23,
+        Answer::TooShort => 19,
+        Answer::Outside => 22,
+    }
+}
+
+// The number of an answer to many; with 22, the place of the first parameter that is refused.
+fn put_place(answers: Answers, refused_at: &mut usize) -> u64
+    ensures { λ r. ⌜ r ≡ numberOfAll answers ⌝ }
+    ensures { λ _. ⌜ now («refused_at» .exit) ≡ placeAfter (numberOfAll answers) (refusedAt answers) (now («refused_at» .entry)) ⌝ }
+{
+    match answers {
+        Answers::All => 0,
+        Answers::Malformed => 24,
+        Answers::OrderAboveThree => 23,
+        Answers::TooShort => 19,
+        Answers::OutsideAt(place) => {
+            *refused_at = place;
+            22
+        }
+    }
+}
+
+// The query at x: `query::evaluate`.
+#[no_mangle]
+pub extern "C" fn pamitoye_evaluate<'a>(
+    d: usize,
+    k: usize,
+    axes: &[usize; 16],
+    start: f64,
+    end: f64,
+    clamp: bool,
+    segments: usize,
+    other_segments: usize,
+    breaks: &[f64],
+    coefficients: &'a [f64],
+    other_breaks: &[f64],
+    other_coefficients: &'a [f64],
+    x: f64,
+    order: usize,
+    q: &mut [f64],
+    dq: &mut [f64],
+    ddq: &mut [f64],
+    dddq: &mut [f64],
+) -> u64
+    ensures { λ r. ⌜ r ≡ evaluateOf (curveOf d k (now (axes .entry)) start end clamp segments «other_segments») (slices
+        (now (breaks .entry)) (now (coefficients .entry)) (now («other_breaks» .entry))
+        (now («other_coefficients» .entry))) x order (outputs (now (q .entry)) (now (dq .entry)) (now (ddq .entry))
+        (now (dddq .entry))) .number ⌝ }
+    ensures { λ _. ⌜ outputs (now (q .exit)) (now (dq .exit)) (now (ddq .exit)) (now (dddq .exit)) ≡ evaluateOf (curveOf d k
+        (now (axes .entry)) start end clamp segments «other_segments») (slices (now (breaks .entry)) (now (coefficients .entry))
+        (now («other_breaks» .entry)) (now («other_coefficients» .entry))) x order (outputs (now (q .entry)) (now (dq .entry))
+        (now (ddq .entry)) (now (dddq .entry))) .after ⌝ }
+{
+    let answered = query::evaluate(
+        curves::curve(d, k, axes, start, end, clamp, segments, other_segments),
+        breaks,
+        coefficients,
+        other_breaks,
+        other_coefficients,
+        x,
+        order,
+        q,
+        dq,
+        ddq,
+        dddq,
+    );
+    number(answered)
+}
+
+// The queries at all of `xs`: `query::evaluate_all`.
+#[no_mangle]
+pub extern "C" fn pamitoye_evaluate_all<'a>(
+    d: usize,
+    k: usize,
+    axes: &[usize; 16],
+    start: f64,
+    end: f64,
+    clamp: bool,
+    segments: usize,
+    other_segments: usize,
+    breaks: &[f64],
+    coefficients: &'a [f64],
+    other_breaks: &[f64],
+    other_coefficients: &'a [f64],
+    xs: &[f64],
+    order: usize,
+    q: &mut [f64],
+    dq: &mut [f64],
+    ddq: &mut [f64],
+    dddq: &mut [f64],
+    refused_at: &mut usize,
+) -> u64
+    ensures { λ r. ⌜ r ≡ evaluateAllOf (curveOf d k (now (axes .entry)) start end clamp segments «other_segments») (slices
+        (now (breaks .entry)) (now (coefficients .entry)) (now («other_breaks» .entry)) (now («other_coefficients» .entry)))
+        (now (xs .entry)) order (outputs (now (q .entry)) (now (dq .entry)) (now (ddq .entry)) (now (dddq .entry))) .number ⌝ }
+    ensures { λ _. ⌜ outputs (now (q .exit)) (now (dq .exit)) (now (ddq .exit)) (now (dddq .exit)) ≡ evaluateAllOf (curveOf d k
+        (now (axes .entry)) start end clamp segments «other_segments») (slices (now (breaks .entry)) (now (coefficients .entry))
+        (now («other_breaks» .entry)) (now («other_coefficients» .entry))) (now (xs .entry)) order (outputs (now (q .entry))
+        (now (dq .entry)) (now (ddq .entry)) (now (dddq .entry))) .after ⌝ }
+    ensures { λ r. ⌜ now («refused_at» .exit) ≡ placeAfter r (evaluateAllOf (curveOf d k
+        (now (axes .entry)) start end clamp segments «other_segments») (slices (now (breaks .entry)) (now (coefficients .entry))
+        (now («other_breaks» .entry)) (now («other_coefficients» .entry))) (now (xs .entry)) order (outputs (now (q .entry))
+        (now (dq .entry)) (now (ddq .entry)) (now (dddq .entry))) .place) (now («refused_at» .entry)) ⌝ }
+{
+    let answered = query::evaluate_all(
+        curves::curve(d, k, axes, start, end, clamp, segments, other_segments),
+        breaks,
+        coefficients,
+        other_breaks,
+        other_coefficients,
+        xs,
+        order,
+        q,
+        dq,
+        ddq,
+        dddq,
+    );
+    put_place(answered, refused_at)
+}
