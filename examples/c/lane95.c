@@ -46,10 +46,10 @@ int main(void) {
 
     size_t counts[5] = {0}, k = 0, axes[16] = {0};
     double ratio = 0, start = 0, end = 0;
-    expect_done("build", pamitoye_build(points, D * N, D, N, true, no_axes, 0, true, 1.0, no_list, 0,
-        true, no_list, 0, MAX_REFINEMENTS, MAX_SEGMENTS, false, work, room[0], breaks, room[1],
-        coefficients, room[2], other_breaks, room[3], other_coefficients, room[4], errors, room[5],
-        counts, &ratio, &k, axes, &start, &end));
+    expect_done("build", pamitoye_build(points, D * N, D, N, true, no_axes, 0, true, 1.0,
+        no_list, 0, true, no_list, 0, MAX_REFINEMENTS, MAX_SEGMENTS, false, work, room[0],
+        breaks, room[1], coefficients, room[2], other_breaks, room[3], other_coefficients, room[4],
+        errors, room[5], counts, &ratio, &k, axes, &start, &end));
     printf("accepted %zu %zu %zu %zu %zu\n", counts[0], counts[1], counts[2], counts[3], counts[4]);
     for (size_t i = 0; i < k; i++)
         printf("axis %zu error %.17g\n", axes[i], errors[i]);
