@@ -1,5 +1,5 @@
 mod Refusals
 mod Writing
 -- Slices of the lengths told are never too short.
-pub mod Rooms
-mod Certificates
+pub mod EnoughRoom
+mod GivenFigure

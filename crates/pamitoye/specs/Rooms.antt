@@ -14,7 +14,7 @@ use Rattle.smoothing.specs.Build.{buildIn}
 -- 6d times max_segments; other breaks n and coefficients 6dn; errors d"
 abbrev pub roomCells : ℕ → ℕ → ℕ → List ℕ
 roomCells d n segments =
-    (max n segments + 16) * (16 * d + 32) ∷ segments + 1 ∷ segments * (6 * d) ∷ n ∷ n * (6 * d) ∷ d ∷ []
+    ((max n segments + 16) * (16 * d + 32)) ∷ (segments + 1) ∷ (segments * (6 * d)) ∷ n ∷ (n * (6 * d)) ∷ d ∷ []
 
 -- 18, "d, n, max_segments .. above the domain"
 abbrev pub roomNumber : ℕ → ℕ → ℕ → ℕ

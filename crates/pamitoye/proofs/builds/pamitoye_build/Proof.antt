@@ -26,19 +26,21 @@ lent s =
 abbrev old : tie.Start → Written
 old s =
     let a = s .args in
-    written (a .work .now) (lent s) (a .counts .now) (a .ratio .now) (a .start .now) (a .end .now)
+    written (a .work .now) (lent s) (a .counts .now) (a .ratio .now)
+    (outline (a .k .now) (a .axes .now) (a .start .now) (a .end .now))
 
 abbrev answered : tie.Start → Axes → Tolerance → Spacing → Answer Result
 answered s axes tolerance spacing =
     let a = s .args in
     answerTo (laneOf (a .d) (a .n) axes (a .axis-list .now) tolerance (a .tolerance-list .now) spacing (a .parameters .now)
     (a .points .now))
-    (record { refinements = a .refinements; segments = a .segments }) (a .work .now) (lent s)
+    (record { refinements = a .max-refinements; segments = a .max-segments }) (a .work .now) (lent s)
 
 returns : tie.Need-returns
 returns c =
-    let h = c .before .before .before .before .before .before .before in
-    let g = h .before .before .before .before .before .before .before .before .before .before .before .before .before .before in
+    let v = c .before .before .before .before .before in
+    let h = v .before .before .before in
+    let g = h .before .before .before .before .before .before .before .before .before .before .before .before .before in
     let m = g .before .before .before .before .before .before .before in
     let p = m .before in
     let t = p .before in
@@ -47,23 +49,21 @@ returns c =
     let a = s .args in
     let b = g .build in
     let n = h .number in
-    let v = c .before .before .before .before .put-answer in
     let e : answered s (x .axes-of .result) (t .tolerance-of .result) (p .spacing-of .result)
     ≡ answered s (axesOf (a .all)) (toleranceOf (a .uniform) (a .tolerance)) (spacingOf (a .even)) =
     λ i. answered s (x .axes-of .ensures i) (t .tolerance-of .ensures i) (p .spacing-of .ensures i) in (
       n .ensures ∙ ap numberOf (b .ensures .0) ∙ ap (λ (z : Answer Result). numberOf (reported z)) e,
-      all-written (m .mode .result) (a .d) _ (outcomeOf (b .result .answer)) (b .result .curve) (n .result) (b .ensures .0)
+      all-written (m .mode-of .result) (a .d) _ (outcomeOf (b .result .answer)) (b .result .curve) (n .result) (b .ensures .0)
           (b .ensures .1 .0)
-          (n .ensures) (old s) (b .ensures .1 .1 .0) (b .ensures .1 .1 .1) (v .ensures .0) (v .ensures .1)
-          (c .before .before .put-end .ensures) (c .put-end2 .ensures)
-          ∙ (λ i. writtenAfter (m .mode .ensures i) (a .d) (e i) (old s)),
+          (n .ensures) (old s) (b .ensures .1 .1 .0) (b .ensures .1 .1 .1) (v .put-answer .ensures .0) (v .put-answer .ensures .1)
+          (c .put-curve .ensures)
+          ∙ (λ i. writtenAfter (m .mode-of .ensures i) (a .d) (e i) (old s)),
     )
 
 pub pamitoye-build-spec : {M : Type 1} → statement M
 pamitoye-build-spec =
     tie.close
     (tie.spec
-    (λ c κs. search needs)
     (λ c κs. search needs)
     (λ c κs. search needs)
     (λ c κs. search needs)

@@ -5,7 +5,7 @@ use Rattle.pamitoye.proofs.builds.put_curve.Statement.{statement}
 use Rattle.pamitoye.proofs.builds.put_curve.Tie as tie
 
 returns : tie.Need-returns
-returns c = rw (c .if1 .taken) refl
+returns c = rw (c .before .if1 .taken) refl
 
 returns-2 : tie.Need-returns-2
 returns-2 c = rw (ne-eqb (c .before .args .number) 0 (c .if1 .left)) refl

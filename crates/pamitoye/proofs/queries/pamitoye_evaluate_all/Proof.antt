@@ -1,16 +1,25 @@
 -- `queries::pamitoye_evaluate_all` meets its contract.
-use mathlib.Core.Path.{ap, _∙_}
+use mathlib.Core.Path.{sym, ap, _∙_}
 use borrow.Author.Needs.{needs}
 use Rattle.query.specs.Query.{Outcome}
+use Rattle.pamitoye.specs.Queries.{placeAfter}
 use Rattle.pamitoye.proofs.queries.pamitoye_evaluate_all.Statement.{statement}
 use Rattle.pamitoye.proofs.queries.pamitoye_evaluate_all.Tie as tie
 
 returns : tie.Need-returns
 returns c =
-    let q = c .before .before .before .before .before .before .before .before .before in
-    let k = q .before .before .before .before .before .curve .ensures in
+    let q = c .before .before .before .before .before .before .before .before .before .before in
+    let h = q .before .before .before .before .before in
+    let a = h .before .before .before .before .before .before .before .before .before .before .args in
     let e = q .evaluate-all .ensures in
-    rw (← k) (c .number-of-all .ensures ∙ ap (λ (o : Outcome). o .number) e, ap (λ (o : Outcome). o .after) e)
+    let p = c .put-place .ensures in
+    rw (← h .curve .ensures) (
+      p .0 ∙ ap (λ (o : Outcome). o .number) e,
+      (
+        ap (λ (o : Outcome). o .after) e,
+        p .1 ∙ (λ i. placeAfter (sym (p .0) i) (e i .place) (a .refused-at .now)),
+      ),
+    )
 
 pub pamitoye-evaluate-all-spec : {M : Type 1} → statement M
 pamitoye-evaluate-all-spec =
