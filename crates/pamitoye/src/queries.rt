@@ -1,6 +1,7 @@
 // One query, and many in one call.
 ghost use mathlib.Core.Path.{_≡_};
-ghost use Rattle.curve.specs.Form.{slices};
+ghost use mathlib.Core.Bool.{true};
+ghost use Rattle.curve.specs.Form.{slices, wellFormed};
 ghost use Rattle.query.specs.Row.{outputs};
 ghost use Rattle.query.specs.Query.{evaluateOf, evaluateAllOf, numberOf, numberOfAll, refusedAt};
 ghost use Rattle.pamitoye.specs.Choices.{curveOf};
@@ -122,6 +123,108 @@ pub extern "C" fn pamitoye_evaluate_all<'a>(
         (now (dq .entry)) (now (ddq .entry)) (now (dddq .entry))) .place) (now («refused_at» .entry)) ⌝ }
 {
     let answered = query::evaluate_all(
+        curves::curve(d, k, axes, start, end, clamp, segments, other_segments),
+        breaks,
+        coefficients,
+        other_breaks,
+        other_coefficients,
+        xs,
+        order,
+        q,
+        dq,
+        ddq,
+        dddq,
+    );
+    put_place(answered, refused_at)
+}
+
+// The query at x of a curve that is known to be well formed: `query::evaluate_formed`.
+#[no_mangle]
+pub extern "C" fn pamitoye_evaluate_formed<'a>(
+    d: usize,
+    k: usize,
+    axes: &[usize; 16],
+    start: f64,
+    end: f64,
+    clamp: bool,
+    segments: usize,
+    other_segments: usize,
+    breaks: &[f64],
+    coefficients: &'a [f64],
+    other_breaks: &[f64],
+    other_coefficients: &'a [f64],
+    x: f64,
+    order: usize,
+    q: &mut [f64],
+    dq: &mut [f64],
+    ddq: &mut [f64],
+    dddq: &mut [f64],
+) -> u64
+    requires { ⌜ wellFormed (curveOf d k (now axes) start end clamp segments «other_segments») (slices (now breaks) (now coefficients)
+        (now «other_breaks») (now «other_coefficients»)) ≡ true ⌝ }
+    ensures { λ r. ⌜ r ≡ evaluateOf (curveOf d k (now (axes .entry)) start end clamp segments «other_segments») (slices
+        (now (breaks .entry)) (now (coefficients .entry)) (now («other_breaks» .entry))
+        (now («other_coefficients» .entry))) x order (outputs (now (q .entry)) (now (dq .entry)) (now (ddq .entry))
+        (now (dddq .entry))) .number ⌝ }
+    ensures { λ _. ⌜ outputs (now (q .exit)) (now (dq .exit)) (now (ddq .exit)) (now (dddq .exit)) ≡ evaluateOf (curveOf d k
+        (now (axes .entry)) start end clamp segments «other_segments») (slices (now (breaks .entry)) (now (coefficients .entry))
+        (now («other_breaks» .entry)) (now («other_coefficients» .entry))) x order (outputs (now (q .entry)) (now (dq .entry))
+        (now (ddq .entry)) (now (dddq .entry))) .after ⌝ }
+{
+    let answered = query::evaluate_formed(
+        curves::curve(d, k, axes, start, end, clamp, segments, other_segments),
+        breaks,
+        coefficients,
+        other_breaks,
+        other_coefficients,
+        x,
+        order,
+        q,
+        dq,
+        ddq,
+        dddq,
+    );
+    number(answered)
+}
+
+// The queries at all of `xs` of such a curve: `query::evaluate_all_formed`.
+#[no_mangle]
+pub extern "C" fn pamitoye_evaluate_all_formed<'a>(
+    d: usize,
+    k: usize,
+    axes: &[usize; 16],
+    start: f64,
+    end: f64,
+    clamp: bool,
+    segments: usize,
+    other_segments: usize,
+    breaks: &[f64],
+    coefficients: &'a [f64],
+    other_breaks: &[f64],
+    other_coefficients: &'a [f64],
+    xs: &[f64],
+    order: usize,
+    q: &mut [f64],
+    dq: &mut [f64],
+    ddq: &mut [f64],
+    dddq: &mut [f64],
+    refused_at: &mut usize,
+) -> u64
+    requires { ⌜ wellFormed (curveOf d k (now axes) start end clamp segments «other_segments») (slices (now breaks) (now coefficients)
+        (now «other_breaks») (now «other_coefficients»)) ≡ true ⌝ }
+    ensures { λ r. ⌜ r ≡ evaluateAllOf (curveOf d k (now (axes .entry)) start end clamp segments «other_segments») (slices
+        (now (breaks .entry)) (now (coefficients .entry)) (now («other_breaks» .entry)) (now («other_coefficients» .entry)))
+        (now (xs .entry)) order (outputs (now (q .entry)) (now (dq .entry)) (now (ddq .entry)) (now (dddq .entry))) .number ⌝ }
+    ensures { λ _. ⌜ outputs (now (q .exit)) (now (dq .exit)) (now (ddq .exit)) (now (dddq .exit)) ≡ evaluateAllOf (curveOf d k
+        (now (axes .entry)) start end clamp segments «other_segments») (slices (now (breaks .entry)) (now (coefficients .entry))
+        (now («other_breaks» .entry)) (now («other_coefficients» .entry))) (now (xs .entry)) order (outputs (now (q .entry))
+        (now (dq .entry)) (now (ddq .entry)) (now (dddq .entry))) .after ⌝ }
+    ensures { λ r. ⌜ now («refused_at» .exit) ≡ placeAfter r (evaluateAllOf (curveOf d k
+        (now (axes .entry)) start end clamp segments «other_segments») (slices (now (breaks .entry)) (now (coefficients .entry))
+        (now («other_breaks» .entry)) (now («other_coefficients» .entry))) (now (xs .entry)) order (outputs (now (q .entry))
+        (now (dq .entry)) (now (ddq .entry)) (now (dddq .entry))) .place) (now («refused_at» .entry)) ⌝ }
+{
+    let answered = query::evaluate_all_formed(
         curves::curve(d, k, axes, start, end, clamp, segments, other_segments),
         breaks,
         coefficients,
