@@ -6,67 +6,83 @@ use crate::random::Random;
 use std::hint::black_box;
 use std::time::Instant;
 
-#[allow(improper_ctypes)]
-unsafe extern "C" {
-    fn pamitoye_evaluate(
-        d: usize,
-        k: usize,
-        axes: *const [usize; 16],
-        start: f64,
-        end: f64,
-        clamp: bool,
-        segments: usize,
-        other_segments: usize,
-        breaks: *const f64,
-        breaks_len: usize,
-        coefficients: *const f64,
-        coefficients_len: usize,
-        other_breaks: *const f64,
-        other_breaks_len: usize,
-        other_coefficients: *const f64,
-        other_coefficients_len: usize,
-        x: f64,
-        order: usize,
-        q: *mut f64,
-        q_len: usize,
-        dq: *mut f64,
-        dq_len: usize,
-        ddq: *mut f64,
-        ddq_len: usize,
-        dddq: *mut f64,
-        dddq_len: usize,
-    ) -> u64;
-    fn pamitoye_evaluate_all(
-        d: usize,
-        k: usize,
-        axes: *const [usize; 16],
-        start: f64,
-        end: f64,
-        clamp: bool,
-        segments: usize,
-        other_segments: usize,
-        breaks: *const f64,
-        breaks_len: usize,
-        coefficients: *const f64,
-        coefficients_len: usize,
-        other_breaks: *const f64,
-        other_breaks_len: usize,
-        other_coefficients: *const f64,
-        other_coefficients_len: usize,
-        xs: *const f64,
-        xs_len: usize,
-        order: usize,
-        q: *mut f64,
-        q_len: usize,
-        dq: *mut f64,
-        dq_len: usize,
-        ddq: *mut f64,
-        ddq_len: usize,
-        dddq: *mut f64,
-        dddq_len: usize,
-        refused_at: *mut usize,
-    ) -> u64;
+/// Queries of one parameter, by name.
+macro_rules! single {
+    ($($name:ident)*) => {
+        #[allow(improper_ctypes)]
+        unsafe extern "C" {
+            $(fn $name(
+                d: usize,
+                k: usize,
+                axes: *const [usize; 16],
+                start: f64,
+                end: f64,
+                clamp: bool,
+                segments: usize,
+                other_segments: usize,
+                breaks: *const f64,
+                breaks_len: usize,
+                coefficients: *const f64,
+                coefficients_len: usize,
+                other_breaks: *const f64,
+                other_breaks_len: usize,
+                other_coefficients: *const f64,
+                other_coefficients_len: usize,
+                x: f64,
+                order: usize,
+                q: *mut f64,
+                q_len: usize,
+                dq: *mut f64,
+                dq_len: usize,
+                ddq: *mut f64,
+                ddq_len: usize,
+                dddq: *mut f64,
+                dddq_len: usize,
+            ) -> u64;)*
+        }
+    };
 }
+single!(pamitoye_evaluate pamitoye_evaluate_formed);
+
+/// Queries of many, by name.
+macro_rules! many {
+    ($($name:ident)*) => {
+        #[allow(improper_ctypes)]
+        unsafe extern "C" {
+            $(fn $name(
+                d: usize,
+                k: usize,
+                axes: *const [usize; 16],
+                start: f64,
+                end: f64,
+                clamp: bool,
+                segments: usize,
+                other_segments: usize,
+                breaks: *const f64,
+                breaks_len: usize,
+                coefficients: *const f64,
+                coefficients_len: usize,
+                other_breaks: *const f64,
+                other_breaks_len: usize,
+                other_coefficients: *const f64,
+                other_coefficients_len: usize,
+                xs: *const f64,
+                xs_len: usize,
+                order: usize,
+                q: *mut f64,
+                q_len: usize,
+                dq: *mut f64,
+                dq_len: usize,
+                ddq: *mut f64,
+                ddq_len: usize,
+                dddq: *mut f64,
+                dddq_len: usize,
+                refused_at: *mut usize,
+            ) -> u64;)*
+        }
+    };
+}
+many!(pamitoye_evaluate_all pamitoye_evaluate_all_formed);
 
 /// A call whose first arguments are the curve's numbers and slices.
 macro_rules! of_curve {
@@ -186,13 +202,18 @@ impl Case {
         }
     }
 
-    /// The port's answers, many in one call.
-    fn all(&self, xs: &[f64], out: &mut [Vec<f64>; 4]) -> u64 {
+    /// The port's answers, many in one call; `formed`: of a curve that is not tested.
+    fn all(&self, formed: bool, xs: &[f64], out: &mut [Vec<f64>; 4]) -> u64 {
         let [q, dq, ddq, dddq] = out;
         let mut refused_at = 0;
+        let call = if formed {
+            pamitoye_evaluate_all_formed
+        } else {
+            pamitoye_evaluate_all
+        };
         unsafe {
             of_curve!(
-                pamitoye_evaluate_all,
+                call,
                 self,
                 xs.as_ptr(),
                 xs.len(),
@@ -210,14 +231,19 @@ impl Case {
         }
     }
 
-    /// The port's answers, one in each call. The sum of the answers' numbers.
-    fn each(&self, xs: &[f64], out: &mut [Vec<f64>; 4]) -> u64 {
+    /// The port's answers, one in each call; `formed`: of a curve that is not tested. The sum of the answers' numbers.
+    fn each(&self, formed: bool, xs: &[f64], out: &mut [Vec<f64>; 4]) -> u64 {
         let d = self.d;
+        let call = if formed {
+            pamitoye_evaluate_formed
+        } else {
+            pamitoye_evaluate
+        };
         let mut sum = 0;
         for (x, [q, dq, ddq, dddq]) in xs.iter().zip(rows(out, d)) {
             sum += unsafe {
                 of_curve!(
-                    pamitoye_evaluate,
+                    call,
                     self,
                     *x,
                     3,
@@ -246,18 +272,20 @@ impl Case {
     /// asked at the nearer end for a parameter outside.
     fn differences(&self, xs: &[f64]) -> usize {
         let room = || -> [Vec<f64>; 4] { std::array::from_fn(|_| vec![-1.; xs.len() * self.d]) };
-        let (mut many, mut single, mut source) = (room(), room(), room());
-        let numbers = self.all(xs, &mut many) + self.each(xs, &mut single);
+        let mut source = room();
         let inside: Vec<f64> = xs.iter().map(|x| x.clamp(self.start, self.end)).collect();
         self.source(&inside, &mut source);
-        let unlike = |a: &[Vec<f64>; 4]| {
-            a.iter()
-                .flatten()
-                .zip(source.iter().flatten())
-                .filter(|(a, b)| !same(**a, **b))
-                .count()
-        };
-        usize::from(numbers != 0) + unlike(&many) + unlike(&single)
+        let mut count = 0;
+        for formed in [false, true] {
+            let (mut many, mut single) = (room(), room());
+            let numbers = self.all(formed, xs, &mut many) + self.each(formed, xs, &mut single);
+            count += usize::from(numbers != 0);
+            for answers in [many, single] {
+                let pairs = answers.iter().flatten().zip(source.iter().flatten());
+                count += pairs.filter(|(a, b)| !same(**a, **b)).count();
+            }
+        }
+        count
     }
 }
 
@@ -320,7 +348,7 @@ fn compare(random: &mut Random) {
         } else {
             xs.extend([range.0 - 1., range.1 + 1., f64::NEG_INFINITY, f64::INFINITY]);
         }
-        values += 8 * d * xs.len();
+        values += 16 * d * xs.len();
         differences += case.differences(&xs);
     }
     println!("queries    {CURVES} curves {values} values {differences} differences");
@@ -357,7 +385,8 @@ const ROWS: [(usize, usize, usize, usize); 11] = [
     (1, 1, 5000, 0),
 ];
 
-/// One row: many random parameters in one call, many rising ones, and random ones in a call each.
+/// One row: many random parameters in one call, many rising ones, and random ones in a call each, of a curve that is
+/// tested and of one that is not.
 fn measure(random: &mut Random, row: (usize, usize, usize, usize), rounds: usize) {
     const QUERIES: usize = 1000;
     let (d, k, n, others) = row;
@@ -387,21 +416,21 @@ fn measure(random: &mut Random, row: (usize, usize, usize, usize), rounds: usize
     let mut line = format!("{d:2} {k:2} {n:4} + {others:3}");
     for sets in [&drawn, &rising] {
         let mut all = |xs: &[f64]| {
-            black_box(case.all(xs, &mut ours));
+            black_box(case.all(false, xs, &mut ours));
             black_box(&mut ours);
         };
         let [a, b] = least(rounds, sets, [&mut all, &mut source]);
         line += &format!(" | {a:7.1} {b:7.1} {:5.2}", a / b);
     }
-    let mut each = |xs: &[f64]| {
-        black_box(case.each(xs, &mut ours));
-        black_box(&mut ours);
-    };
-    let [a, b] = least(rounds / 10 + 1, &drawn, [&mut each, &mut source]);
-    println!(
-        "{line} | {a:8.1} {b:7.1} {:5.2} | {differences} differences",
-        a / b
-    );
+    for formed in [false, true] {
+        let mut each = |xs: &[f64]| {
+            black_box(case.each(formed, xs, &mut ours));
+            black_box(&mut ours);
+        };
+        let [a, b] = least(rounds / 10 + 1, &drawn, [&mut each, &mut source]);
+        line += &format!(" | {a:8.1} {b:7.1} {:5.2}", a / b);
+    }
+    println!("{line} | {differences} differences");
 }
 
 /// All; `rounds` is the second argument of the command.
@@ -413,7 +442,7 @@ pub fn run() {
     let mut random = Random::new(2);
     compare(&mut random);
     println!(
-        "d k segments + others | many, random: ns a query of the port, of the source, ratio | many, rising | single, random"
+        "d k segments + others | many, random: ns a query of the port, of the source, ratio | many, rising | single, random | single, formed"
     );
     for row in ROWS {
         measure(&mut random, row, rounds);
