@@ -11,7 +11,7 @@ ghost use Rattle.work_slice.specs.Rows.{unitsFrom, taskFrom, otherFrom};
 ghost use Rattle.building.specs.Computed.{smoothedAt, withOther, computedOf, computedIn};
 use checks::Limits;
 use refinement::plan::Plan;
-use refinement::refit::Report;
+use running_report::Report;
 use request::parameters::Spacing;
 use selected_axes::course::Ending;
 use selected_axes::course::Smoothed;

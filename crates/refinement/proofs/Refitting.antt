@@ -17,7 +17,7 @@ use Rattle.smoothing.specs.Rows.{Task}
 use Rattle.smoothing.specs.State.{State, state, spline, Counts, addRows, addIntervals, fitIn, fitted, audited, auditIn, polynomialIn}
 use Rattle.smoothing.specs.Round.{strengthOf, refitOf}
 use Rattle.refinement.specs.declared.plan.Plan.{Plan}
-use Rattle.refinement.specs.declared.refit.Report.{Report}
+use Rattle.running_report.specs.declared.Report.{Report}
 use Rattle.refinement.specs.Memory.{Memory, withControls, withCoefficients, withBounds, taskIn, splineIn, stateIn, Stored, Wide}
 use Rattle.refinement.specs.Kept.{Stale}
 use Rattle.refinement.specs.Refit.{Same, auditOver, More}

@@ -16,7 +16,7 @@ use Rattle.refinement.specs.declared.plan.Plan.{Plan}
 use Rattle.refinement.specs.declared.refine.Refined.{Refined}
 use Rattle.refinement.specs.declared.refine.Refined.the-variants.{Done, Refused, Exhausted}
 use Rattle.refinement.specs.Memory.{Roomy, memoryAt, taskAt, stateAt, sized}
-use Rattle.refinement.specs.Refit.{countsOf}
+use Rattle.running_report.specs.Counted.{countsOf}
 
 -- a round, if 15 lets it through
 abbrev pub tried : ℕ → Task → State → Answer State

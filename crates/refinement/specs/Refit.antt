@@ -2,9 +2,8 @@
 use Prim.Native.Nat.{ℕ, _+_, _*_, _≤_}
 use mathlib.Core.Path.{_≡_}
 use Rattle.polynomial.specs.Audit.{Audit, auditOf}
-use Rattle.smoothing.specs.State.{Counts, counts}
 use Rattle.refinement.specs.declared.plan.Plan.{Plan}
-use Rattle.refinement.specs.declared.refit.Report.{Report}
+use Rattle.running_report.specs.declared.Report.{Report}
 use Rattle.refinement.specs.Memory.{Memory}
 
 -- the task, the knots and the locations are as they were
@@ -18,10 +17,6 @@ pub record Same (x y : Memory) : Type 0 where
 abbrev pub auditOver : Plan → ℕ → ℕ → Memory → Audit
 auditOver p first last x =
     auditOf (x .breaks) (x .coefficients) (x .s) (x .y) (p .axes) first last (x .bounds) (x .witness)
-
--- the code's report as the definition's
-abbrev pub countsOf : Report → Counts
-countsOf r = counts (r .refinements) (r .rows) (r .intervals)
 
 -- n refits add no more than these: 2^32 rows and 20,016 intervals each
 pub record More (n : ℕ) (r after : Report) : Type 0 where

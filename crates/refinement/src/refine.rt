@@ -6,11 +6,12 @@ ghost use Rattle.smoothing.specs.Answer.{unless};
 ghost use Rattle.smoothing.specs.Round.{worstOf, refineOf};
 ghost use Rattle.smoothing.specs.Rising.{Rising};
 ghost use Rattle.refinement.specs.Memory.{Roomy, memoryAt, taskAt, stateAt, sized};
-ghost use Rattle.refinement.specs.Refit.{countsOf, More, Spare};
+ghost use Rattle.refinement.specs.Refit.{More, Spare};
+ghost use Rattle.running_report.specs.Counted.{countsOf};
 ghost use Rattle.refinement.specs.Round.{Standing};
 ghost use Rattle.refinement.specs.Refined.{tried, outcomeOf, Stands};
 use crate::plan::Plan;
-use crate::refit::Report;
+use running_report::Report;
 use crate::round::Rounded;
 
 // The number of controls, and the report.

@@ -12,7 +12,8 @@ ghost use Rattle.smoothing.specs.Round.{strengthOf, refitOf};
 ghost use Rattle.refinement.specs.Memory.{Roomy, Wide, memoryAt, withControls, withCoefficients, withBounds, taskAt, splineAt};
 ghost use Rattle.refinement.specs.Memory.{stateAt, Stored};
 ghost use Rattle.refinement.specs.Kept.{Stale};
-ghost use Rattle.refinement.specs.Refit.{Same, auditOver, countsOf, More, Spare};
+ghost use Rattle.refinement.specs.Refit.{Same, auditOver, More, Spare};
+ghost use Rattle.running_report.specs.Counted.{countsOf};
 use crate::plan::Plan;
 use fit::Counts;
 use fit::Fitted;
@@ -20,13 +21,7 @@ use fitting_rows::Place;
 use polynomial::audit::Audited;
 use polynomial::audit::Parts;
 use polynomial::interval::Outcome;
-
-// The running report: `refinements`, `fitting_rows`, `checked_intervals`.
-pub struct Report {
-    pub refinements: usize,
-    pub rows: usize,
-    pub intervals: usize,
-}
+use running_report::Report;
 
 // How a refit ended: document 01's number of the refusal, or 0, and the report then.
 pub struct Ended {
@@ -150,11 +145,8 @@ fn follow(work: &mut [f64], p: Plan, a: usize, z: usize, fitted: Counts, report:
     let audited = audit_in(work, p, left, right);
     let outcome = audited.outcome;
     let number = number_of(outcome);
-    let more = Report {
-        refinements: report.refinements,
-        rows: report.rows + fitted.rows,
-        intervals: report.intervals + audited.checked,
-    };
+    let with_rows = running_report::after_fit(report, fitted.rows);
+    let more = running_report::after_audit(with_rows, audited.checked);
     Ended {
         number,
         report: more,

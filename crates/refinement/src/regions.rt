@@ -7,11 +7,12 @@ ghost use Rattle.seed.specs.Regions.{range, regionsOf};
 ghost use Rattle.smoothing.specs.Answer.{unless, andThen};
 ghost use Rattle.smoothing.specs.Round.{strengthOf, refitAll};
 ghost use Rattle.refinement.specs.Memory.{Roomy, Wide, memoryAt, taskAt, stateAt, locationsAt, Stored};
-ghost use Rattle.refinement.specs.Refit.{Same, countsOf, More, Spare};
+ghost use Rattle.refinement.specs.Refit.{Same, More, Spare};
+ghost use Rattle.running_report.specs.Counted.{countsOf};
 ghost use Rattle.refinement.specs.Round.{refitsFrom};
 use crate::plan::Plan;
 use crate::refit::Ended;
-use crate::refit::Report;
+use running_report::Report;
 use seed::Region;
 
 // How a region's turn ended, and the first location of a later region.

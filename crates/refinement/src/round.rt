@@ -6,10 +6,11 @@ ghost use Rattle.smoothing.specs.Answer.{unless};
 ghost use Rattle.smoothing.specs.Round.{strengthOf};
 ghost use Rattle.smoothing.specs.Rising.{Rising, All, Number};
 ghost use Rattle.refinement.specs.Memory.{Roomy, memoryAt, taskAt, stateAt, locationsAt, sized};
-ghost use Rattle.refinement.specs.Refit.{countsOf, More, Spare};
+ghost use Rattle.refinement.specs.Refit.{More, Spare};
+ghost use Rattle.running_report.specs.Counted.{countsOf};
 ghost use Rattle.refinement.specs.Round.{roundWith, Standing};
 use crate::plan::Plan;
-use crate::refit::Report;
+use running_report::Report;
 
 // How a round ended: document 01's number of the refusal, or 0; the number of controls then, and the
 // report.

@@ -20,7 +20,7 @@ use Rattle.smoothing.proofs.Sizes.{Within, start-within, refine-within}
 use Rattle.smoothing.proofs.Tallies.{course-counts}
 use Rattle.refinement.specs.declared.plan.Plan.{Plan}
 use Rattle.refinement.specs.Memory.{memoryAt, sized}
-use Rattle.refinement.specs.Refit.{countsOf}
+use Rattle.running_report.specs.Counted.{countsOf}
 use Rattle.selected_axes.specs.declared.course.Ending.{Ending}
 use Rattle.selected_axes.specs.declared.course.Ending.the-variants.{Done, Refused, Exhausted}
 use Rattle.selected_axes.specs.declared.course.Smoothed.{Smoothed}

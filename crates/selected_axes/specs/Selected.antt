@@ -10,7 +10,7 @@ use Rattle.smoothing.specs.State.{Counts}
 use Rattle.smoothing.specs.Finish.{Selected}
 use Rattle.refinement.specs.declared.plan.Plan.{Plan}
 use Rattle.refinement.specs.Memory.{Memory, memoryAt, sized}
-use Rattle.refinement.specs.Refit.{countsOf}
+use Rattle.running_report.specs.Counted.{countsOf}
 use Rattle.selected_axes.specs.declared.course.Ending.{Ending}
 use Rattle.selected_axes.specs.declared.course.Ending.the-variants.{Done, Refused, Exhausted}
 use Rattle.selected_axes.specs.declared.course.Smoothed.{Smoothed}

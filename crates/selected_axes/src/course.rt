@@ -7,7 +7,7 @@ ghost use Rattle.smoothing.specs.Rising.{Rising};
 ghost use Rattle.smoothing.specs.Finish.{finishOf};
 ghost use Rattle.smoothing.specs.Build.{selectedOf};
 ghost use Rattle.refinement.specs.Memory.{Roomy, memoryAt, taskIn, stateIn, sized};
-ghost use Rattle.refinement.specs.Refit.{countsOf};
+ghost use Rattle.running_report.specs.Counted.{countsOf};
 ghost use Rattle.selected_axes.specs.declared.course.Ending.the-variants.{Done};
 ghost use Rattle.selected_axes.specs.Selected.{unitsOf, answerIn};
 use crate::finish;
@@ -15,7 +15,7 @@ use crate::start;
 use refinement::plan::Plan;
 use refinement::refine;
 use refinement::refine::Refined;
-use refinement::refit::Report;
+use running_report::Report;
 
 // Done; refused, with document 01's number; or the refinements used up (14), with the worst ratio of error
 // to tolerance.

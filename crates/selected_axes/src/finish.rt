@@ -8,11 +8,11 @@ ghost use Rattle.smoothing.specs.Rising.{Rising};
 ghost use Rattle.smoothing.specs.Rows.{gathered};
 ghost use Rattle.smoothing.specs.Finish.{errorsOf, finishOf};
 ghost use Rattle.refinement.specs.Memory.{Roomy, Wide, memoryAt, taskIn, stateIn};
-ghost use Rattle.refinement.specs.Refit.{countsOf};
+ghost use Rattle.running_report.specs.Counted.{countsOf};
 ghost use Rattle.selected_axes.specs.Physical.{withPoints, physicalIn};
 ghost use Rattle.selected_axes.specs.Selected.{unitsOf, selectedIn};
 use refinement::plan::Plan;
-use refinement::refit::Report;
+use running_report::Report;
 
 // How it ended: document 01's number of the refusal, or 0; the largest bound on each axis, and the report.
 pub struct Finished {
@@ -91,11 +91,7 @@ pub fn finish(
     let outcome = a.outcome;
     let number = refinement::refit::number_of(outcome);
     let errors = errors_in(work, p);
-    let more = Report {
-        refinements: report.refinements,
-        rows: report.rows,
-        intervals: report.intervals + a.checked,
-    };
+    let more = running_report::after_audit(report, a.checked);
     if 0 < number {
         return Finished {
             number,

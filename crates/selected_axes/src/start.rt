@@ -9,12 +9,13 @@ ghost use Rattle.smoothing.specs.Rising.{Rising};
 ghost use Rattle.smoothing.specs.State.{counts, auditIn};
 ghost use Rattle.smoothing.specs.Start.{curved, firstKnots, firstFit, startOf};
 ghost use Rattle.refinement.specs.Memory.{Roomy, Wide, memoryAt, withControls, taskIn, stateIn, sized, Stored};
-ghost use Rattle.refinement.specs.Refit.{Same, countsOf};
+ghost use Rattle.refinement.specs.Refit.{Same};
+ghost use Rattle.running_report.specs.Counted.{countsOf};
 ghost use Rattle.selected_axes.specs.First.{innerKnots};
 use fit::Fitted;
 use refinement::plan::Plan;
 use refinement::refit::Ended;
-use refinement::refit::Report;
+use running_report::Report;
 use seed::Waypoints;
 
 // How it ended: document 01's number of the refusal, or 0; the number of controls, and the report.
@@ -57,11 +58,7 @@ fn ended_of(f: Fitted) -> Ended
     };
     match f {
         Fitted::Done(k) => {
-            let report = Report {
-                refinements: 0,
-                rows: k.rows,
-                intervals: 0,
-            };
+            let report = running_report::after_fit(none, k.rows);
             Ended { number: 0, report }
         }
         Fitted::BadDiagonal => Ended {
@@ -116,11 +113,7 @@ fn audit_first(work: &mut [f64], p: Plan, report: Report) -> Ended
     let a = refinement::refit::audit_in(work, p, 0, last);
     let outcome = a.outcome;
     let number = refinement::refit::number_of(outcome);
-    let more = Report {
-        refinements: report.refinements,
-        rows: report.rows,
-        intervals: report.intervals + a.checked,
-    };
+    let more = running_report::after_audit(report, a.checked);
     Ended {
         number,
         report: more,

@@ -13,7 +13,7 @@ use Rattle.bspline.specs.Segments.{Polynomial}
 use Rattle.smoothing.specs.Answer.Answer.{done}
 use Rattle.smoothing.specs.Finish.{Selected}
 use Rattle.refinement.specs.Memory.{cellsOf}
-use Rattle.refinement.specs.Refit.{countsOf}
+use Rattle.running_report.specs.Counted.{countsOf}
 use Rattle.work_slice.specs.Rows.{otherIn}
 use Rattle.building.specs.Computed.{both, smoothedAt}
 use Rattle.building.proofs.Computing.{ended-done, ended-refused, refused-not-done, other-refused, other-done, same-selected, part-is}

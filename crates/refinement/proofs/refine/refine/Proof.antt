@@ -10,7 +10,7 @@ use Rattle.smoothing.specs.Rows.{Task}
 use Rattle.smoothing.specs.Rising.{Rising}
 use Rattle.smoothing.specs.Round.{refineOf}
 use Rattle.refinement.specs.Memory.{Roomy, memoryAt, taskAt, stateAt, sized}
-use Rattle.refinement.specs.Refit.{countsOf}
+use Rattle.running_report.specs.Counted.{countsOf}
 use Rattle.refinement.specs.Refined.{tried}
 use Rattle.refinement.proofs.Memories.{roomy-few}
 use Rattle.refinement.proofs.Refining.{refine-done, refine-used-up, refine-refused, refine-next}

@@ -5,7 +5,7 @@ use native.Mathlib.Omega.{arith}
 use borrow.Author.Needs.{needs}
 use lib.ListN.{length}
 use Rattle.refinement.specs.Memory.{stateAt}
-use Rattle.refinement.specs.Refit.{countsOf}
+use Rattle.running_report.specs.Counted.{countsOf}
 use Rattle.refinement.proofs.Refitting.{more-none}
 use Rattle.refinement.proofs.Refining.{located-few, located-rising, located-numbers, try-refused, try-goes, try-stands}
 use Rattle.refinement.proofs.refine.try_round.Statement.{statement}

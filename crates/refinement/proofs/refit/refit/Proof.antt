@@ -11,7 +11,7 @@ use Rattle.seed.specs.Regions.{range}
 use Rattle.smoothing.specs.Answer.{unless}
 use Rattle.smoothing.specs.Round.{refitOf}
 use Rattle.refinement.specs.Memory.{memoryAt, taskAt, stateAt}
-use Rattle.refinement.specs.Refit.{countsOf}
+use Rattle.running_report.specs.Counted.{countsOf}
 use Rattle.refinement.proofs.Fits.{fit-few}
 use Rattle.refinement.proofs.Refitting.{refit-follows, refit-refuses, refit-same, fitted-wide, fitted-stale, more-none}
 use Rattle.refinement.proofs.refit.refit.Statement.{statement}

@@ -9,7 +9,8 @@ use lib.ListN.{length}
 use lib.Ieee.{Float}
 use Rattle.smoothing.specs.Round.{strengthOf}
 use Rattle.refinement.specs.Memory.{memoryAt, stateAt, Stored, Wide}
-use Rattle.refinement.specs.Refit.{Same, countsOf, More}
+use Rattle.refinement.specs.Refit.{Same, More}
+use Rattle.running_report.specs.Counted.{countsOf}
 use Rattle.refinement.specs.Round.{refitsFrom}
 use Rattle.refinement.proofs.Turns.{same-self, same-then, turn-next, turn-refused, turns-done}
 use Rattle.refinement.proofs.regions.refit_all.Statement.{statement}

@@ -1,7 +1,7 @@
 -- `regions::region_turn` meets its contract.
 use borrow.Author.Needs.{needs}
 use Rattle.refinement.specs.Memory.{memoryAt, stateAt}
-use Rattle.refinement.specs.Refit.{countsOf}
+use Rattle.running_report.specs.Counted.{countsOf}
 use Rattle.refinement.proofs.Turns.{turn-is}
 use Rattle.refinement.proofs.regions.region_turn.Statement.{statement}
 use Rattle.refinement.proofs.regions.region_turn.Tie as tie

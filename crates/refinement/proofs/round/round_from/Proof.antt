@@ -4,7 +4,7 @@ use native.Mathlib.Omega.{arith}
 use borrow.Author.Needs.{needs}
 use lib.ListN.{length}
 use Rattle.refinement.specs.Memory.{memoryAt, sized}
-use Rattle.refinement.specs.Refit.{countsOf}
+use Rattle.running_report.specs.Counted.{countsOf}
 use Rattle.refinement.proofs.Memories.{roomy-more}
 use Rattle.refinement.proofs.Refitting.{more-none}
 use Rattle.refinement.proofs.Rounds.{round-refused, knots-wide, rebuilt-wide, rebuilt-stored, round-is, round-stands}

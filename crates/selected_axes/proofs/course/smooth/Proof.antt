@@ -12,7 +12,7 @@ use Rattle.smoothing.specs.Round.{refineOf}
 use Rattle.refinement.specs.declared.plan.Plan.{Plan}
 use Rattle.refinement.specs.declared.refine.Refined.{Refined}
 use Rattle.refinement.specs.Memory.{memoryAt, taskIn, stateIn, sized}
-use Rattle.refinement.specs.Refit.{countsOf}
+use Rattle.running_report.specs.Counted.{countsOf}
 use Rattle.refinement.specs.Refined.{outcomeOf, Stands}
 use Rattle.refinement.proofs.Memories.{lengths}
 use Rattle.selected_axes.specs.Selected.{unitsOf}

@@ -7,7 +7,7 @@ use Rattle.smoothing.specs.Rows.{Units}
 use Rattle.smoothing.specs.State.{Counts}
 use Rattle.smoothing.proofs.SegmentsRise.{wide}
 use Rattle.refinement.specs.Memory.{memoryAt}
-use Rattle.refinement.specs.Refit.{countsOf}
+use Rattle.running_report.specs.Counted.{countsOf}
 use Rattle.selected_axes.specs.Selected.{unitsOf}
 use Rattle.selected_axes.proofs.Finishing.{Audited, finish-refused, finish-excessive, finish-done}
 use Rattle.selected_axes.proofs.finish.finish.Statement.{statement}

@@ -3,7 +3,7 @@ use mathlib.Core.Path.{refl}
 use native.Mathlib.Omega.{arith}
 use borrow.Author.Needs.{needs}
 use Rattle.refinement.specs.Memory.{memoryAt}
-use Rattle.refinement.specs.Refit.{countsOf}
+use Rattle.running_report.specs.Counted.{countsOf}
 use Rattle.selected_axes.proofs.Starting.{audit-made}
 use Rattle.selected_axes.proofs.start.audit_first.Statement.{statement}
 use Rattle.selected_axes.proofs.start.audit_first.Tie as tie

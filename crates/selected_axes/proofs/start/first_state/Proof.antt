@@ -6,7 +6,7 @@ use borrow.Author.Needs.{needs}
 use lib.ListN.{length}
 use lib.Ieee.{Float}
 use Rattle.refinement.specs.Memory.{Memory, memoryAt, Wide}
-use Rattle.refinement.specs.Refit.{countsOf}
+use Rattle.running_report.specs.Counted.{countsOf}
 use Rattle.refinement.proofs.Rounds.{round-refused}
 use Rattle.selected_axes.proofs.Starting.{first-made}
 use Rattle.selected_axes.proofs.start.first_state.Statement.{statement}
