@@ -25,7 +25,7 @@ use Rattle.smoothing.specs.Answer.{andThen, unless}
 use Rattle.smoothing.specs.Answer.Answer.{done, refused}
 use Rattle.smoothing.specs.Rows.{Task}
 use Rattle.smoothing.specs.Rising.{Rising}
-use Rattle.smoothing.specs.State.{State, state, spline, Counts, counts, addIntervals, fitIn, fitted, auditIn, polynomialIn}
+use Rattle.smoothing.specs.State.{State, state, spline, Counts, counts, addRows, addIntervals, fitIn, fitted, auditIn, polynomialIn}
 use Rattle.smoothing.specs.Start.{curved, firstKnots, manyKnots, openKnots, chordControls, chordOf, chordState, firstStrength, firstFit, firstState, startOf}
 use Rattle.smoothing.proofs.KnotsRise.{chord-rising}
 use Rattle.refinement.specs.declared.plan.Plan.{Plan}
@@ -128,19 +128,16 @@ module _ (p : Plan) (x : Memory) where
   unfolding firstFit unless
   fit-none c = sym (ap (λ (b : Bool). cond b (fitted first (stateIn p (counts 0 0 0) x)) (done (stateIn p (counts 0 0 0) x))) c)
 
-  pub fit-made : (x₁ : Memory) (v : Answer) (number refinements rows intervals : ℕ) → curved (taskIn p x) ≡ true → v ≡ first .answered
-      → x₁ ≡ withControls (first .controls) x
-      → (number ≡ v .number) × (refinements ≡ 0) × (rows ≡ v .rows) × (intervals ≡ 0)
-      → unless number (stateIn p (counts refinements rows intervals) x₁) ≡ firstFit (taskIn p x) (stateIn p (counts 0 0 0) x)
+  pub fit-made : (x₁ : Memory) (v : Answer) (number : ℕ) (report : Counts) → curved (taskIn p x) ≡ true → v ≡ first .answered
+      → x₁ ≡ withControls (first .controls) x → (number ≡ v .number) × (report ≡ addRows (v .rows) (counts 0 0 0))
+      → unless number (stateIn p report x₁) ≡ firstFit (taskIn p x) (stateIn p (counts 0 0 0) x)
   unfolding firstFit fitted
-  fit-made x₁ v number refinements rows intervals c e e₁ k =
+  fit-made x₁ v number report c e e₁ k =
       let st = stateIn p (counts 0 0 0) x in
-      let g : rows ≡ 0 + first .answered .rows = k .2 ∙ ap (λ (a : Answer). a .rows) e ∙ omega arith in
-      ap (λ (i : ℕ). unless i (stateIn p (counts refinements rows intervals) x₁)) (k .0 ∙ ap (λ (a : Answer). a .number) e)
-      ∙ ap (λ (i : ℕ). unless (first .answered .number) (stateIn p (counts i rows intervals) x₁)) (k .1)
-      ∙ ap (λ (i : ℕ). unless (first .answered .number) (stateIn p (counts 0 i intervals) x₁)) g
-      ∙ ap (λ (i : ℕ). unless (first .answered .number) (stateIn p (counts 0 (0 + first .answered .rows) i) x₁)) (k .3)
-      ∙ ap (λ (y : Memory). unless (first .answered .number) (stateIn p (counts 0 (0 + first .answered .rows) 0) y)) e₁
+      ap (λ (i : ℕ). unless i (stateIn p report x₁)) (k .0 ∙ ap (λ (a : Answer). a .number) e)
+      ∙ ap (λ (r : Counts). unless (first .answered .number) (stateIn p r x₁))
+      (k .1 ∙ ap (λ (a : Answer). addRows (a .rows) (counts 0 0 0)) e)
+      ∙ ap (λ (y : Memory). unless (first .answered .number) (stateIn p (addRows (first .answered .rows) (counts 0 0 0)) y)) e₁
       ∙ sym (ap (λ (b : Bool). cond b (fitted first st) (done st)) c)
 
   pub controls-changed : (x₁ : Memory) (c : List Float) → x₁ ≡ withControls c x → x₁ ≡ withControls (x₁ .c) x

@@ -6,7 +6,7 @@ ghost use lib.ListN.{length};
 ghost use Rattle.fit.specs.Fit.{answerOf};
 ghost use Rattle.smoothing.specs.Answer.{unless, andThen};
 ghost use Rattle.smoothing.specs.Rising.{Rising};
-ghost use Rattle.smoothing.specs.State.{counts, auditIn};
+ghost use Rattle.smoothing.specs.State.{counts, addRows, auditIn};
 ghost use Rattle.smoothing.specs.Start.{curved, firstKnots, firstFit, startOf};
 ghost use Rattle.refinement.specs.Memory.{Roomy, Wide, memoryAt, withControls, taskIn, stateIn, sized, Stored};
 ghost use Rattle.refinement.specs.Refit.{Same};
@@ -46,10 +46,9 @@ fn put_knots(work: &mut [f64], p: Plan, bent: bool) -> usize
     0
 }
 
-// What a fit answered, as the end of a step whose report was at 0.
+// What a fit answered, as the end of a step whose report was at 0 and to which its rows are added.
 fn ended_of(f: Fitted) -> Ended
-    ensures { λ r. ⌜ (r .number ≡ answerOf f .number) × (r .report .refinements ≡ 0) × (r .report .rows ≡ answerOf f .rows)
-        × (r .report .intervals ≡ 0) ⌝ }
+    ensures { λ r. ⌜ (r .number ≡ answerOf f .number) × (countsOf (r .report) ≡ addRows (answerOf f .rows) (counts 0 0 0)) ⌝ }
 {
     let none = Report {
         refinements: 0,

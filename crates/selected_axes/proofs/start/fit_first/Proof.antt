@@ -1,10 +1,12 @@
 -- `start::fit_first` meets its contract.
-use mathlib.Core.Path.{refl, sym, _∙_}
+use mathlib.Core.Path.{refl, sym, ap, _∙_}
 use native.Mathlib.Omega.{arith}
 use borrow.Author.Needs.{needs}
 use lib.Ieee.{ofBits, round}
 use Rattle.fit.specs.Fit.{answerOf}
+use Rattle.smoothing.specs.State.{Counts}
 use Rattle.smoothing.specs.Start.{firstStrength}
+use Rattle.running_report.specs.Counted.{countsOf}
 use Rattle.refinement.specs.Memory.{memoryAt}
 use Rattle.refinement.proofs.Fits.{fit-few}
 use Rattle.selected_axes.proofs.Starting.{fit-none, fit-made, controls-changed}
@@ -21,11 +23,18 @@ returns c =
     let f = c .before .before .before .fit-in in
     let x₁ = memoryAt p (f .last .0) in
     let e = c .ended-of in
-    let r = e .result .report in
+    let told = e .ensures .1 in
     let n = fit-few p (a .work .now) (s .pre .0) 1 _ (answerOf (f .result)) firstStrength (f .ensures .0) in (
-      fit-made p x x₁ (answerOf (f .result)) (e .result .number) (r .refinements) (r .rows) (r .intervals)
+      fit-made p x x₁ (answerOf (f .result)) (e .result .number) (countsOf (e .result .report))
           (sym (s .pre .1) ∙ c .before .before .before .before .before .before .if1 .taken) (f .ensures .0) (f .ensures .1) (e .ensures),
-      (controls-changed p x x₁ _ (f .ensures .1), (e .ensures .1, omega (arith, n .1, e .ensures .2), e .ensures .3)),
+      (
+        controls-changed p x x₁ _ (f .ensures .1),
+        (
+          ap (λ (k : Counts). k .refinements) told,
+          omega (arith, n .1, ap (λ (k : Counts). k .rows) told),
+          ap (λ (k : Counts). k .intervals) told,
+        ),
+      ),
     )
 
 returns-2 : tie.Need-returns-2
