@@ -11,8 +11,8 @@ ghost use Rattle.work_slice.specs.Rows.{unitsFrom, taskFrom, otherFrom};
 ghost use Rattle.building.specs.Computed.{smoothedAt, withOther, computedOf, computedIn};
 use checks::Limits;
 use refinement::plan::Plan;
-use running_report::Report;
 use request::parameters::Spacing;
+use running_report::Report;
 use selected_axes::course::Ending;
 use selected_axes::course::Smoothed;
 

@@ -11,8 +11,8 @@ ghost use Rattle.running_report.specs.Counted.{countsOf};
 ghost use Rattle.refinement.specs.Round.{Standing};
 ghost use Rattle.refinement.specs.Refined.{tried, outcomeOf, Stands};
 use crate::plan::Plan;
-use running_report::Report;
 use crate::round::Rounded;
+use running_report::Report;
 
 // The number of controls, and the report.
 pub struct Settled {

@@ -25,8 +25,7 @@ returns c =
     let f = c .before .before .before .before .before .before .before .before .before .rebuild in
     let told = c .after-audit .ensures in
     let e = audit-made p (memoryAt p (a .work .now)) (memoryAt p (f .last .0)) (memoryAt p (v .last .0)) (n .result) (v .result .checked)
-    (v .result .outcome) (countsOf (a .report)) (f .ensures) (n .ensures) (v .ensures .0) (v .ensures .1 .0) in
-    (
+    (v .result .outcome) (countsOf (a .report)) (f .ensures) (n .ensures) (v .ensures .0) (v .ensures .1 .0) in (
       ap (λ (k : Counts). unless (n .result) (stateIn p k (memoryAt p (v .last .0)))) told ∙ e .0,
       (
         e .1,
