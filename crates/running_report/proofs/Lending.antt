@@ -47,4 +47,5 @@ module _ {M : Type 1} (𝓤 : URA M) (H : Heap 𝓤) (A : Atoms 𝓤) (W : Given
       qed W (‵ (partAt T.the-row fullShare r l 0) ∷ []) ∵ fpick ! (λ vs. fsplit ! $
       spelt ! T.the-row (Is T.the-row) (shows 𝓤 H A T.the-row) (LL.vals T.the-type T′.the-laws) (LL.tells T.the-type T′.the-laws)
       fullShare r vs l 0 $
-      use1 W (‵ (fat fullShare T′.mir l 0 (mach r))) (W .laws .raw-at fullShare T′.mir l 0 (mach r)) $ move ! (1 ∷ 0 ∷ []) $ frame ! $ done !)
+      use1 W (‵ (fat fullShare T′.mir l 0 (mach r))) (W .laws .raw-at fullShare T′.mir l 0 (mach r)) $
+      move ! (1 ∷ 0 ∷ []) $ frame ! $ done !)
