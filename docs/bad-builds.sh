@@ -21,12 +21,16 @@ awk -v logs="$logs" '
             for (j = 1; j <= m; j++) names[name[j]] = 1
         }
     }
-    # an error as a table can hold it: its file, and the text, cut after some 250 bytes
-    function shown(file, label, s,    at) {
+    # an error as a table can hold it: its file, and the text without the paths of names, cut after some 300 bytes
+    function shown(file, label, s,    at, ends) {
         sub(/:[0-9]+:[0-9]+$/, "", file)
         at = index(file, "/" label "/"); if (at) file = substr(file, at + length(label) + 2)
+        while (match(s, /[A-Za-z][A-Za-z0-9_\302\267-]*\.[A-Za-z_]/)) s = substr(s, 1, RSTART - 1) substr(s, RSTART + RLENGTH - 1)
+        ends = "must be a path whose two ends are equal, and "
+        at = index(s, ends)
+        if (at) s = substr(s, 1, index(s, ": ")) " the two ends are not equal: " substr(s, at + length(ends))
         gsub(/`/, "\047", s); gsub(/\|/, "/", s)
-        if (length(s) > 250) { s = substr(s, 1, 250); sub(/[\300-\377][\200-\277]*$/, "", s); sub(/ [^ ]*$/, "", s); s = s " .." }
+        if (length(s) > 300) { s = substr(s, 1, 300); sub(/[\300-\377][\200-\277]*$/, "", s); sub(/ [^ ]*$/, "", s); s = s " .." }
         return "`" file ": " s "`"
     }
     function error_of(log_file, label,    s, at, file, first, wanted, part, held) {
