@@ -29,7 +29,7 @@ use types.Run.{alloc0, params1, pass1, pass0, free1, free0}
 use types.SemTy.{Body}
 use sound.WpLaws.{FmC, fmOf, WpFn-mono}
 use denote.RattleType.{RattleType, owns}
-use denote.Memory.{mem}
+use denote.Memory.{mem, cellAt}
 use denote.Laws.{Is, shows}
 use denote.Plain.{uint-makes, uint-vals, uint-tells}
 use denote.Floats.{float-vals, float-tells, float-lawful}
@@ -315,6 +315,7 @@ module _ {M : Type 1} (𝓤 : URA M) (H : Heap 𝓤) (A : Atoms 𝓤) (W : Given
         -- the loan of the reader is opened
         move ! (51 ∷ []) $ fsplit ! $ fsplit3 ! $ drop ! $ move ! (53 ∷ []) $ split ! $ move ! (2 ∷ 3 ∷ 0 ∷ []) $
         opens ! tt B {h = h} b o (λ vs. spelt ! B (Is B) (shows 𝓤 H A B) (LL.vals D L) (LL.tells D L) fullShare h vs b o $
+        use1 W (‵ (fat fullShare (T′.mir erased) b o (reader-of h))) (W .laws .raw-at fullShare (T′.mir erased) b o (reader-of h)) $
         move ! (1 ∷ []) $ peeks ! B (Is B) (shows 𝓤 H A B) h (reader-of h ∷ []) (λ g. move ! (1 ∷ 0 ∷ []) $
         -- [the reader's cell; what it owns; the open loan; obs; auth; the tokens; what the others own; _24; …; _1; …; room for _0; …]
         assigns ! (of-opd ! (load ! (from ! (hop ! (look ! 53 refl) (fld ! refl (stop !)))) (look-in ! 0 (sub ! 0 refl (whole !)))))
@@ -387,7 +388,9 @@ module _ {M : Type 1} (𝓤 : URA M) (H : Heap 𝓤) (A : Atoms 𝓤) (W : Given
         -- the loan is closed at the reader with the segments found
         move ! (6 ∷ []) $ use1 W (‵ (B .own (moved (r .span) (r .«other_span»)) (reader-of (moved (r .span) (r .«other_span»)) ∷ [])))
         (again (r .span) (r .«other_span») (LL.owed F.the-type F′.the-laws r _ is .1 .0 .1) (LL.owed F.the-type F′.the-laws r _ is .1 .1 .0 .1)) $
-        move ! (7 ∷ 0 ∷ 8 ∷ 9 ∷ 10 ∷ []) $ closes ! tt B (moved (r .span) (r .«other_span»)) (reader-of (moved (r .span) (r .«other_span»)) ∷ []) b o $
+        move ! (7 ∷ []) $ use1 W (‵ (cellAt fullShare (B .mir) (reader-of (moved (r .span) (r .«other_span»)) ∷ []) b o))
+        (W .laws .at-raw fullShare (T′.mir erased) b o (reader-of (moved (r .span) (r .«other_span»)))) $
+        move ! (0 ∷ 1 ∷ 8 ∷ 9 ∷ 10 ∷ []) $ closes ! tt B (moved (r .span) (r .«other_span»)) (reader-of (moved (r .span) (r .«other_span»)) ∷ []) b o $
         returns ! (look ! 57 refl) $
         forget ! 9 refl $ forget ! 11 refl $ forget ! 13 refl $ forget ! 15 refl $ forget ! 17 refl $ forget ! 19 refl $
         forget ! 21 refl $ forget ! 23 refl $ forget ! 25 refl $ forget ! 27 refl $ forget ! 29 refl $ forget ! 31 refl $
