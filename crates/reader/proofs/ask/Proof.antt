@@ -21,7 +21,31 @@ use ghost.Atoms.{Atoms, sem}
 use contract.Lifetimes.{Lfts, Shares, AllOutlive}
 use contract.Monad.{Fun, fact}
 use contract.Running.{givenOf, tables, tablesOf}
-use types.Kit.{Given, Item, ‵, raw, given, some, later, _⊛_, ⋆, _$_, _∵_, !, qed, by, move, keep, drop, use1, use2, use3, split, join, pick}
+use types.Kit.{
+  Given,
+  Item,
+  ‵,
+  raw,
+  given,
+  some,
+  later,
+  _⊛_,
+  ⋆,
+  _$_,
+  _∵_,
+  !,
+  qed,
+  by,
+  move,
+  keep,
+  drop,
+  use1,
+  use2,
+  use3,
+  split,
+  join,
+  pick,
+}
 use types.Kit.{learn, rewrite, fsplit, fsplit3, fjoin, fjoin3, feqL, feqI, suffices, frame, await, done}
 use types.Part.{agg, whole, sub, look-in, store-in}
 use types.Run.{look, init, forget, stop, hop, fld, from, load, addr, of-opd, and-then, no-more, assigns, land, returns, enter, alloc1}
@@ -107,9 +131,22 @@ abbrev Callee : {M : Type 1} (𝓤 : URA M) (H : Heap 𝓤) (A : Atoms 𝓤) (me
 Callee 𝓤 H A mem run = tripleOf 𝓤 H A answer.signature (answer.spec 𝓤 H A mem run)
 
 module _ {M : Type 1} (𝓤 : URA M) (H : Heap 𝓤) (A : Atoms 𝓤) (W : Given 𝓤 H A) (at-mem : Memory → SProp 𝓤) (run : Routine → Fun 𝓤)
-    (κs : Lfts 6) (qs : Shares 6) (bounds : AllOutlive 6 (ask.signature .outlives) κs) (b o : ℕ) (γ : GName) (h : Reader) (x : Float) (n : ℕ)
-    (y2 y3 y4 y5 : RefT (List Float)) (ok : Knows h) where
-  -- the lifetimes and shares that `answer` gets: all but the one of the loan of the reader
+    (κs : Lfts 6) (qs : Shares 6) (bounds : AllOutlive 6 (ask.signature .outlives) κs) (b o : ℕ) (γ : GName) (h : Reader) (x : Float)
+    (n : ℕ)
+    (q dq ddq dddq : RefT (List Float)) (ok : Knows h) where
+  -- the lifetimes of the four slices; and those that `answer` gets, with their shares: all but the one of the loan of the reader
+  abbrev κq : Lft
+  κq = κs .1 .1 .0
+
+  abbrev κdq : Lft
+  κdq = κs .1 .1 .1 .0
+
+  abbrev κddq : Lft
+  κddq = κs .1 .1 .1 .1 .0
+
+  abbrev κdddq : Lft
+  κdddq = κs .1 .1 .1 .1 .1 .0
+
   abbrev κs′ : Lfts 5
   κs′ = κs .1
 
@@ -118,8 +155,8 @@ module _ {M : Type 1} (𝓤 : URA M) (H : Heap 𝓤) (A : Atoms 𝓤) (W : Given
 
   abbrev tokens : Item 𝓤
   tokens =
-      ‵ (flft (κs .1 .0) (qs .1 .0)) ⊛ ‵ (flft (κs .1 .1 .0) (qs .1 .1 .0)) ⊛ ‵ (flft (κs .1 .1 .1 .0) (qs .1 .1 .1 .0))
-      ⊛ ‵ (flft (κs .1 .1 .1 .1 .0) (qs .1 .1 .1 .1 .0)) ⊛ ‵ (flft (κs .1 .1 .1 .1 .1 .0) (qs .1 .1 .1 .1 .1 .0)) ⊛ ‵ ftrue
+      ‵ (flft (κs .1 .0) (qs .1 .0)) ⊛ ‵ (flft κq (qs .1 .1 .0)) ⊛ ‵ (flft κdq (qs .1 .1 .1 .0))
+      ⊛ ‵ (flft κddq (qs .1 .1 .1 .1 .0)) ⊛ ‵ (flft κdddq (qs .1 .1 .1 .1 .1 .0)) ⊛ ‵ ftrue
 
   -- the reader's type, its laws, and its type as the body has it
   abbrev α : NamedLft
@@ -170,14 +207,14 @@ module _ {M : Type 1} (𝓤 : URA M) (H : Heap 𝓤) (A : Atoms 𝓤) (W : Given
   answer-of e = EL.val E.the-type E′.the-laws e
 
   abbrev a : Args ask.signature κs
-  a = (record { ptr = (b, o); name = γ; now = h }, (x, (n, (y2, (y3, (y4, (y5, tt)))))))
+  a = (record { ptr = (b, o); name = γ; now = h }, (x, (n, (q, (dq, (ddq, (dddq, tt)))))))
 
   abbrev vals : Vals ask.signature κs
   vals = (
     vptr b o ∷ [],
     (
       vfloat binary64 x ∷ [],
-      (vint w64 n ∷ [], (slice-of y2 ∷ [], (slice-of y3 ∷ [], (slice-of y4 ∷ [], (slice-of y5 ∷ [], tt))))),
+      (vint w64 n ∷ [], (slice-of q ∷ [], (slice-of dq ∷ [], (slice-of ddq ∷ [], (slice-of dddq ∷ [], tt))))),
     ),
   )
 
@@ -196,7 +233,7 @@ module _ {M : Type 1} (𝓤 : URA M) (H : Heap 𝓤) (A : Atoms 𝓤) (W : Given
           h .«other_breaks»,
           (
             h .«other_coefficients»,
-            (h .formed, (h .span, (h .«other_span», (x, (n, (y2, (y3, (y4, (y5, tt))))))))),
+            (h .formed, (h .span, (h .«other_span», (x, (n, (q, (dq, (ddq, (dddq, tt))))))))),
           ),
         ),
       ),
@@ -229,8 +266,8 @@ module _ {M : Type 1} (𝓤 : URA M) (H : Heap 𝓤) (A : Atoms 𝓤) (W : Given
   Fields = all-own (D .parts) L (values h)
 
   abbrev Others : Fml
-  Others = owns (f64 ∷ usize ∷ MutSlice (named 2) (κs .1 .1 .0) f64 ∷ MutSlice (named 3) (κs .1 .1 .1 .0) f64
-      ∷ MutSlice (named 4) (κs .1 .1 .1 .1 .0) f64 ∷ MutSlice (named 5) (κs .1 .1 .1 .1 .1 .0) f64 ∷ []) (a .1) (vals .1)
+  Others = owns (f64 ∷ usize ∷ MutSlice (named 2) κq f64 ∷ MutSlice (named 3) κdq f64
+      ∷ MutSlice (named 4) κddq f64 ∷ MutSlice (named 5) κdddq f64 ∷ []) (a .1) (vals .1)
 
   goes : ent 𝓤 (⋆ 𝓤 H A (‵ Fields ∷ ‵ Others ∷ tokens ∷ [])) (Callee 𝓤 H A at-mem run .pre to)
   goes =
@@ -242,11 +279,26 @@ module _ {M : Type 1} (𝓤 : URA M) (H : Heap 𝓤) (A : Atoms 𝓤) (W : Given
       move ! (1 ∷ 0 ∷ []) $ fjoin ! $ move ! (1 ∷ 0 ∷ []) $ fjoin ! $ move ! (1 ∷ 0 ∷ []) $ fjoin ! $ move ! (1 ∷ 0 ∷ []) $ fjoin ! $
       move ! (1 ∷ 0 ∷ []) $ says ! ok $ frame ! $ done !
 
-  -- what `answer` says of its result and of the last lists
-  abbrev Said : Found → Lasts answer.ended κs′ a′ → Type 0
+  -- the last lists that `answer` leaves in the four slices, and what it says of its result and of them
+  abbrev Last : Type 0
+  Last = Lasts answer.ended κs′ a′
+
+  abbrev last-q : Last → List Float
+  last-q zs = zs .1 .1 .1 .1 .1 .1 .1 .1 .1 .1 .0
+
+  abbrev last-dq : Last → List Float
+  last-dq zs = zs .1 .1 .1 .1 .1 .1 .1 .1 .1 .1 .1 .0
+
+  abbrev last-ddq : Last → List Float
+  last-ddq zs = zs .1 .1 .1 .1 .1 .1 .1 .1 .1 .1 .1 .1 .0
+
+  abbrev last-dddq : Last → List Float
+  last-dddq zs = zs .1 .1 .1 .1 .1 .1 .1 .1 .1 .1 .1 .1 .1 .0
+
+  abbrev Said : Found → Last → Type 0
   Said r zs =
-      (outcome (numberOf (r .answer)) 0 (outputs (zs .1 .1 .1 .1 .1 .1 .1 .1 .1 .1 .0) (zs .1 .1 .1 .1 .1 .1 .1 .1 .1 .1 .1 .0) (zs .1 .1 .1 .1 .1 .1 .1 .1 .1 .1 .1 .1 .0) (zs .1 .1 .1 .1 .1 .1 .1 .1 .1 .1 .1 .1 .1 .0))
-      ≡ evaluateOf (h .curve) (lent h) x n (outputs (y2 .now) (y3 .now) (y4 .now) (y5 .now)))
+      (outcome (numberOf (r .answer)) 0 (outputs (last-q zs) (last-dq zs) (last-ddq zs) (last-dddq zs))
+      ≡ evaluateOf (h .curve) (lent h) x n (outputs (q .now) (dq .now) (ddq .now) (dddq .now)))
       × (r .span ≡ keptOf (numberOf (r .answer)) (h .curve) (h .breaks .now) x (h .span))
       × (r .«other_span» ≡ keptOf (numberOf (r .answer)) (h .curve) (h .«other_breaks» .now) x (h .«other_span»))
 
@@ -254,22 +306,28 @@ module _ {M : Type 1} (𝓤 : URA M) (H : Heap 𝓤) (A : Atoms 𝓤) (W : Given
   again : (s t : ℕ) → s < 2 ^ 64 → t < 2 ^ 64
       → ent 𝓤 (sem 𝓤 H A (B .own h (reader-of h ∷ []))) (sem 𝓤 H A (B .own (moved s t) (reader-of (moved s t) ∷ [])))
   again s t fs ft =
-      qed W (‵ (B .own h (reader-of h ∷ [])) ∷ []) ∵ owned ! usize (Is usize) (uint-makes 𝓤 H A W w64) s _ (refl, fs) $ move ! (1 ∷ 0 ∷ []) $
+      qed W (‵ (B .own h (reader-of h ∷ [])) ∷ []) ∵ owned ! usize (Is usize) (uint-makes 𝓤 H A W w64) s _ (refl, fs) $
+      move ! (1 ∷ 0 ∷ []) $
       use2 W (‵ (B .own (moved s (h .«other_span»)) (reader-of (moved s (h .«other_span»)) ∷ []))) (own-put 𝓤 H A W D L 6 (values h) s
       (reader-of h)) $ owned ! usize (Is usize) (uint-makes 𝓤 H A W w64) t _ (refl, ft) $ move ! (1 ∷ 0 ∷ []) $
       by ! (own-put 𝓤 H A W D L 7 (values (moved s (h .«other_span»))) t (reader-of (moved s (h .«other_span»))))
 
-  exits : (r : Found) (zs : Lasts answer.ended κs′ a′) → Said r zs → length (zs .1 .1 .1 .1 .1 .1 .1 .1 .1 .1 .0) ≡ length (y2 .now) → length (zs .1 .1 .1 .1 .1 .1 .1 .1 .1 .1 .1 .0) ≡ length (y3 .now)
-      → length (zs .1 .1 .1 .1 .1 .1 .1 .1 .1 .1 .1 .1 .0) ≡ length (y4 .now) → length (zs .1 .1 .1 .1 .1 .1 .1 .1 .1 .1 .1 .1 .1 .0) ≡ length (y5 .now) → ent 𝓤 (⋆ 𝓤 H A (‵ (fobs γ (B .coded .code (moved (r .span)
+  exits : (r : Found) (zs : Last) → Said r zs → length (last-q zs) ≡ length (q .now) → length (last-dq zs) ≡ length (dq .now)
+      → length (last-ddq zs) ≡ length (ddq .now) → length (last-dddq zs) ≡ length (dddq .now) → ent 𝓤 (⋆ 𝓤 H A (‵ (fobs γ (B .coded .code
+      (moved (r .span)
       (r .«other_span»)))) ∷ ‵ (fbor (κs .0) (Body (mem B) b o γ)) ∷ ‵ (flft (κs .0) (qs .0))
-      ∷ ‵ (E.the-row .own (r .answer) (answer-of (r .answer) ∷ [])) ∷ tokens ∷ ‵ (finally f64 (y5 .name) (zs .1 .1 .1 .1 .1 .1 .1 .1 .1 .1 .1 .1 .1 .0)) ∷ ‵ (finally f64 (y4 .name) (zs .1 .1 .1 .1 .1 .1 .1 .1 .1 .1 .1 .1 .0))
-      ∷ ‵ (finally f64 (y3 .name) (zs .1 .1 .1 .1 .1 .1 .1 .1 .1 .1 .1 .0)) ∷ ‵ (finally f64 (y2 .name) (zs .1 .1 .1 .1 .1 .1 .1 .1 .1 .1 .0)) ∷ [])) (Post (answer-of (r .answer)))
+      ∷ ‵ (E.the-row .own (r .answer) (answer-of (r .answer) ∷ [])) ∷ tokens ∷ ‵ (finally f64 (dddq .name) (last-dddq zs)) ∷ ‵
+      (finally f64 (ddq .name) (last-ddq zs))
+      ∷ ‵ (finally f64 (dq .name) (last-dq zs)) ∷ ‵ (finally f64 (q .name) (last-q zs)) ∷ [])) (Post (answer-of (r .answer)))
   exits r zs e l2 l3 l4 l5 =
       qed W (‵ (fobs γ (B .coded .code (moved (r .span) (r .«other_span»)))) ∷ ‵ (fbor (κs .0) (Body (mem B) b o γ))
-      ∷ ‵ (flft (κs .0) (qs .0)) ∷ ‵ (E.the-row .own (r .answer) (answer-of (r .answer) ∷ [])) ∷ tokens ∷ ‵ (finally f64 (y5 .name) (zs .1 .1 .1 .1 .1 .1 .1 .1 .1 .1 .1 .1 .1 .0))
-      ∷ ‵ (finally f64 (y4 .name) (zs .1 .1 .1 .1 .1 .1 .1 .1 .1 .1 .1 .1 .0)) ∷ ‵ (finally f64 (y3 .name) (zs .1 .1 .1 .1 .1 .1 .1 .1 .1 .1 .1 .0)) ∷ ‵ (finally f64 (y2 .name) (zs .1 .1 .1 .1 .1 .1 .1 .1 .1 .1 .0)) ∷ []) ∵
-      suffices ! _ (ends-at 𝓤 H A ask.ended stayed (ask.clauses 𝓤 H A at-mem run) W ((κs, qs, bounds, a, vals), tt) (answer-of (r .answer))
-      (r .answer) (moved (r .span) (r .«other_span»), (tt, (tt, (zs .1 .1 .1 .1 .1 .1 .1 .1 .1 .1 .0, (zs .1 .1 .1 .1 .1 .1 .1 .1 .1 .1 .1 .0, (zs .1 .1 .1 .1 .1 .1 .1 .1 .1 .1 .1 .1 .0, (zs .1 .1 .1 .1 .1 .1 .1 .1 .1 .1 .1 .1 .1 .0, tt)))))))
+      ∷ ‵ (flft (κs .0) (qs .0)) ∷ ‵ (E.the-row .own (r .answer) (answer-of (r .answer) ∷ [])) ∷ tokens ∷ ‵ (finally f64 (dddq .name)
+      (last-dddq zs))
+      ∷ ‵ (finally f64 (ddq .name) (last-ddq zs)) ∷ ‵ (finally f64 (dq .name) (last-dq zs)) ∷ ‵ (finally f64 (q .name)
+      (last-q zs)) ∷ []) ∵
+      suffices ! _ (ends-at 𝓤 H A ask.ended stayed (ask.clauses 𝓤 H A at-mem run) W ((κs, qs, bounds, a, vals), tt) (answer-of
+      (r .answer))
+      (r .answer) (moved (r .span) (r .«other_span»), (tt, (tt, (last-q zs, (last-dq zs, (last-ddq zs, (last-dddq zs, tt)))))))
       (tt, (tt, (tt, (l2, (l3, (l4, (l5, tt)))))))) $ says ! (e .0, λ i. moved (e .1 i) (e .2 i)) $
       move ! (2 ∷ 4 ∷ []) $ join ! $ frame ! $
       -- [obs; the loan; the answer; the last lists of dddq, ddq, dq and q]
@@ -285,19 +343,20 @@ module _ {M : Type 1} (𝓤 : URA M) (H : Heap 𝓤) (A : Atoms 𝓤) (W : Given
       × WT (LL.val Cu.the-type Cu′.the-laws (h .curve))
   typed-curve g = LL.lawful Cu.the-type Cu′.the-laws 𝓤 H A W .typed (h .curve) _ (LL.owed D L h _ g .0) .0
 
-  module _ (C : Calls 𝓤 H) (Λ : Loops 𝓤 H) (fm : FmC 𝓤 H (W .laws) C) (known : Triple 𝓤 (C #reader·answer) (Callee 𝓤 H A at-mem run)) where
+  module _ (C : Calls 𝓤 H) (Λ : Loops 𝓤 H) (fm : FmC 𝓤 H (W .laws) C) (known : Triple 𝓤 (C #reader·answer)
+      (Callee 𝓤 H A at-mem run)) where
     abbrev passed : List Val
-    passed = vptr b o ∷ vfloat binary64 x ∷ vint w64 n ∷ slice-of y2 ∷ slice-of y3 ∷ slice-of y4 ∷ slice-of y5 ∷ []
+    passed = vptr b o ∷ vfloat binary64 x ∷ vint w64 n ∷ slice-of q ∷ slice-of dq ∷ slice-of ddq ∷ slice-of dddq ∷ []
 
-    walk : Is f64 x (vfloat binary64 x ∷ []) → n < 2 ^ 64 → Is (MutSlice (named 2) (κs .1 .1 .0) f64) y2 (slice-of y2 ∷ [])
-        → Is (MutSlice (named 3) (κs .1 .1 .1 .0) f64) y3 (slice-of y3 ∷ [])
-        → Is (MutSlice (named 4) (κs .1 .1 .1 .1 .0) f64) y4 (slice-of y4 ∷ [])
-        → Is (MutSlice (named 5) (κs .1 .1 .1 .1 .1 .0) f64) y5 (slice-of y5 ∷ [])
+    walk : Is f64 x (vfloat binary64 x ∷ []) → n < 2 ^ 64 → Is (MutSlice (named 2) κq f64) q (slice-of q ∷ [])
+        → Is (MutSlice (named 3) κdq f64) dq (slice-of dq ∷ [])
+        → Is (MutSlice (named 4) κddq f64) ddq (slice-of ddq ∷ [])
+        → Is (MutSlice (named 5) κdddq f64) dddq (slice-of dddq ∷ [])
         → ent 𝓤 (onEntry 𝓤 H A ask.signature κs qs a vals) (WpFn 𝓤 H C Λ code.function passed Post)
-    walk kx kn k2 k3 k4 k5 =
-        qed W ((‵ (flft (κs .0) (qs .0)) ⊛ tokens) ∷ ‵ (owns (MutRef (named 0) (κs .0) B ∷ f64 ∷ usize ∷ MutSlice (named 2) (κs .1 .1 .0) f64
-        ∷ MutSlice (named 3) (κs .1 .1 .1 .0) f64 ∷ MutSlice (named 4) (κs .1 .1 .1 .1 .0) f64
-        ∷ MutSlice (named 5) (κs .1 .1 .1 .1 .1 .0) f64 ∷ []) a vals) ∷ []) ∵
+    walk kx kn kq kdq kddq kdddq =
+        qed W ((‵ (flft (κs .0) (qs .0)) ⊛ tokens) ∷ ‵ (owns (MutRef (named 0) (κs .0) B ∷ f64 ∷ usize ∷ MutSlice (named 2) κq f64
+        ∷ MutSlice (named 3) κdq f64 ∷ MutSlice (named 4) κddq f64
+        ∷ MutSlice (named 5) κdddq f64 ∷ []) a vals) ∷ []) ∵
         enter ! C Λ code.function passed _ $
         alloc1 ! (λ l₀. alloc1 ! (λ l₁. alloc1 ! (λ l₂. alloc1 ! (λ l₃. alloc1 ! (λ l₄. alloc1 ! (λ l₅.
         alloc1 ! (λ l₆. alloc1 ! (λ l₇. alloc1 ! (λ l₈. alloc1 ! (λ l₉. alloc1 ! (λ l₁₀. alloc1 ! (λ l₁₁.
@@ -307,10 +366,10 @@ module _ {M : Type 1} (𝓤 : URA M) (H : Heap 𝓤) (A : Atoms 𝓤) (W : Given
         pass1 ! (init ! 46 refl (tt, tt)) $
         pass1 ! (init ! 44 refl (float-lawful 𝓤 H A W binary64 .typed x _ kx .0)) $
         pass1 ! (init ! 42 refl (tt, record { fits = kn })) $
-        pass1 ! (init ! 40 refl (mut-slice-lawful 𝓤 H A W (named 2) (κs .1 .1 .0) f64 .typed y2 _ k2 .0)) $
-        pass1 ! (init ! 38 refl (mut-slice-lawful 𝓤 H A W (named 3) (κs .1 .1 .1 .0) f64 .typed y3 _ k3 .0)) $
-        pass1 ! (init ! 36 refl (mut-slice-lawful 𝓤 H A W (named 4) (κs .1 .1 .1 .1 .0) f64 .typed y4 _ k4 .0)) $
-        pass1 ! (init ! 34 refl (mut-slice-lawful 𝓤 H A W (named 5) (κs .1 .1 .1 .1 .1 .0) f64 .typed y5 _ k5 .0)) $
+        pass1 ! (init ! 40 refl (mut-slice-lawful 𝓤 H A W (named 2) κq f64 .typed q _ kq .0)) $
+        pass1 ! (init ! 38 refl (mut-slice-lawful 𝓤 H A W (named 3) κdq f64 .typed dq _ kdq .0)) $
+        pass1 ! (init ! 36 refl (mut-slice-lawful 𝓤 H A W (named 4) κddq f64 .typed ddq _ kddq .0)) $
+        pass1 ! (init ! 34 refl (mut-slice-lawful 𝓤 H A W (named 5) κdddq f64 .typed dddq _ kdddq .0)) $
         pass0 ! $
         -- the loan of the reader is opened
         move ! (51 ∷ []) $ fsplit ! $ fsplit3 ! $ drop ! $ move ! (53 ∷ []) $ split ! $ move ! (2 ∷ 3 ∷ 0 ∷ []) $
@@ -334,25 +393,46 @@ module _ {M : Type 1} (𝓤 : URA M) (H : Heap 𝓤) (A : Atoms 𝓤) (W : Given
         (from ! (stop !)) (init ! 25 refl (tt, typed g .1 .1 .1 .1 .1 .1 .1 .0)) $
         assigns ! (of-opd ! (load ! (from ! (hop ! (look ! 53 refl) (fld ! refl (stop !)))) (look-in ! 0 (sub ! 7 refl (whole !)))))
         (from ! (stop !)) (init ! 23 refl (tt, typed g .1 .1 .1 .1 .1 .1 .1 .1 .0)) $
-        assigns ! (addr ! (from ! (fld ! refl (hop ! (look-in ! 47 (sub ! 0 refl (whole !))) (stop !))))) (from ! (stop !)) (init ! 21 refl (tt, tt)) $
+        assigns ! (addr ! (from ! (fld ! refl (hop ! (look-in ! 47 (sub ! 0 refl (whole !))) (stop !))))) (from ! (stop !))
+        (init ! 21 refl (tt, tt)) $
         assigns ! (agg ! (and-then ! (load ! (from ! (stop !)) (look ! 21 refl)) (and-then ! (load ! (from ! (fld ! refl (stop !)))
-        (look-in ! 47 (sub ! 1 refl (whole !)))) (no-more !)))) (from ! (stop !)) (init ! 19 refl (tt, mut-slice-lawful 𝓤 H A W (named 2) (κs .1 .1 .0) f64 .typed y2 _ k2 .0 .1)) $
-        assigns ! (addr ! (from ! (fld ! refl (hop ! (look-in ! 45 (sub ! 0 refl (whole !))) (stop !))))) (from ! (stop !)) (init ! 17 refl (tt, tt)) $
+        (look-in ! 47 (sub ! 1 refl (whole !)))) (no-more !)))) (from ! (stop !)) (init ! 19 refl (
+          tt,
+          mut-slice-lawful 𝓤 H A W
+              (named 2) κq f64 .typed q _ kq .0 .1,
+        )) $
+        assigns ! (addr ! (from ! (fld ! refl (hop ! (look-in ! 45 (sub ! 0 refl (whole !))) (stop !))))) (from ! (stop !))
+        (init ! 17 refl (tt, tt)) $
         assigns ! (agg ! (and-then ! (load ! (from ! (stop !)) (look ! 17 refl)) (and-then ! (load ! (from ! (fld ! refl (stop !)))
-        (look-in ! 45 (sub ! 1 refl (whole !)))) (no-more !)))) (from ! (stop !)) (init ! 15 refl (tt, mut-slice-lawful 𝓤 H A W (named 3) (κs .1 .1 .1 .0) f64 .typed y3 _ k3 .0 .1)) $
-        assigns ! (addr ! (from ! (fld ! refl (hop ! (look-in ! 43 (sub ! 0 refl (whole !))) (stop !))))) (from ! (stop !)) (init ! 13 refl (tt, tt)) $
+        (look-in ! 45 (sub ! 1 refl (whole !)))) (no-more !)))) (from ! (stop !)) (init ! 15 refl (
+          tt,
+          mut-slice-lawful 𝓤 H A W
+              (named 3) κdq f64 .typed dq _ kdq .0 .1,
+        )) $
+        assigns ! (addr ! (from ! (fld ! refl (hop ! (look-in ! 43 (sub ! 0 refl (whole !))) (stop !))))) (from ! (stop !))
+        (init ! 13 refl (tt, tt)) $
         assigns ! (agg ! (and-then ! (load ! (from ! (stop !)) (look ! 13 refl)) (and-then ! (load ! (from ! (fld ! refl (stop !)))
-        (look-in ! 43 (sub ! 1 refl (whole !)))) (no-more !)))) (from ! (stop !)) (init ! 11 refl (tt, mut-slice-lawful 𝓤 H A W (named 4) (κs .1 .1 .1 .1 .0) f64 .typed y4 _ k4 .0 .1)) $
-        assigns ! (addr ! (from ! (fld ! refl (hop ! (look-in ! 41 (sub ! 0 refl (whole !))) (stop !))))) (from ! (stop !)) (init ! 9 refl (tt, tt)) $
+        (look-in ! 43 (sub ! 1 refl (whole !)))) (no-more !)))) (from ! (stop !)) (init ! 11 refl (
+          tt,
+          mut-slice-lawful 𝓤 H A W
+              (named 4) κddq f64 .typed ddq _ kddq .0 .1,
+        )) $
+        assigns ! (addr ! (from ! (fld ! refl (hop ! (look-in ! 41 (sub ! 0 refl (whole !))) (stop !))))) (from ! (stop !)) (init ! 9 refl
+        (tt, tt)) $
         assigns ! (agg ! (and-then ! (load ! (from ! (stop !)) (look ! 9 refl)) (and-then ! (load ! (from ! (fld ! refl (stop !)))
-        (look-in ! 41 (sub ! 1 refl (whole !)))) (no-more !)))) (from ! (stop !)) (init ! 7 refl (tt, mut-slice-lawful 𝓤 H A W (named 5) (κs .1 .1 .1 .1 .1 .0) f64 .typed y5 _ k5 .0 .1)) $
+        (look-in ! 41 (sub ! 1 refl (whole !)))) (no-more !)))) (from ! (stop !)) (init ! 7 refl (
+          tt,
+          mut-slice-lawful 𝓤 H A W
+              (named 5) κdddq f64 .typed dddq _ kdddq .0 .1,
+        )) $
         -- what the reader owns is had twice, and one copy goes to `answer`
         move ! (1 ∷ []) $ use1 W (‵ (B .own h (reader-of h ∷ [])) ⊛ ‵ (B .own h (reader-of h ∷ [])))
         (LL.copy D (T′.the-copy α) 𝓤 H A W .twice h (reader-of h ∷ [])) $ split ! $
         use1 W (given (reader-of h ∷ [] ≡ reader-of h ∷ []) (‵ Fields)) (own-open 𝓤 H A W D L (values h) (reader-of h)) $ learn ! (λ _.
         move ! (0 ∷ 7 ∷ 6 ∷ []) $ use3 W (raw (Callee 𝓤 H A at-mem run .pre to)) goes $
         -- [what `answer` asks; what the reader owns; its cell; the open loan; obs; auth; _24; …; _1; …; room for _0; …]
-        calls-at ! fm (Callee 𝓤 H A at-mem run) known to (and-then ! (load ! (from ! (stop !)) (look ! 36 refl)) (and-then ! (load ! (from ! (stop !)) (look ! 34 refl)) (
+        calls-at ! fm (Callee 𝓤 H A at-mem run) known to (and-then ! (load ! (from ! (stop !)) (look ! 36 refl)) (and-then ! (load !
+        (from ! (stop !)) (look ! 34 refl)) (
         and-then ! (load ! (from ! (stop !)) (look ! 32 refl)) (and-then ! (load ! (from ! (stop !)) (look ! 30 refl)) (
         and-then ! (load ! (from ! (stop !)) (look ! 28 refl)) (and-then ! (load ! (from ! (stop !)) (look ! 26 refl)) (
         and-then ! (load ! (from ! (stop !)) (look ! 24 refl)) (and-then ! (load ! (from ! (stop !)) (look ! 22 refl)) (
@@ -362,7 +442,7 @@ module _ {M : Type 1} (𝓤 : URA M) (H : Heap 𝓤) (A : Atoms 𝓤) (W : Given
         no-more !))))))))))))))) (λ u.
         use1 W (later (some (λ (r : Found). (tokens ⊛ ‵ (F.the-row .own r (u ∷ [])))
         ⊛ raw (ensured 𝓤 H A answer.ended (answer.clauses 𝓤 H A at-mem run) κs′ a′ tt r)))) (id⊢ 𝓤 _) $ await ! tt $ pick ! (λ r.
-        split ! $ move ! (1 ∷ []) $ use1 W (some (λ (zs : Lasts answer.ended κs′ a′). ‵ (lasts answer.ended κs′ a′ zs) ⊛ raw (fact 𝓤 (Said r zs))))
+        split ! $ move ! (1 ∷ []) $ use1 W (some (λ (zs : Last). ‵ (lasts answer.ended κs′ a′ zs) ⊛ raw (fact 𝓤 (Said r zs))))
         (id⊢ 𝓤 _) $ pick ! (λ zs. split ! $ move ! (1 ∷ []) $ heard ! (Said r zs) (λ e.
         -- of the last values those of the four slices are kept
         fsplit ! $ drop ! $ fsplit ! $ drop ! $ fsplit ! $ drop ! $ fsplit ! $ drop ! $ fsplit ! $ drop ! $
@@ -380,29 +460,40 @@ module _ {M : Type 1} (𝓤 : URA M) (H : Heap 𝓤) (A : Atoms 𝓤) (W : Given
         (own-open 𝓤 H A W F.the-type F′.the-laws (r .answer, (r .span, (r .«other_span», tt))) u) $ learn ! (λ _.
         fsplit ! $ move ! (1 ∷ []) $ drop ! $
         assigns ! (of-opd ! (load ! (from ! (fld ! refl (stop !))) (look-in ! 43 (sub ! 1 refl (whole !)))))
-        (from ! (hop ! (look ! 57 refl) (fld ! refl (stop !)))) (store-in ! 7 (sub ! 6 refl (whole !)) (tt, record { fits = LL.owed F.the-type F′.the-laws r _ is .1 .0 .1 })) $
+        (from ! (hop ! (look ! 57 refl) (fld ! refl (stop !)))) (store-in ! 7 (sub ! 6 refl (whole !))
+        (tt, record { fits = LL.owed F.the-type F′.the-laws r _ is .1 .0 .1 })) $
         assigns ! (of-opd ! (load ! (from ! (fld ! refl (stop !))) (look-in ! 43 (sub ! 2 refl (whole !)))))
-        (from ! (hop ! (look ! 57 refl) (fld ! refl (stop !)))) (store-in ! 7 (sub ! 7 refl (whole !)) (tt, record { fits = LL.owed F.the-type F′.the-laws r _ is .1 .1 .0 .1 })) $
+        (from ! (hop ! (look ! 57 refl) (fld ! refl (stop !)))) (store-in ! 7 (sub ! 7 refl (whole !))
+        (tt, record { fits = LL.owed F.the-type F′.the-laws r _ is .1 .1 .0 .1 })) $
         assigns ! (of-opd ! (load ! (from ! (fld ! refl (stop !))) (look-in ! 43 (sub ! 0 refl (whole !))))) (from ! (stop !))
-        (init ! 59 refl (EL.lawful E.the-type E′.the-laws 𝓤 H A W tt .typed (r .answer) _ (LL.owed F.the-type F′.the-laws r _ is .0) .0)) $
+        (init ! 59 refl (EL.lawful E.the-type E′.the-laws 𝓤 H A W tt .typed (r .answer) _
+        (LL.owed F.the-type F′.the-laws r _ is .0) .0)) $
         -- the loan is closed at the reader with the segments found
         move ! (6 ∷ []) $ use1 W (‵ (B .own (moved (r .span) (r .«other_span»)) (reader-of (moved (r .span) (r .«other_span»)) ∷ [])))
-        (again (r .span) (r .«other_span») (LL.owed F.the-type F′.the-laws r _ is .1 .0 .1) (LL.owed F.the-type F′.the-laws r _ is .1 .1 .0 .1)) $
+        (again (r .span) (r .«other_span») (LL.owed F.the-type F′.the-laws r _ is .1 .0 .1)
+        (LL.owed F.the-type F′.the-laws r _ is .1 .1 .0 .1)) $
         move ! (7 ∷ []) $ use1 W (‵ (cellAt fullShare (B .mir) (reader-of (moved (r .span) (r .«other_span»)) ∷ []) b o))
         (W .laws .at-raw fullShare (T′.mir erased) b o (reader-of (moved (r .span) (r .«other_span»)))) $
-        move ! (0 ∷ 1 ∷ 8 ∷ 9 ∷ 10 ∷ []) $ closes ! tt B (moved (r .span) (r .«other_span»)) (reader-of (moved (r .span) (r .«other_span»)) ∷ []) b o $
+        move ! (0 ∷ 1 ∷ 8 ∷ 9 ∷ 10 ∷ []) $ closes ! tt B (moved (r .span) (r .«other_span»)) (reader-of (moved (r .span)
+        (r .«other_span»)) ∷ []) b o $
         returns ! (look ! 57 refl) $
         forget ! 9 refl $ forget ! 11 refl $ forget ! 13 refl $ forget ! 15 refl $ forget ! 17 refl $ forget ! 19 refl $
         forget ! 21 refl $ forget ! 23 refl $ forget ! 25 refl $ forget ! 27 refl $ forget ! 29 refl $ forget ! 31 refl $
         forget ! 33 refl $ forget ! 35 refl $ forget ! 37 refl $ forget ! 39 refl $ forget ! 41 refl $ forget ! 43 refl $
         forget ! 45 refl $ forget ! 47 refl $ forget ! 49 refl $ forget ! 51 refl $ forget ! 53 refl $ forget ! 55 refl $
         forget ! 57 refl $
-        move ! (57 ∷ 58 ∷ []) $ free1 ! $ move ! (55 ∷ 56 ∷ []) $ free1 ! $ move ! (53 ∷ 54 ∷ []) $ free1 ! $ move ! (51 ∷ 52 ∷ []) $ free1 ! $
-        move ! (49 ∷ 50 ∷ []) $ free1 ! $ move ! (47 ∷ 48 ∷ []) $ free1 ! $ move ! (45 ∷ 46 ∷ []) $ free1 ! $ move ! (43 ∷ 44 ∷ []) $ free1 ! $
-        move ! (41 ∷ 42 ∷ []) $ free1 ! $ move ! (39 ∷ 40 ∷ []) $ free1 ! $ move ! (37 ∷ 38 ∷ []) $ free1 ! $ move ! (35 ∷ 36 ∷ []) $ free1 ! $
-        move ! (33 ∷ 34 ∷ []) $ free1 ! $ move ! (31 ∷ 32 ∷ []) $ free1 ! $ move ! (29 ∷ 30 ∷ []) $ free1 ! $ move ! (27 ∷ 28 ∷ []) $ free1 ! $
-        move ! (25 ∷ 26 ∷ []) $ free1 ! $ move ! (23 ∷ 24 ∷ []) $ free1 ! $ move ! (21 ∷ 22 ∷ []) $ free1 ! $ move ! (19 ∷ 20 ∷ []) $ free1 ! $
-        move ! (17 ∷ 18 ∷ []) $ free1 ! $ move ! (15 ∷ 16 ∷ []) $ free1 ! $ move ! (13 ∷ 14 ∷ []) $ free1 ! $ move ! (11 ∷ 12 ∷ []) $ free1 ! $
+        move ! (57 ∷ 58 ∷ []) $ free1 ! $ move ! (55 ∷ 56 ∷ []) $ free1 ! $ move ! (53 ∷ 54 ∷ []) $ free1 ! $ move ! (51 ∷ 52 ∷ []) $
+        free1 ! $
+        move ! (49 ∷ 50 ∷ []) $ free1 ! $ move ! (47 ∷ 48 ∷ []) $ free1 ! $ move ! (45 ∷ 46 ∷ []) $ free1 ! $ move ! (43 ∷ 44 ∷ []) $
+        free1 ! $
+        move ! (41 ∷ 42 ∷ []) $ free1 ! $ move ! (39 ∷ 40 ∷ []) $ free1 ! $ move ! (37 ∷ 38 ∷ []) $ free1 ! $ move ! (35 ∷ 36 ∷ []) $
+        free1 ! $
+        move ! (33 ∷ 34 ∷ []) $ free1 ! $ move ! (31 ∷ 32 ∷ []) $ free1 ! $ move ! (29 ∷ 30 ∷ []) $ free1 ! $ move ! (27 ∷ 28 ∷ []) $
+        free1 ! $
+        move ! (25 ∷ 26 ∷ []) $ free1 ! $ move ! (23 ∷ 24 ∷ []) $ free1 ! $ move ! (21 ∷ 22 ∷ []) $ free1 ! $ move ! (19 ∷ 20 ∷ []) $
+        free1 ! $
+        move ! (17 ∷ 18 ∷ []) $ free1 ! $ move ! (15 ∷ 16 ∷ []) $ free1 ! $ move ! (13 ∷ 14 ∷ []) $ free1 ! $ move ! (11 ∷ 12 ∷ []) $
+        free1 ! $
         move ! (9 ∷ 10 ∷ []) $ free1 ! $ free0 ! $
         by ! (exits r zs e l′ l′′ l′′′ l′′′′)))))))))))))))))))))))))))))))))))))))
 

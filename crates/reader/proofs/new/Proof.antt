@@ -67,7 +67,19 @@ abbrev Loans : Slot 1
 Loans = shrSliceOf (0 ∷ []) tt (plain (λ _. f64))
 
 abbrev stayed : Stays (new.ended .signature .params) (new.ended .kept)
-stayed = (stay-dropped Curves yes, (stay-dropped Loans yes, (stay-dropped Loans yes, (stay-dropped Loans yes, (stay-dropped Loans yes, tt)))))
+stayed = (
+  stay-dropped Curves yes,
+  (
+    stay-dropped Loans yes,
+    (
+      stay-dropped Loans yes,
+      (
+        stay-dropped Loans yes,
+        (stay-dropped Loans yes, tt),
+      ),
+    ),
+  ),
+)
 
 -- the contract that the proof cites
 abbrev Tested : {M : Type 1} (𝓤 : URA M) (H : Heap 𝓤) (A : Atoms 𝓤) (mem : Memory → SProp 𝓤) (run : Routine → Fun 𝓤) → Contract 𝓤
@@ -130,10 +142,13 @@ module _ {M : Type 1} (𝓤 : URA M) (H : Heap 𝓤) (A : Atoms 𝓤) (W : Given
 
   twice : ent 𝓤 (sem 𝓤 H A All) (sep 𝓤 (sem 𝓤 H A All) (sem 𝓤 H A All))
   twice =
-      qed W (‵ All ∷ []) ∵ fsplit ! $ use1 W (‵ Plain ⊛ ‵ Plain) (LL.copy Cu.the-type Cu′.the-copy 𝓤 H A W .twice c (curve-of ∷ [])) $ split ! $
-      move ! (2 ∷ []) $ fsplit ! $ use1 W (‵ (Slice b) ⊛ ‵ (Slice b)) (shr-slice-copy 𝓤 H A W (named 0) κ f64 .twice b (slice-of b ∷ [])) $
+      qed W (‵ All ∷ []) ∵ fsplit ! $ use1 W (‵ Plain ⊛ ‵ Plain) (LL.copy Cu.the-type Cu′.the-copy 𝓤 H A W .twice c (curve-of ∷ [])) $
+      split ! $
+      move ! (2 ∷ []) $ fsplit ! $ use1 W (‵ (Slice b) ⊛ ‵ (Slice b)) (shr-slice-copy 𝓤 H A W (named 0) κ f64 .twice b
+      (slice-of b ∷ [])) $
       split ! $ move ! (2 ∷ []) $ fsplit ! $ use1 W (‵ (Slice p) ⊛ ‵ (Slice p)) (shr-slice-copy 𝓤 H A W (named 0) κ f64 .twice p
-      (slice-of p ∷ [])) $ split ! $ move ! (2 ∷ []) $ fsplit ! $ use1 W (‵ (Slice ob) ⊛ ‵ (Slice ob)) (shr-slice-copy 𝓤 H A W (named 0) κ f64
+      (slice-of p ∷ [])) $ split ! $ move ! (2 ∷ []) $ fsplit ! $ use1 W (‵ (Slice ob) ⊛ ‵ (Slice ob)) (shr-slice-copy 𝓤 H A W
+      (named 0) κ f64
       .twice ob (slice-of ob ∷ [])) $ split ! $ move ! (2 ∷ []) $ fsplit ! $ use1 W (‵ (Slice op) ⊛ ‵ (Slice op)) (shr-slice-copy 𝓤 H A W
       (named 0) κ f64 .twice op (slice-of op ∷ [])) $ split ! $ move ! (2 ∷ []) $
       -- [true; op's; op's; ob's; ob's; p's; p's; b's; b's; c's; c's]
@@ -181,12 +196,14 @@ module _ {M : Type 1} (𝓤 : URA M) (H : Heap 𝓤) (A : Atoms 𝓤) (W : Given
         LL.owes (T.the-type α) (T′.the-laws α) (result r)
         (kc, (kb, (kp, (kob, (kop, (refl, ((refl, lit< tt), ((refl, lit< tt), tt))))))))
 
-    walk : Is Cu.the-row c (curve-of ∷ []) → Known b → Known p → Known ob → Known op → ent 𝓤 (onEntry 𝓤 H A new.signature (κ, tt) (q, tt) a vals)
+    walk : Is Cu.the-row c (curve-of ∷ []) → Known b → Known p → Known ob → Known op → ent 𝓤 (onEntry 𝓤 H A new.signature (κ, tt)
+        (q, tt) a vals)
         (WpFn 𝓤 H C Λ code.function (curve-of ∷ slice-of b ∷ slice-of p ∷ slice-of ob ∷ slice-of op ∷ []) Post)
     walk kc kb kp kob kop =
         qed W (raw (onEntry 𝓤 H A new.signature (κ, tt) (q, tt) a vals) ∷ []) ∵
         enter ! C Λ code.function (curve-of ∷ slice-of b ∷ slice-of p ∷ slice-of ob ∷ slice-of op ∷ []) _ $
-        alloc1 ! (λ l₀. alloc1 ! (λ l₁. alloc1 ! (λ l₂. alloc1 ! (λ l₃. alloc1 ! (λ l₄. alloc1 ! (λ l₅. alloc1 ! (λ l₆. alloc0 ! $ params1 ! $
+        alloc1 ! (λ l₀. alloc1 ! (λ l₁. alloc1 ! (λ l₂. alloc1 ! (λ l₃. alloc1 ! (λ l₄. alloc1 ! (λ l₅. alloc1 ! (λ l₆. alloc0 ! $
+        params1 ! $
         pass1 ! (init ! 10 refl (LL.lawful Cu.the-type Cu′.the-laws 𝓤 H A W .typed c _ kc .0)) $
         pass1 ! (init ! 8 refl (shr-slice-lawful 𝓤 H A W (named 0) κ f64 .typed b _ kb .0)) $
         pass1 ! (init ! 6 refl (shr-slice-lawful 𝓤 H A W (named 0) κ f64 .typed p _ kp .0)) $
@@ -196,7 +213,8 @@ module _ {M : Type 1} (𝓤 : URA M) (H : Heap 𝓤) (A : Atoms 𝓤) (W : Given
         -- [what `tested` asks; what the loans own; room for _6; …; _5; …; _4; …; _3; …; _2; …; _1; …; room for _0; …]
         calls-at ! fm (Tested 𝓤 H A mem run) known to (and-then ! (load ! (from ! (stop !)) (look ! 12 refl))
         (and-then ! (load ! (from ! (stop !)) (look ! 10 refl)) (and-then ! (load ! (from ! (stop !)) (look ! 8 refl))
-        (and-then ! (load ! (from ! (stop !)) (look ! 6 refl)) (and-then ! (load ! (from ! (stop !)) (look ! 4 refl)) (no-more !)))))) (λ u.
+        (and-then ! (load ! (from ! (stop !)) (look ! 6 refl)) (and-then ! (load ! (from ! (stop !)) (look ! 4 refl)) (no-more !))))))
+        (λ u.
         use1 W (later (some (λ (r : Bool). ((‵ (flft κ q) ⊛ ‵ ftrue) ⊛ ‵ (bool .own r (u ∷ [])))
         ⊛ raw (ensured 𝓤 H A tested.ended (tested.clauses 𝓤 H A mem run) (κ, tt) a tt r)))) (id⊢ 𝓤 _) $ await ! tt $ pick ! (λ r.
         split ! $ move ! (1 ∷ []) $ use1 W (raw (fact 𝓤 (r ≡ formed))) (said r) $ heard ! (r ≡ formed) (λ e. split ! $ move ! (1 ∷ []) $

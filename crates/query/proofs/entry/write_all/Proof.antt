@@ -16,7 +16,16 @@ write-rows-requires c κs = let begun = c .before .before .before .before .befor
     let found = begun .before .before .before .before in
     let b = found .before .before .before .before .before .before .before .before .before .before .before .before in (
       b .pre .0,
-      (found .find-places .ensures, ((refl, refl), (b .pre .1 .0, ((begun .before .begin .ensures, begun .begin2 .ensures), b .pre .1 .1)))),
+      (
+        found .find-places .ensures,
+        (
+          (refl, refl),
+          (
+            b .pre .1 .0,
+            ((begun .before .begin .ensures, begun .begin2 .ensures), b .pre .1 .1),
+          ),
+        ),
+      ),
     )
 
 pub write-all-spec : {M : Type 1} → statement M

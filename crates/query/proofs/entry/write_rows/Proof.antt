@@ -28,8 +28,8 @@ abbrev column : Curve → Slices → List Float → (Derivatives → Float) → 
 column c s xs part j = columnOf part c s (rangedOf c (at xs j) .at)
 
 abbrev Inv-loop : tie.InvT-loop
-Inv-loop curve table whole scale breaks coefficients other-breaks other-coefficients near other-near xs inside order q₀ dq₀ ddq₀ dddq₀ d k m start span₀
-    other-span₀ i₀ q dq ddq dddq span other-span i =
+Inv-loop curve table whole scale breaks coefficients other-breaks other-coefficients near other-near xs inside order q₀ dq₀ ddq₀ dddq₀
+    d k m start span₀ other-span₀ i₀ q dq ddq dddq span other-span i =
     let s = slices breaks coefficients other-breaks other-coefficients in
     let o₀ = outputs q₀ dq₀ ddq₀ dddq₀ in
     let o = outputs q dq ddq dddq in
@@ -37,8 +37,8 @@ Inv-loop curve table whole scale breaks coefficients other-breaks other-coeffici
     × (o ≡ filled order 0 (λ part. join i (column curve s xs part)) o₀) × Last curve s xs i span other-span
 
 abbrev μ-loop : tie.MeasureT-loop
-μ-loop curve table whole scale breaks coefficients other-breaks other-coefficients near other-near xs inside order q₀ dq₀ ddq₀ dddq₀ d k m start span₀
-    other-span₀ i₀ q dq ddq dddq span other-span i =
+μ-loop curve table whole scale breaks coefficients other-breaks other-coefficients near other-near xs inside order q₀ dq₀ ddq₀ dddq₀
+    d k m start span₀ other-span₀ i₀ q dq ddq dddq span other-span i =
     length xs - i
 
 abbrev Start : Type 0
