@@ -1,0 +1,345 @@
+//! A curve that the library built, and the calls of the library. Every `unsafe` block of the crate is here.
+
+use crate::config::{
+    MAX_AXES, MAX_REFINEMENTS, OutOfRangeMode, SmoothingConfig, SmoothingReport, SmoothingTolerance,
+};
+use crate::error::PathError;
+use crate::ffi;
+
+/// The curve of an accepted request. Its fields are private to this module, `build` alone makes one, and nothing
+/// changes one: so it is what `build` promises, a well-formed curve.
+#[derive(Clone, Debug)]
+pub(crate) struct Curve {
+    d: usize,
+    /// How many axes are smoothed.
+    k: usize,
+    /// The smoothed axes, 0 behind the k-th.
+    axes: [usize; MAX_AXES],
+    start: f64,
+    end: f64,
+    mode: OutOfRangeMode,
+    smoothed: Set,
+    other: Set,
+}
+
+/// The breaks and coefficients of the smoothed axes, or of the others.
+#[derive(Clone, Debug)]
+struct Set {
+    breaks: Vec<f64>,
+    coefficients: Vec<f64>,
+}
+
+/// A call of a library's function whose first arguments are the curve's numbers and slices.
+macro_rules! of_curve {
+    ($function:ident, $curve:expr, $($rest:expr),* $(,)?) => {
+        ffi::$function(
+            $curve.d,
+            $curve.k,
+            &$curve.axes,
+            $curve.start,
+            $curve.end,
+            matches!($curve.mode, OutOfRangeMode::Clamp),
+            $curve.smoothed.segments(),
+            $curve.other.segments(),
+            $curve.smoothed.breaks.as_ptr(),
+            $curve.smoothed.breaks.len(),
+            $curve.smoothed.coefficients.as_ptr(),
+            $curve.smoothed.coefficients.len(),
+            $curve.other.breaks.as_ptr(),
+            $curve.other.breaks.len(),
+            $curve.other.coefficients.as_ptr(),
+            $curve.other.coefficients.len(),
+            $($rest),*
+        )
+    };
+}
+
+impl Set {
+    fn segments(&self) -> usize {
+        self.breaks.len().saturating_sub(1)
+    }
+
+    /// The used cells of a set with so many segments, each of so many axes; none if the slices do not hold them.
+    fn used(breaks: &[f64], coefficients: &[f64], segments: usize, axes: usize) -> Option<Self> {
+        let count = if segments == 0 {
+            0
+        } else {
+            segments.checked_add(1)?
+        };
+        let cells = axes.checked_mul(6)?.checked_mul(segments)?;
+        Some(Self {
+            breaks: breaks.get(..count)?.to_vec(),
+            coefficients: coefficients.get(..cells)?.to_vec(),
+        })
+    }
+}
+
+/// The cells that a build needs: work, breaks, coefficients, other breaks, other coefficients, errors.
+fn room(d: usize, n: usize, max_segments: usize) -> Result<[usize; 6], PathError> {
+    let mut room = [0; 6];
+    // SAFETY: the function has no precondition but that its pointer is to six numbers, which are lent for the call.
+    match unsafe { ffi::pamitoye_room(d, n, max_segments, &mut room) } {
+        0 => Ok(room),
+        number => Err(PathError::of_request(number, f64::NAN)),
+    }
+}
+
+/// As many orders as slices are given, from the value up, and four slices, empty ones behind those given.
+fn orders<'a>(out: &'a mut [&mut [f64]]) -> (usize, [&'a mut [f64]; 4]) {
+    let count = out.len();
+    let mut slices: [&mut [f64]; 4] = Default::default();
+    for (slice, given) in slices.iter_mut().zip(out) {
+        *slice = given;
+    }
+    (count, slices)
+}
+
+impl Curve {
+    /// The library's `build`. Sizes above the domain are refused before anything is allocated.
+    pub(crate) fn build(
+        points: &[f64],
+        (d, n): (usize, usize),
+        config: &SmoothingConfig,
+    ) -> Result<(Self, SmoothingReport), PathError> {
+        if config.max_refinements > MAX_REFINEMENTS {
+            return Err(PathError::AboveDomain);
+        }
+        let room = room(d, n, config.max_segments)?;
+        if d.checked_mul(n) != Some(points.len()) {
+            return Err(PathError::PointCells);
+        }
+        let [
+            mut work,
+            mut breaks,
+            mut coefficients,
+            mut other_breaks,
+            mut other_coefficients,
+            mut errors,
+        ] = room.map(|cells| vec![0.; cells]);
+        let axis_list = config.axes.as_deref();
+        let axes_given = axis_list.unwrap_or_default();
+        let (uniform, tolerance, tolerances) = match &config.tolerance {
+            SmoothingTolerance::Uniform(tolerance) => (true, *tolerance, &[][..]),
+            SmoothingTolerance::PerAxis(list) => (false, 0., list.as_slice()),
+        };
+        let parameter_list = config.parameters.as_deref();
+        let parameters = parameter_list.unwrap_or_default();
+        let mode = config.out_of_range_mode;
+        let mut counts = [0; 5];
+        let (mut ratio, mut start, mut end) = (f64::NAN, f64::NAN, f64::NAN);
+        let (mut k, mut axes) = (0, [0; MAX_AXES]);
+        // SAFETY: the function has no precondition: it refuses what it cannot take. Each pointer with its count is a
+        // slice that is borrowed for the call, those to be written are borrowed alone, and the single cells are those
+        // of the types that the function names.
+        let number = unsafe {
+            ffi::pamitoye_build(
+                points.as_ptr(),
+                points.len(),
+                d,
+                n,
+                axis_list.is_none(),
+                axes_given.as_ptr(),
+                axes_given.len(),
+                uniform,
+                tolerance,
+                tolerances.as_ptr(),
+                tolerances.len(),
+                parameter_list.is_none(),
+                parameters.as_ptr(),
+                parameters.len(),
+                config.max_refinements,
+                config.max_segments,
+                matches!(mode, OutOfRangeMode::Clamp),
+                work.as_mut_ptr(),
+                work.len(),
+                breaks.as_mut_ptr(),
+                breaks.len(),
+                coefficients.as_mut_ptr(),
+                coefficients.len(),
+                other_breaks.as_mut_ptr(),
+                other_breaks.len(),
+                other_coefficients.as_mut_ptr(),
+                other_coefficients.len(),
+                errors.as_mut_ptr(),
+                errors.len(),
+                &mut counts,
+                &mut ratio,
+                &mut k,
+                &mut axes,
+                &mut start,
+                &mut end,
+            )
+        };
+        if number != 0 {
+            return Err(PathError::of_request(number, ratio));
+        }
+        let [segments, others, refinements, fitting_rows, checked] = counts;
+        // What `build` promises lets none of these fail.
+        let kept = || {
+            let curve = Self {
+                d,
+                k,
+                axes,
+                start,
+                end,
+                mode,
+                smoothed: Set::used(&breaks, &coefficients, segments, k)?,
+                other: Set::used(
+                    &other_breaks,
+                    &other_coefficients,
+                    others,
+                    d.checked_sub(k)?,
+                )?,
+            };
+            let report = SmoothingReport {
+                axes: axes.get(..k)?.to_vec(),
+                segments,
+                interpolated_segments: others,
+                refinements,
+                fitting_rows,
+                checked_intervals: checked,
+                max_errors: errors.get(..k)?.to_vec(),
+            };
+            Some((curve, report))
+        };
+        kept().ok_or(PathError::Malformed)
+    }
+
+    pub(crate) fn dim(&self) -> usize {
+        self.d
+    }
+
+    pub(crate) fn range(&self) -> (f64, f64) {
+        (self.start, self.end)
+    }
+
+    pub(crate) fn mode(&self) -> OutOfRangeMode {
+        self.mode
+    }
+
+    /// The breaks and coefficients of the smoothed axes.
+    pub(crate) fn smoothed(&self) -> (&[f64], &[f64]) {
+        (&self.smoothed.breaks, &self.smoothed.coefficients)
+    }
+
+    /// The breaks and coefficients of the other axes.
+    pub(crate) fn other(&self) -> (&[f64], &[f64]) {
+        (&self.other.breaks, &self.other.coefficients)
+    }
+
+    fn outside(&self, index: usize, value: f64) -> PathError {
+        PathError::OutOfRangeS {
+            s_min: self.start,
+            s_max: self.end,
+            index,
+            value,
+        }
+    }
+
+    /// The refusal of a query with this number.
+    fn refused(&self, number: u64, index: usize, value: f64) -> PathError {
+        match number {
+            22 => self.outside(index, value),
+            23 => PathError::OrderAboveThree,
+            other => PathError::of_request(other, f64::NAN),
+        }
+    }
+
+    /// One query. As many orders are asked as slices are given.
+    pub(crate) fn evaluate(&self, x: f64, out: &mut [&mut [f64]]) -> Result<(), PathError> {
+        let (count, [q, dq, ddq, dddq]) = orders(out);
+        let Some(order) = count.checked_sub(1) else {
+            return Ok(());
+        };
+        // SAFETY: the function's precondition is that the curve is well formed, and this one is: see `Curve`. Each
+        // pointer with its count is a slice that is borrowed for the call, those to be written are borrowed alone.
+        let number = unsafe {
+            of_curve!(
+                pamitoye_evaluate_formed,
+                self,
+                x,
+                order,
+                q.as_mut_ptr(),
+                q.len(),
+                dq.as_mut_ptr(),
+                dq.len(),
+                ddq.as_mut_ptr(),
+                ddq.len(),
+                dddq.as_mut_ptr(),
+                dddq.len(),
+            )
+        };
+        match number {
+            0 => Ok(()),
+            number => Err(self.refused(number, 0, x)),
+        }
+    }
+
+    /// Many queries. As many orders are asked as slices are given.
+    pub(crate) fn evaluate_all(&self, xs: &[f64], out: &mut [&mut [f64]]) -> Result<(), PathError> {
+        let (count, [q, dq, ddq, dddq]) = orders(out);
+        let Some(order) = count.checked_sub(1) else {
+            return Ok(());
+        };
+        let mut refused_at = 0;
+        // SAFETY: as in `evaluate`; the place of a refused parameter is a cell of the type that the function names.
+        let number = unsafe {
+            of_curve!(
+                pamitoye_evaluate_all_formed,
+                self,
+                xs.as_ptr(),
+                xs.len(),
+                order,
+                q.as_mut_ptr(),
+                q.len(),
+                dq.as_mut_ptr(),
+                dq.len(),
+                ddq.as_mut_ptr(),
+                ddq.len(),
+                dddq.as_mut_ptr(),
+                dddq.len(),
+                &mut refused_at,
+            )
+        };
+        match number {
+            0 => Ok(()),
+            number => {
+                let value = xs.get(refused_at).copied().unwrap_or(f64::NAN);
+                Err(self.refused(number, refused_at, value))
+            }
+        }
+    }
+
+    /// The certified figure of an axis against the line through these points, if there is one.
+    pub(crate) fn certify(
+        &self,
+        axis: usize,
+        points: &[f64],
+        parameter_list: Option<&[f64]>,
+    ) -> Result<Option<f64>, PathError> {
+        let n = points.len().checked_div(self.d).unwrap_or(0);
+        let parameters = parameter_list.unwrap_or_default();
+        let (mut given, mut figure) = (false, f64::NAN);
+        // SAFETY: the function has no precondition: it refuses what it cannot take. Each pointer with its count is a
+        // slice that is borrowed for the call, and the two cells to be written are of the types that it names.
+        let number = unsafe {
+            of_curve!(
+                pamitoye_certify,
+                self,
+                points.as_ptr(),
+                points.len(),
+                n,
+                parameter_list.is_none(),
+                parameters.as_ptr(),
+                parameters.len(),
+                axis,
+                &mut given,
+                &mut figure,
+            )
+        };
+        match number {
+            0 => Ok(given.then_some(figure)),
+            number => Err(PathError::of_certificate(number)),
+        }
+    }
+}

@@ -1,0 +1,225 @@
+//! What is refused, with its number and its words.
+
+use std::fmt;
+
+/// Why a request or a query was turned away. Each case has the number that the library gives it, see
+/// [`number`](PathError::number).
+///
+/// copp has one case for every failed construction, with a text. Here each reason is a case of its own;
+/// [`OutOfRangeS`](PathError::OutOfRangeS) has copp's name and fields.
+#[derive(Clone, Copy, Debug, PartialEq)]
+#[non_exhaustive]
+pub enum PathError {
+    /// 1: no axis, fewer than two waypoints, or a coordinate that is not finite.
+    BadPoints,
+    /// 2: axes are listed, and the list is empty.
+    NoAxes,
+    /// 3: a listed axis is repeated, or there is no such axis.
+    BadAxes,
+    /// 3, when certifying: the axis is not one of the smoothed axes.
+    NotSelected,
+    /// 4: not one tolerance for each smoothed axis, or one that is not finite and above 0.
+    BadTolerance,
+    /// 5: parameters of a wrong count, not finite or not strictly rising.
+    BadParameters,
+    /// 6: the parameters' range is not finite, or they no longer rise once they are normalised.
+    BadRange,
+    /// 7: a coordinate's distance from the first one, over its tolerance, is not finite.
+    Overflow,
+    /// 8: the first knots already need more than `max_segments` segments.
+    InitialSegments,
+    /// 9: a diagonal's root in the band system is not finite or not above 0.
+    BadDiagonal,
+    /// 10: a pivot in the band system is not finite or not above 0.
+    BadPivot,
+    /// 11: a solution of the band system is not finite.
+    BadSolution,
+    /// 12: in the audit the right end of a piece is not above its left one. No request ends so.
+    NotAbove,
+    /// 13: an error bound is not finite.
+    NotFinite,
+    /// 14: `max_refinements` rounds were not enough.
+    RefinementsUsedUp {
+        /// The worst ratio of error to tolerance that was left.
+        ratio: f64,
+    },
+    /// 15: the next round needs more than `max_segments` segments.
+    SegmentsUsedUp,
+    /// 16: the middle of a segment is not strictly inside it.
+    BadMidpoint,
+    /// 17: the final error is above the tolerance.
+    ErrorAboveTolerance,
+    /// 18: more axes, waypoints, segments or refinements than the library takes.
+    AboveDomain,
+    /// 19: a result slice is too short, or there is no memory for one.
+    ShortSlice,
+    /// 20: the count of coordinates differs from axes times waypoints.
+    PointCells,
+    /// 22: a parameter is outside the range in mode `Error`, or a NaN in any mode.
+    OutOfRangeS {
+        /// The lower end of the range.
+        s_min: f64,
+        /// The upper end of the range.
+        s_max: f64,
+        /// The place of the first refused parameter.
+        index: usize,
+        /// That parameter.
+        value: f64,
+    },
+    /// 23: a derivative above the third is asked for.
+    OrderAboveThree,
+    /// 24: the curve is not well formed. An accepted request's curve always is.
+    Malformed,
+    /// A number that this crate does not know: the archive is of another version.
+    Unknown(u64),
+}
+
+impl PathError {
+    /// The refusal's number.
+    pub fn number(&self) -> u64 {
+        match *self {
+            Self::BadPoints => 1,
+            Self::NoAxes => 2,
+            Self::BadAxes | Self::NotSelected => 3,
+            Self::BadTolerance => 4,
+            Self::BadParameters => 5,
+            Self::BadRange => 6,
+            Self::Overflow => 7,
+            Self::InitialSegments => 8,
+            Self::BadDiagonal => 9,
+            Self::BadPivot => 10,
+            Self::BadSolution => 11,
+            Self::NotAbove => 12,
+            Self::NotFinite => 13,
+            Self::RefinementsUsedUp { .. } => 14,
+            Self::SegmentsUsedUp => 15,
+            Self::BadMidpoint => 16,
+            Self::ErrorAboveTolerance => 17,
+            Self::AboveDomain => 18,
+            Self::ShortSlice => 19,
+            Self::PointCells => 20,
+            Self::OutOfRangeS { .. } => 22,
+            Self::OrderAboveThree => 23,
+            Self::Malformed => 24,
+            Self::Unknown(number) => number,
+        }
+    }
+
+    /// The refusal of a request with this number. `ratio` is looked at for 14 alone.
+    pub(crate) fn of_request(number: u64, ratio: f64) -> Self {
+        match number {
+            1 => Self::BadPoints,
+            2 => Self::NoAxes,
+            3 => Self::BadAxes,
+            4 => Self::BadTolerance,
+            5 => Self::BadParameters,
+            6 => Self::BadRange,
+            7 => Self::Overflow,
+            8 => Self::InitialSegments,
+            9 => Self::BadDiagonal,
+            10 => Self::BadPivot,
+            11 => Self::BadSolution,
+            12 => Self::NotAbove,
+            13 => Self::NotFinite,
+            14 => Self::RefinementsUsedUp { ratio },
+            15 => Self::SegmentsUsedUp,
+            16 => Self::BadMidpoint,
+            17 => Self::ErrorAboveTolerance,
+            18 => Self::AboveDomain,
+            19 => Self::ShortSlice,
+            20 => Self::PointCells,
+            24 => Self::Malformed,
+            other => Self::Unknown(other),
+        }
+    }
+
+    /// The refusal with this number of a curve that is to be certified.
+    pub(crate) fn of_certificate(number: u64) -> Self {
+        match number {
+            3 => Self::NotSelected,
+            other => Self::of_request(other, f64::NAN),
+        }
+    }
+}
+
+impl fmt::Display for PathError {
+    fn fmt(&self, f: &mut fmt::Formatter<'_>) -> fmt::Result {
+        let words = match *self {
+            Self::BadPoints => "at least one axis, two waypoints and finite coordinates are needed",
+            Self::NoAxes => "the list of axes is empty",
+            Self::BadAxes => "a listed axis is repeated or does not exist",
+            Self::NotSelected => "the axis is not one of the smoothed axes",
+            Self::BadTolerance => "each smoothed axis needs a tolerance that is finite and above 0",
+            Self::BadParameters => {
+                "the parameters must be finite, rise strictly and be as many as the waypoints"
+            }
+            Self::BadRange => {
+                "the parameters' range is too wide, or some are too close together for it"
+            }
+            Self::Overflow => "a coordinate is too large for its tolerance",
+            Self::InitialSegments => "the first knots need more segments than are allowed",
+            Self::BadDiagonal => "the knots do not determine the curve: a diagonal is not above 0",
+            Self::BadPivot => "the knots do not determine the curve: a pivot is not above 0",
+            Self::BadSolution => "a coefficient of the curve is not finite",
+            Self::NotAbove => "the parameters are too close together to be audited",
+            Self::NotFinite => "an error bound is not finite",
+            Self::RefinementsUsedUp { ratio } => {
+                return write!(
+                    f,
+                    "the refinements are used up; error / tolerance is still {ratio}"
+                );
+            }
+            Self::SegmentsUsedUp => "a refinement needs more segments than are allowed",
+            Self::BadMidpoint => "a segment is too short to be halved",
+            Self::ErrorAboveTolerance => "the final error is above the tolerance",
+            Self::AboveDomain => {
+                return write!(
+                    f,
+                    "at most {} axes, {} waypoints, {} segments and {} refinements are taken",
+                    crate::MAX_AXES,
+                    crate::MAX_WAYPOINTS,
+                    crate::MAX_SEGMENTS,
+                    crate::MAX_REFINEMENTS
+                );
+            }
+            Self::ShortSlice => "a result slice is too short, or there is no memory for it",
+            Self::PointCells => "the count of coordinates is not axes times waypoints",
+            Self::OutOfRangeS {
+                s_min,
+                s_max,
+                index,
+                value,
+            } => {
+                return write!(
+                    f,
+                    "parameter {value} at place {index} is not within {s_min} to {s_max}"
+                );
+            }
+            Self::OrderAboveThree => "only a value and three derivatives can be asked for",
+            Self::Malformed => "the curve is not well formed",
+            Self::Unknown(number) => {
+                return write!(f, "the library refused with the unknown number {number}");
+            }
+        };
+        f.write_str(words)
+    }
+}
+
+impl std::error::Error for PathError {}
+
+#[cfg(test)]
+mod tests {
+    use super::*;
+
+    #[test]
+    fn a_number_names_its_case() {
+        for number in (1..=20).chain([24, 77]) {
+            assert_eq!(PathError::of_request(number, 2.5).number(), number);
+            assert_eq!(PathError::of_certificate(number).number(), number);
+        }
+        let used_up = PathError::of_request(14, 2.5);
+        assert_eq!(used_up, PathError::RefinementsUsedUp { ratio: 2.5 });
+        assert_eq!(PathError::of_certificate(3), PathError::NotSelected);
+        assert!(used_up.to_string().ends_with("2.5"));
+    }
+}
