@@ -1,6 +1,6 @@
 //! Writes the text that is compiled: the source file, byte for byte, with
 //! `src/appendix.rs` after it, and a one-line file that loads it as a module.
-//! `../bench` builds with the same text, and one appendix more.
+//! `../bench` and `../bindings/rust/compare` build with the same text, and one appendix more.
 
 use std::path::{Path, PathBuf};
 use std::{env, fs};
@@ -14,9 +14,15 @@ fn main() {
 
 /// The source file with these files after it.
 pub fn compile(appendices: &[&str]) {
+    compile_from(DEFAULT_SOURCE, appendices);
+}
+
+/// The same where the source file's place, unless `SMOOTHING_RS` names one, is another; all are relative to the folder
+/// of the crate that is built.
+pub fn compile_from(place: &str, appendices: &[&str]) {
     let here = PathBuf::from(env::var("CARGO_MANIFEST_DIR").unwrap());
     let out = PathBuf::from(env::var("OUT_DIR").unwrap());
-    let source = here.join(env::var("SMOOTHING_RS").unwrap_or(DEFAULT_SOURCE.to_string()));
+    let source = here.join(env::var("SMOOTHING_RS").unwrap_or(place.to_string()));
 
     let mut text = read(&source);
     for appendix in appendices {
