@@ -1,0 +1,216 @@
+//! The command line.
+
+use pamitoye::{OutOfRangeMode, SmoothingConfig, SmoothingTolerance};
+use std::ffi::OsString;
+use std::path::PathBuf;
+
+const HELP: &str = "\
+smooth: waypoints from a CSV file, smoothed into quintic segments within a tolerance
+
+usage: smooth [OPTIONS] [FILE]
+
+FILE has a line for each waypoint and a column for each axis, parted by commas, semicolons or tabs. A first line
+without a number is a header; blank lines and lines that begin with # are passed over. Without FILE, or with -,
+standard input is read.
+
+  -t, --tolerance X[,Y..]  how far an axis may lie from its line: one for all, or one for each smoothed axis (0.001)
+  -a, --axes A[,B..]       the columns to smooth, by header or by number from 1 (all); the others pass through
+                           every waypoint
+  -p, --parameters COLUMN  the column with the parameters, strictly rising (even from 0 to 1)
+      --max-refinements N  rounds of refinement, 200 at most (20)
+      --max-segments N     segments of the smoothed axes, 20000 at most (20000)
+      --segments FILE      writes the segments as CSV: axis, set, segment, left and right break, p0 to p5
+      --samples FILE       writes values and three derivatives as CSV
+      --count N            how many samples (201)
+      --from X, --to X     the samples' range (that of the parameters)
+      --mode error|clamp   samples outside that of the parameters: refused, or answered as at the nearer end (error)
+      --picture FILE       writes a picture as SVG: waypoints, curve, tolerance, and the distance between curve and line
+  -h, --help               prints this
+
+Of a segment: u = (parameter - first) / (last - first), v = (u - left) / (right - left), value = p0 + p1 v + .. + p5 v^5.
+
+examples:
+  smooth --tolerance 0.05 lane.csv
+  smooth --tolerance 0.05,0.2 --axes x,z --parameters time --picture lane.svg lane.csv
+  smooth -t 1 --segments segments.csv --samples samples.csv --count 1001 < lane.csv
+
+status: 0 smoothed; 1 refused, with the reason; 2 wrong input, or a file that cannot be read or written
+";
+
+/// What is asked for.
+pub enum Command {
+    Help,
+    Smooth(Box<Options>),
+}
+
+/// The options of a run.
+pub struct Options {
+    /// The file; none for standard input.
+    pub input: Option<PathBuf>,
+    /// Columns by header or number; none for all.
+    pub axes: Option<Vec<String>>,
+    /// The column with the parameters, if there is one.
+    pub parameters: Option<String>,
+    /// Tolerance, limits and mode; axes and parameters come from the table.
+    pub config: SmoothingConfig,
+    pub segments: Option<PathBuf>,
+    pub samples: Option<PathBuf>,
+    pub picture: Option<PathBuf>,
+    pub count: usize,
+    pub from: Option<f64>,
+    pub to: Option<f64>,
+}
+
+impl Options {
+    /// What messages call the input.
+    pub fn input_name(&self) -> String {
+        match &self.input {
+            Some(file) => file.display().to_string(),
+            None => "standard input".to_string(),
+        }
+    }
+}
+
+pub fn help() -> String {
+    HELP.to_string()
+}
+
+/// The most samples.
+const MOST_SAMPLES: usize = 1_000_000;
+
+/// Reads the arguments.
+pub fn read(arguments: impl Iterator<Item = OsString>) -> Result<Command, String> {
+    let mut options = Options {
+        input: None,
+        axes: None,
+        parameters: None,
+        config: SmoothingConfig::default(),
+        segments: None,
+        samples: None,
+        picture: None,
+        count: 201,
+        from: None,
+        to: None,
+    };
+    let mut files = Vec::new();
+    let mut arguments = arguments;
+    while let Some(argument) = arguments.next() {
+        let text = argument.to_string_lossy().into_owned();
+        if text == "-" || !text.starts_with('-') {
+            files.push(argument);
+            continue;
+        }
+        let (name, given) = match text.split_once('=') {
+            Some((name, value)) if name.starts_with("--") => (name, Some(OsString::from(value))),
+            _ => (text.as_str(), None),
+        };
+        if matches!(name, "-h" | "--help") {
+            return Ok(Command::Help);
+        }
+        if !NAMES.contains(&name) {
+            return Err(format!("there is no option {name}; see smooth --help"));
+        }
+        let value = given
+            .or_else(|| arguments.next())
+            .ok_or_else(|| format!("{name} needs a value"))?;
+        set(&mut options, name, value)?;
+    }
+    let mut files = files.into_iter();
+    options.input = files.next().filter(|f| f != "-").map(PathBuf::from);
+    match files.next() {
+        Some(second) => Err(format!(
+            "one file at a time: {} is too many",
+            second.to_string_lossy()
+        )),
+        None => Ok(Command::Smooth(Box::new(options))),
+    }
+}
+
+/// The options that have a value.
+const NAMES: [&str; 15] = [
+    "-t",
+    "--tolerance",
+    "-a",
+    "--axes",
+    "-p",
+    "--parameters",
+    "--max-refinements",
+    "--max-segments",
+    "--segments",
+    "--samples",
+    "--count",
+    "--from",
+    "--to",
+    "--mode",
+    "--picture",
+];
+
+/// Takes one option.
+fn set(options: &mut Options, name: &str, value: OsString) -> Result<(), String> {
+    let text = value.to_string_lossy().into_owned();
+    let config = &mut options.config;
+    match name {
+        "-t" | "--tolerance" => config.tolerance = tolerance(name, &text)?,
+        "-a" | "--axes" => options.axes = Some(list(&text)),
+        "-p" | "--parameters" => options.parameters = Some(text.trim().to_string()),
+        "--max-refinements" => config.max_refinements = whole(name, &text)?,
+        "--max-segments" => config.max_segments = whole(name, &text)?,
+        "--segments" => options.segments = Some(value.into()),
+        "--samples" => options.samples = Some(value.into()),
+        "--picture" => options.picture = Some(value.into()),
+        "--count" => options.count = samples(name, &text)?,
+        "--from" => options.from = Some(finite(name, &text)?),
+        "--to" => options.to = Some(finite(name, &text)?),
+        _ => config.out_of_range_mode = mode(name, &text)?,
+    }
+    Ok(())
+}
+
+fn list(text: &str) -> Vec<String> {
+    text.split(',')
+        .map(|part| part.trim().to_string())
+        .collect()
+}
+
+fn tolerance(name: &str, text: &str) -> Result<SmoothingTolerance, String> {
+    let numbers: Result<Vec<f64>, String> = list(text).iter().map(|x| above(name, x)).collect();
+    let numbers = numbers?;
+    Ok(match numbers.as_slice() {
+        [one] => SmoothingTolerance::Uniform(*one),
+        _ => SmoothingTolerance::PerAxis(numbers),
+    })
+}
+
+fn above(name: &str, text: &str) -> Result<f64, String> {
+    match finite(name, text)? {
+        x if x > 0. => Ok(x),
+        _ => Err(format!("{name}: {text} is not above 0")),
+    }
+}
+
+fn finite(name: &str, text: &str) -> Result<f64, String> {
+    match text.parse::<f64>() {
+        Ok(x) if x.is_finite() => Ok(x),
+        _ => Err(format!("{name}: \"{text}\" is not a finite number")),
+    }
+}
+
+fn whole(name: &str, text: &str) -> Result<usize, String> {
+    text.parse()
+        .map_err(|_| format!("{name}: \"{text}\" is not a whole number"))
+}
+
+fn samples(name: &str, text: &str) -> Result<usize, String> {
+    match whole(name, text)? {
+        count @ 2..=MOST_SAMPLES => Ok(count),
+        _ => Err(format!("{name}: {text} is not from 2 to {MOST_SAMPLES}")),
+    }
+}
+
+fn mode(name: &str, text: &str) -> Result<OutOfRangeMode, String> {
+    match text {
+        "error" => Ok(OutOfRangeMode::Error),
+        "clamp" => Ok(OutOfRangeMode::Clamp),
+        _ => Err(format!("{name}: \"{text}\" is neither error nor clamp")),
+    }
+}

@@ -1,0 +1,107 @@
+//! The curve and the line at many parameters: what a picture draws, and where an axis is furthest from its line.
+
+use crate::lane::Lane;
+use pamitoye::{Path, PathError};
+
+/// About how many parameters are taken, if there are fewer waypoints.
+const SAMPLES: usize = 4000;
+
+/// The curve at parameters on every waypoint interval, its ends included.
+pub struct Sampled {
+    pub parameters: Vec<f64>,
+    /// The waypoint interval of each parameter, and how far in it lies, from 0 to 1.
+    places: Vec<(usize, f64)>,
+    values: Vec<f64>,
+}
+
+impl Sampled {
+    pub fn new(lane: &Lane, path: &Path) -> Result<Self, PathError> {
+        let intervals = lane.n().saturating_sub(1);
+        let steps = SAMPLES.checked_div(intervals).unwrap_or(0).max(2);
+        let (start, end) = path.s_range();
+        let mut places: Vec<(usize, f64)> = (0..intervals)
+            .flat_map(|i| (0..steps).map(move |j| (i, j as f64 / steps as f64)))
+            .collect();
+        places.push((intervals.saturating_sub(1), 1.));
+        let parameters: Vec<f64> = places
+            .iter()
+            .map(|(i, part)| {
+                let (left, right) = (lane.parameter(*i), lane.parameter(i + 1));
+                between(left, right, *part).clamp(start, end)
+            })
+            .collect();
+        let values = path.evaluate_q(&parameters)?.q;
+        Ok(Self {
+            parameters,
+            places,
+            values,
+        })
+    }
+
+    /// An axis's curve.
+    pub fn curve(&self, lane: &Lane, axis: usize) -> Vec<(f64, f64)> {
+        let values = self.values.iter().skip(axis).step_by(lane.d().max(1));
+        self.parameters
+            .iter()
+            .copied()
+            .zip(values.copied())
+            .collect()
+    }
+
+    /// An axis's distance from its line.
+    pub fn distance(&self, lane: &Lane, axis: usize) -> Vec<(f64, f64)> {
+        let curve = self.curve(lane, axis);
+        let places = curve.iter().zip(&self.places);
+        places
+            .map(|((x, value), (i, part))| {
+                let line = between(lane.point(*i, axis), lane.point(i + 1, axis), *part);
+                (*x, (value - line).abs())
+            })
+            .collect()
+    }
+
+    /// Where that distance is largest; none if it is 0 everywhere.
+    pub fn furthest(&self, lane: &Lane, axis: usize) -> Option<Spot> {
+        let distances = self.distance(lane, axis);
+        let mut furthest = None;
+        let mut most = 0.;
+        for ((parameter, distance), (interval, _)) in distances.into_iter().zip(&self.places) {
+            if distance > most && distance.is_finite() {
+                most = distance;
+                furthest = Some(Spot {
+                    parameter,
+                    distance,
+                    interval: *interval,
+                });
+            }
+        }
+        furthest
+    }
+}
+
+/// A place on a lane.
+pub struct Spot {
+    pub parameter: f64,
+    pub distance: f64,
+    pub interval: usize,
+}
+
+impl Spot {
+    /// The lines of the waypoints around it.
+    pub fn between(&self, lane: &Lane) -> Option<String> {
+        let left = lane.lines.get(self.interval)?;
+        let right = lane.lines.get(self.interval + 1)?;
+        Some(format!("between lines {left} and {right}"))
+    }
+}
+
+/// The number so far from `a` to `b`; the ends exactly.
+fn between(a: f64, b: f64, part: f64) -> f64 {
+    if part == 0. {
+        a
+    } else if part == 1. {
+        b
+    } else {
+        a * (1. - part) + b * part
+    }
+}
