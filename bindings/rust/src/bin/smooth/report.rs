@@ -43,10 +43,20 @@ impl Margin {
 
     /// The figure as a part of the tolerance, in percent and rounded up.
     pub fn share(&self) -> String {
-        match self.figure {
-            Some(figure) => format!("{:.1} %", (figure / self.tolerance * 1000.).ceil() / 10.),
-            None => "-".to_string(),
+        let Some(figure) = self.figure else {
+            return "-".to_string();
+        };
+        let percent = (figure / self.tolerance * 1000.).ceil() / 10.;
+        if percent < 1e6 {
+            format!("{percent:.1} %")
+        } else {
+            "over 1000000 %".to_string()
         }
+    }
+
+    /// Whether the tolerance is certified.
+    fn within(&self) -> bool {
+        self.figure.is_some_and(|figure| figure <= self.tolerance)
     }
 }
 
@@ -114,6 +124,13 @@ pub fn accepted(lane: &Lane, path: &Path) -> String {
         );
     }
     text += "\ncertified: no point of the axis lies further from its line than this figure, which is proved.\n";
+    for margin in margins.iter().filter(|margin| !margin.within()) {
+        let name = lane.name_of(margin.axis);
+        let _ = writeln!(
+            text,
+            "{name}: the audit, in rounded numbers, found it within its tolerance; that is not certified"
+        );
+    }
     if let Ok(sampled) = Sampled::new(lane, path) {
         for margin in &margins {
             text += &furthest(lane, &sampled, margin).unwrap_or_default();
