@@ -14,3 +14,9 @@ fn main() {
 fn main() {
     println!("skipped: the source is not at hand");
 }
+
+/// Stands where the comparison would.
+#[cfg(all(test, not(smoothing_source)))]
+#[test]
+#[ignore = "skipped: the source is not at hand, nothing is compared"]
+fn compared_with_the_source() {}
