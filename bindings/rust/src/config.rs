@@ -56,8 +56,7 @@ pub struct SmoothingConfig {
     pub parameters: Option<Vec<f64>>,
     /// How many rounds of refinement are allowed, at most [`MAX_REFINEMENTS`]; 20 unless given.
     pub max_refinements: usize,
-    /// How many segments the smoothed axes may have, at most [`MAX_SEGMENTS`]; 20,000 unless given. The memory that a
-    /// build needs grows with it: see [`Path::from_waypoints_fitting`](crate::Path::from_waypoints_fitting).
+    /// How many segments the smoothed axes may have, at most [`MAX_SEGMENTS`]; 20,000 unless given.
     pub max_segments: usize,
     /// What a query outside the range is answered with; a refusal unless given.
     pub out_of_range_mode: OutOfRangeMode,

@@ -6,6 +6,9 @@ use crate::config::{
 use crate::error::PathError;
 use crate::ffi;
 
+/// The limit on segments that is tried first, or the count of waypoints where that is higher.
+const FIRST_SEGMENTS: usize = 1024;
+
 /// The curve of an accepted request. Its fields are private to this module, `build` alone makes one, and nothing
 /// changes one: so it is what `build` promises, a well-formed curve.
 #[derive(Clone, Debug)]
@@ -96,18 +99,41 @@ fn orders<'a>(out: &'a mut [&mut [f64]]) -> (usize, [&'a mut [f64]; 4]) {
 
 impl Curve {
     /// The library's `build`. Sizes above the domain are refused before anything is allocated.
+    ///
+    /// Room grows with the limit on segments, and most lanes need few. So a lower limit is tried first, and the one asked
+    /// for only if that is refused for want of segments (8, 15): in every other case the answer under both limits is the
+    /// same, which is proved (`higher-limits` in crates/smoothing/proofs/HigherLimits).
     pub(crate) fn build(
         points: &[f64],
         (d, n): (usize, usize),
         config: &SmoothingConfig,
     ) -> Result<(Self, SmoothingReport), PathError> {
+        let most = config.max_segments;
         if config.max_refinements > MAX_REFINEMENTS {
             return Err(PathError::AboveDomain);
         }
-        let room = room(d, n, config.max_segments)?;
+        let all_room = room(d, n, most)?;
         if d.checked_mul(n) != Some(points.len()) {
             return Err(PathError::PointCells);
         }
+        let first = FIRST_SEGMENTS.max(n);
+        if first < most {
+            match Self::build_within(first, room(d, n, first)?, points, (d, n), config) {
+                Err(PathError::InitialSegments | PathError::SegmentsUsedUp) => {}
+                answer => return answer,
+            }
+        }
+        Self::build_within(most, all_room, points, (d, n), config)
+    }
+
+    /// The library's `build` with at most so many segments, in this room.
+    fn build_within(
+        max_segments: usize,
+        room: [usize; 6],
+        points: &[f64],
+        (d, n): (usize, usize),
+        config: &SmoothingConfig,
+    ) -> Result<(Self, SmoothingReport), PathError> {
         let [
             mut work,
             mut breaks,
@@ -148,7 +174,7 @@ impl Curve {
                 parameters.as_ptr(),
                 parameters.len(),
                 config.max_refinements,
-                config.max_segments,
+                max_segments,
                 matches!(mode, OutOfRangeMode::Clamp),
                 work.as_mut_ptr(),
                 work.len(),

@@ -12,7 +12,7 @@ use std::hint::black_box;
 use std::time::Instant;
 
 /// Waves of d axes over n waypoints, with a little noise.
-fn lane(d: usize, n: usize, noise: f64, tolerance: f64) -> Request {
+pub(crate) fn lane(d: usize, n: usize, noise: f64, tolerance: f64) -> Request {
     let mut r = Random::new(5);
     let rows: Vec<Vec<f64>> = (0..d)
         .map(|a| {

@@ -8,7 +8,7 @@ use crate::random::Random;
 use crate::refusal::Refusal;
 use crate::request::{self, Request};
 use crate::sides::{alike, build, same};
-use crate::{known, odd};
+use crate::{known, measure, odd};
 use pamitoye::{OutOfRangeMode, Path, PathDerivatives, PathError};
 
 /// How many requests of each kind were compared.
@@ -276,6 +276,31 @@ fn long_lanes() {
         compare(&mut r, &request, &mut seen);
     }
     println!("{seen:?}");
+}
+
+/// More segments than the crate tries at first, under limits around that and around what is needed.
+#[test]
+fn many_segments() {
+    let (mut r, mut seen) = (Random::new(4), Seen::default());
+    let lanes = [
+        (300, 0., 1e-6, &[0, 2, 20][..]),
+        (200, 0.1, 1e-4, &[1, 3, 20]),
+        (900, 0.1, 1e-2, &[0]),
+    ];
+    for (n, noise, tolerance, refinements) in lanes {
+        let mut request = measure::lane(1, n, noise, tolerance);
+        let needed = reach::build(&request).map_or(0, |built| built.counts[0]);
+        assert!(needed > 1024, "{needed} segments");
+        for limit in [1023, 1024, 1025, needed - 1, needed, 20_000] {
+            for most in refinements {
+                request.config.max_segments = limit;
+                request.config.max_refinements = *most;
+                compare(&mut r, &request, &mut seen);
+            }
+        }
+    }
+    println!("{seen:?}");
+    assert!([8, 14, 15].iter().all(|number| seen.refused[*number] > 0) && seen.accepted > 0);
 }
 
 /// Waypoints so far apart that the end pairs overflow.
