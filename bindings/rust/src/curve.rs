@@ -77,6 +77,47 @@ impl Set {
     }
 }
 
+/// The memory of builds, kept from one to the next. A build without one allocates its own and frees it.
+///
+/// It grows to what the largest build needed so far, and is freed when it is dropped. What it holds does not matter to a
+/// build: the library's contract says what every cell holds after a call, and none depends on what the work cells held
+/// before.
+///
+/// ```
+/// use pamitoye::{Path, SmoothingConfig, Workspace};
+///
+/// let (mut workspace, config) = (Workspace::default(), SmoothingConfig::default());
+/// for height in [1.0, 2.0, 3.0] {
+///     let points = [0.0, height, 0.0];
+///     let path = Path::from_waypoints_fitting_in(&mut workspace, &points, (1, 3), &config)?;
+///     assert_eq!(path.dim(), 1);
+/// }
+/// # Ok::<(), pamitoye::PathError>(())
+/// ```
+#[derive(Debug, Default)]
+pub struct Workspace {
+    /// In the order of `room`.
+    cells: [Vec<f64>; 6],
+}
+
+impl Workspace {
+    /// Slices of these lengths.
+    fn lend(&mut self, room: [usize; 6]) -> [&mut [f64]; 6] {
+        for (cells, needed) in self.cells.iter_mut().zip(room) {
+            if cells.len() < needed {
+                // The old ones are freed first.
+                *cells = Vec::new();
+                *cells = vec![0.; needed];
+            }
+        }
+        let mut room = room.into_iter();
+        self.cells.each_mut().map(|cells| {
+            let needed = room.next().unwrap_or_default();
+            cells.get_mut(..needed).unwrap_or_default()
+        })
+    }
+}
+
 /// The cells that a build needs: work, breaks, coefficients, other breaks, other coefficients, errors.
 fn room(d: usize, n: usize, max_segments: usize) -> Result<[usize; 6], PathError> {
     let mut room = [0; 6];
@@ -104,6 +145,7 @@ impl Curve {
     /// for only if that is refused for want of segments (8, 15): in every other case the answer under both limits is the
     /// same, which is proved (`higher-limits` in crates/smoothing/proofs/HigherLimits).
     pub(crate) fn build(
+        workspace: &mut Workspace,
         points: &[f64],
         (d, n): (usize, usize),
         config: &SmoothingConfig,
@@ -118,30 +160,31 @@ impl Curve {
         }
         let first = FIRST_SEGMENTS.max(n);
         if first < most {
-            match Self::build_within(first, room(d, n, first)?, points, (d, n), config) {
+            let lent = workspace.lend(room(d, n, first)?);
+            match Self::build_within(first, lent, points, (d, n), config) {
                 Err(PathError::InitialSegments | PathError::SegmentsUsedUp) => {}
                 answer => return answer,
             }
         }
-        Self::build_within(most, all_room, points, (d, n), config)
+        Self::build_within(most, workspace.lend(all_room), points, (d, n), config)
     }
 
-    /// The library's `build` with at most so many segments, in this room.
+    /// The library's `build` with at most so many segments, in slices of the lengths that `room` gives for them.
     fn build_within(
         max_segments: usize,
-        room: [usize; 6],
+        lent: [&mut [f64]; 6],
         points: &[f64],
         (d, n): (usize, usize),
         config: &SmoothingConfig,
     ) -> Result<(Self, SmoothingReport), PathError> {
         let [
-            mut work,
-            mut breaks,
-            mut coefficients,
-            mut other_breaks,
-            mut other_coefficients,
-            mut errors,
-        ] = room.map(|cells| vec![0.; cells]);
+            work,
+            breaks,
+            coefficients,
+            other_breaks,
+            other_coefficients,
+            errors,
+        ] = lent;
         let axis_list = config.axes.as_deref();
         let axes_given = axis_list.unwrap_or_default();
         let (uniform, tolerance, tolerances) = match &config.tolerance {
@@ -209,13 +252,8 @@ impl Curve {
                 start,
                 end,
                 mode,
-                smoothed: Set::used(&breaks, &coefficients, segments, k)?,
-                other: Set::used(
-                    &other_breaks,
-                    &other_coefficients,
-                    others,
-                    d.checked_sub(k)?,
-                )?,
+                smoothed: Set::used(breaks, coefficients, segments, k)?,
+                other: Set::used(other_breaks, other_coefficients, others, d.checked_sub(k)?)?,
             };
             let report = SmoothingReport {
                 axes: axes.get(..k)?.to_vec(),

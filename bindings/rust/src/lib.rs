@@ -27,7 +27,7 @@
 //! - Waypoints are a slice and a shape, answers are lists: nalgebra is not needed. Cells lie as in nalgebra's matrices.
 //! - [`PathError`] has a case for each reason, with its [number](PathError::number).
 //! - Sizes above [`MAX_AXES`], [`MAX_WAYPOINTS`], [`MAX_SEGMENTS`] and [`MAX_REFINEMENTS`] are refused.
-//! - New: [`Path::certify`], [`Path::evaluate_into`] and [`Path::evaluate_at`], the breaks and the coefficients.
+//! - New: [`Path::certify`], [`Path::evaluate_into`] and [`Path::evaluate_at`], the breaks and the coefficients, [`Workspace`].
 //!
 //! # What is relied on
 //!
@@ -54,5 +54,6 @@ pub use config::{
     MAX_AXES, MAX_REFINEMENTS, MAX_SEGMENTS, MAX_WAYPOINTS, OutOfRangeMode, SmoothingConfig,
     SmoothingReport, SmoothingTolerance,
 };
+pub use curve::Workspace;
 pub use error::PathError;
 pub use path::{Path, PathDerivatives};

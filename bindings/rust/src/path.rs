@@ -1,7 +1,7 @@
 //! A smoothed path: built, asked, certified.
 
 use crate::config::{OutOfRangeMode, SmoothingConfig, SmoothingReport};
-use crate::curve::Curve;
+use crate::curve::{Curve, Workspace};
 use crate::error::PathError;
 
 /// Values of a path and the derivatives that were asked for, all with respect to the parameter.
@@ -55,7 +55,7 @@ impl Path {
     /// Work cells of 8 bytes, (E + 16)·(16d + 32), are allocated for the time of the build, E the larger of the
     /// waypoints and 1,024: 0.4 MB for d 1, 2.4 MB for d 16. If the curve needs more segments than E, the build is
     /// repeated with [`max_segments`](SmoothingConfig::max_segments) in E's place: 7.7 and 46 MB for 20,000. The path
-    /// itself keeps only what it uses.
+    /// itself keeps only what it uses. Who builds many paths may keep the memory in a [`Workspace`].
     ///
     /// # Errors
     ///
@@ -78,7 +78,21 @@ impl Path {
         shape: (usize, usize),
         config: SmoothingConfig,
     ) -> Result<Self, PathError> {
-        let (curve, report) = Curve::build(points, shape, &config)?;
+        Self::from_waypoints_fitting_in(&mut Workspace::default(), points, shape, &config)
+    }
+
+    /// [`from_waypoints_fitting`](Path::from_waypoints_fitting) with memory that is kept from one build to the next.
+    ///
+    /// # Errors
+    ///
+    /// As [`from_waypoints_fitting`](Path::from_waypoints_fitting).
+    pub fn from_waypoints_fitting_in(
+        workspace: &mut Workspace,
+        points: &[f64],
+        shape: (usize, usize),
+        config: &SmoothingConfig,
+    ) -> Result<Self, PathError> {
+        let (curve, report) = Curve::build(workspace, points, shape, config)?;
         Ok(Self { curve, report })
     }
 

@@ -6,8 +6,8 @@ use crate::path::smoothing::reach;
 use crate::path::smoothing::timed;
 use crate::random::{Random, sine};
 use crate::request::Request;
-use crate::sides::{alike, build};
-use pamitoye::Path;
+use crate::sides::{alike, build, build_in};
+use pamitoye::{Path, Workspace};
 use std::hint::black_box;
 use std::time::Instant;
 
@@ -141,50 +141,79 @@ pub fn queries() {
     }
 }
 
-/// The least milliseconds of a call within half a second, and the most bytes alive at a time.
-fn cost<T>(work: impl Fn() -> T) -> (f64, usize) {
-    let (bytes, _) = peak(&work);
-    let (start, mut best) = (Instant::now(), f64::MAX);
-    while start.elapsed().as_millis() < 500 || best == f64::MAX {
-        let begun = Instant::now();
-        black_box(work());
-        best = best.min(begun.elapsed().as_secs_f64() * 1e3);
-    }
-    (best, bytes)
+/// What one side's build costs: the least milliseconds, and the most bytes alive at a time.
+#[derive(Clone, Copy)]
+struct Cost {
+    milliseconds: f64,
+    bytes: usize,
 }
+
+impl std::fmt::Display for Cost {
+    fn fmt(&self, f: &mut std::fmt::Formatter<'_>) -> std::fmt::Result {
+        write!(f, "{:.3} ms, {} KB", self.milliseconds, self.bytes / 1000)
+    }
+}
+
+/// The costs of these, each in its turn, for two seconds and at least five rounds.
+fn costs<const N: usize>(mut work: [&mut dyn FnMut() -> bool; N]) -> [Cost; N] {
+    let mut costs = work.each_mut().map(|work| Cost {
+        milliseconds: f64::MAX,
+        bytes: peak(work).0,
+    });
+    let start = Instant::now();
+    for round in 0.. {
+        if round >= 5 && start.elapsed().as_secs() >= 2 {
+            break;
+        }
+        for (cost, work) in costs.iter_mut().zip(work.iter_mut()) {
+            let begun = Instant::now();
+            black_box(work());
+            let took = begun.elapsed().as_secs_f64() * 1e3;
+            cost.milliseconds = cost.milliseconds.min(took);
+        }
+    }
+    costs
+}
+
+/// Lanes of the table of builds: noise, tolerance, name.
+const LANES: [(f64, f64, &str); 2] = [
+    (0., 8., "straight"),
+    (1e-4, 1e-3, "noise 1e-4, tolerance 1e-3"),
+];
+/// Waypoints and axes.
+const SIZES: [(usize, usize); 6] = [
+    (100, 1),
+    (100, 3),
+    (100, 16),
+    (1000, 3),
+    (20_000, 1),
+    (20_000, 16),
+];
 
 /// The table of builds: time and memory.
 pub fn builds() {
     println!("\nBuilds: milliseconds, and the most bytes alive at a time in thousands\n");
     println!(
-        "| n, d | lane | segments | crate, limit 20,000 | work cells' bytes | crate, limit as made | work cells' bytes | source |"
+        "| n, d | lane | segments | crate | with a kept workspace | limit as made | source | work cells of limit 20,000 |"
     );
     println!("|---|---|---|---|---|---|---|---|");
-    for (noise, tolerance, name) in [
-        (0., 8., "straight"),
-        (1e-4, 1e-3, "noise 1e-4, tolerance 1e-3"),
-    ] {
-        for (n, d) in [
-            (100, 1),
-            (100, 3),
-            (100, 16),
-            (1000, 3),
-            (20_000, 1),
-            (20_000, 16),
-        ] {
-            let mut request = lane(d, n, noise, tolerance);
-            let Ok(built) = reach::build(&request) else {
-                continue;
-            };
-            print!("| {n}, {d} | {name} | {} |", built.counts[0]);
-            for limit in [20_000, built.counts[0]] {
-                request.config.max_segments = limit;
-                let (ms, bytes) = cost(|| build(&request).is_ok());
-                let work = request.room()[0] * 8;
-                print!(" {ms:.3} ms, {} KB | {} KB |", bytes / 1000, work / 1000);
-            }
-            let (ms, bytes) = cost(|| timed::build(&request));
-            println!(" {ms:.3} ms, {} KB |", bytes / 1000);
+    for (noise, tolerance, name) in LANES {
+        for (n, d) in SIZES {
+            let request = lane(d, n, noise, tolerance);
+            let segments = reach::build(&request).map_or(0, |built| built.counts[0]);
+            let as_made = request.clone().with(|q| q.config.max_segments = segments);
+            let mut workspace = Workspace::default();
+            let [plain, kept, made, source] = costs([
+                &mut || build(&request).is_ok(),
+                &mut || build_in(&mut workspace, &request).is_ok(),
+                &mut || build(&as_made).is_ok(),
+                &mut || timed::build(&request) > 0,
+            ]);
+            println!(
+                "| {n}, {d} | {name} | {segments} | {plain} | {:.3} ms | {made} | {source} | {} KB |",
+                kept.milliseconds,
+                request.room()[0] * 8 / 1000
+            );
         }
     }
 }

@@ -3,7 +3,7 @@
 use crate::path;
 use crate::path::smoothing as source;
 use crate::request::Request;
-use pamitoye::{OutOfRangeMode, Path, PathError, SmoothingConfig, SmoothingTolerance};
+use pamitoye::{OutOfRangeMode, Path, PathError, SmoothingConfig, SmoothingTolerance, Workspace};
 
 /// The same bits, or both a NaN.
 pub fn same(a: f64, b: f64) -> bool {
@@ -37,4 +37,10 @@ pub fn config(config: &source::SmoothingConfig) -> SmoothingConfig {
 pub fn build(request: &Request) -> Result<Path, PathError> {
     let shape = (request.d, request.n);
     Path::from_waypoints_fitting(&request.points, shape, config(&request.config))
+}
+
+/// The same with memory that is kept.
+pub fn build_in(workspace: &mut Workspace, request: &Request) -> Result<Path, PathError> {
+    let (shape, config) = ((request.d, request.n), config(&request.config));
+    Path::from_waypoints_fitting_in(workspace, &request.points, shape, &config)
 }

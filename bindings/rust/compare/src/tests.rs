@@ -7,18 +7,37 @@ use crate::path::smoothing::reach::{self, Built};
 use crate::random::Random;
 use crate::refusal::Refusal;
 use crate::request::{self, Request};
-use crate::sides::{alike, build, same};
+use crate::sides::{alike, build, build_in, same};
 use crate::{known, measure, odd};
-use pamitoye::{OutOfRangeMode, Path, PathDerivatives, PathError};
+use pamitoye::{OutOfRangeMode, Path, PathDerivatives, PathError, Workspace};
 
 /// How many requests of each kind were compared.
-#[derive(Debug, Default)]
+#[derive(Default)]
 struct Seen {
     accepted: usize,
     refused: [usize; 25],
     values: usize,
     figures: usize,
     no_figure: usize,
+    /// Half of the requests are built in it, whatever it held before.
+    workspace: Workspace,
+}
+
+impl Seen {
+    fn print(&self) {
+        let Self {
+            accepted,
+            refused,
+            values,
+            figures,
+            no_figure,
+            ..
+        } = self;
+        let refused: Vec<_> = refused.iter().enumerate().filter(|r| *r.1 > 0).collect();
+        println!(
+            "{accepted} accepted, {values} values, {figures} figures, {no_figure} without; refused {refused:?}"
+        );
+    }
 }
 
 /// Document 01's 18 and 20, or the source's answer.
@@ -36,7 +55,12 @@ fn wanted(request: &Request) -> Result<Built, Refusal> {
 
 /// Compares the crate's answer to a request, and to queries and certificates of its curve, with the source's.
 fn compare(r: &mut Random, request: &Request, seen: &mut Seen) {
-    match (build(request), wanted(request)) {
+    let answer = if r.chance(50) {
+        build_in(&mut seen.workspace, request)
+    } else {
+        build(request)
+    };
+    match (answer, wanted(request)) {
         (Ok(path), Ok(built)) => {
             assert!(equal(&path, &built), "{request:?}\n{path:?}\n{built:?}");
             queries(r, &path, &built.curve, seen);
@@ -237,7 +261,7 @@ fn known_requests() {
             assert_eq!(answer, number as u64);
         }
     }
-    println!("{seen:?}");
+    seen.print();
 }
 
 /// Drawn requests, in as many seeds as there are tests below, which run side by side.
@@ -247,7 +271,7 @@ fn drawn(seed: u64, count: usize) {
         let request = odd::request(&mut r);
         compare(&mut r, &request, &mut seen);
     }
-    println!("{seen:?}");
+    seen.print();
     assert!(seen.accepted > count / 3 && seen.figures > count / 3);
     let refused = [
         1, 2, 3, 4, 5, 6, 7, 8, 9, 10, 11, 13, 14, 15, 16, 17, 18, 20,
@@ -267,6 +291,15 @@ fn drawn_requests_2() {
     drawn(2, 1500);
 }
 
+/// Many more, for a run by hand: `cargo test --release --offline -- --ignored`.
+#[test]
+#[ignore = "takes minutes"]
+fn drawn_requests_more() {
+    for seed in 10..30 {
+        drawn(seed, 2000);
+    }
+}
+
 /// Lanes with many waypoints.
 #[test]
 fn long_lanes() {
@@ -275,7 +308,7 @@ fn long_lanes() {
         let request = request::long_lane(&mut r);
         compare(&mut r, &request, &mut seen);
     }
-    println!("{seen:?}");
+    seen.print();
 }
 
 /// More segments than the crate tries at first, under limits around that and around what is needed.
@@ -299,7 +332,7 @@ fn many_segments() {
             }
         }
     }
-    println!("{seen:?}");
+    seen.print();
     assert!([8, 14, 15].iter().all(|number| seen.refused[*number] > 0) && seen.accepted > 0);
 }
 
