@@ -49,11 +49,12 @@ mod error;
 #[allow(unsafe_code)]
 mod ffi;
 mod path;
+mod workspace;
 
 pub use config::{
     MAX_AXES, MAX_REFINEMENTS, MAX_SEGMENTS, MAX_WAYPOINTS, OutOfRangeMode, SmoothingConfig,
     SmoothingReport, SmoothingTolerance,
 };
-pub use curve::Workspace;
 pub use error::PathError;
 pub use path::{Path, PathDerivatives};
+pub use workspace::Workspace;

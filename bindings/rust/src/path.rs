@@ -1,8 +1,9 @@
 //! A smoothed path: built, asked, certified.
 
 use crate::config::{OutOfRangeMode, SmoothingConfig, SmoothingReport};
-use crate::curve::{Curve, Workspace};
+use crate::curve::Curve;
 use crate::error::PathError;
+use crate::workspace::Workspace;
 
 /// Values of a path and the derivatives that were asked for, all with respect to the parameter.
 ///
