@@ -3,16 +3,20 @@
 use crate::case::{ALL_AXES, AXIS_WORDS, Case, Curve, Kind, Pieces, Row, unpack};
 use crate::certificate::{Certificate, Question};
 use crate::diag::PathError;
+use crate::handed::HandedCurve;
 use crate::path::OutOfRangeMode;
 use crate::path::smoothing::{SmoothingConfig, SmoothingTolerance, reach};
+use crate::query::{Queries, Told};
 use crate::refusal::Refusal;
 use crate::request::Request;
 use std::fmt::Write;
 
-/// What a case is answered with: whole numbers, then cells; a figure or none; or a refusal.
+/// What a case is answered with: whole numbers, then cells; a figure or none; queries one after the
+/// other; or a refusal.
 pub enum Answer {
     Given(Vec<usize>, Vec<f64>),
     Figure(Option<f64>),
+    Queried(Vec<Told>),
     Refused(Refusal),
 }
 
@@ -21,6 +25,10 @@ impl Answer {
     pub fn line(&self, kind: Kind) -> String {
         let mut line = kind.name().to_string();
         let (whole, cells) = match self {
+            Self::Queried(list) => {
+                list.iter().for_each(|told| add(&mut line, told));
+                return line;
+            }
             Self::Given(whole, cells) => (whole, cells),
             Self::Figure(figure) => {
                 line.push_str(if figure.is_some() { " figure" } else { " none" });
@@ -34,10 +42,7 @@ impl Answer {
         for v in whole {
             write!(line, " {v}").unwrap();
         }
-        for v in cells {
-            line.push(' ');
-            line.push_str(&digits(*v));
-        }
+        add_cells(&mut line, cells);
         line
     }
 
@@ -47,6 +52,24 @@ impl Answer {
             Ok((whole, cells)) => Self::Given(whole, cells),
             Err(e) => Self::Refused(e.into()),
         }
+    }
+}
+
+/// A call's refusal, with the place of the query where it tells one, and the cells of its slices.
+fn add(line: &mut String, told: &Told) {
+    if let Some((number, place)) = told.refused {
+        write!(line, " refused {number}").unwrap();
+        if let Some(place) = place {
+            write!(line, " {place}").unwrap();
+        }
+    }
+    add_cells(line, &told.cells);
+}
+
+fn add_cells(line: &mut String, cells: &[f64]) {
+    for v in cells {
+        line.push(' ');
+        line.push_str(&digits(*v));
     }
 }
 
@@ -139,6 +162,9 @@ pub fn answer(case: &Case) -> Result<Answer, String> {
         Kind::Regions => regions(input),
         Kind::Build => build(input),
         Kind::Evaluate => evaluate(input),
+        Kind::Query => queries(input, Kind::Query),
+        Kind::Queries => queries(input, Kind::Queries),
+        Kind::Reader => queries(input, Kind::Reader),
         Kind::Certify => certify(input),
     }
     .map_err(|e| format!("{}: {e}", case.kind.name()))
@@ -442,15 +468,18 @@ fn pieces(input: &mut Input, segments: usize, axes: usize) -> Result<Pieces, Str
     })
 }
 
-fn certify(mut input: Input) -> Result<Answer, String> {
-    let [d, k, segments, other_segments, n, rest @ ..] = input.whole::<16>()?;
-    let [w0, w1, w2, w3, counts @ .., word] = rest;
-    let (axis, mode) = (word % 256, word / 256);
-    require(mode <= 1, || format!("parameter mode {mode}"))?;
-    let question = Question {
+/// The curve of a case that takes nothing for granted: its counts, the packed axes and how many cells
+/// each slice has.
+fn handed(
+    input: &mut Input,
+    [d, k, segments, other_segments]: [usize; 4],
+    axes: [usize; AXIS_WORDS],
+    counts: [usize; 4],
+) -> Result<HandedCurve, String> {
+    Ok(HandedCurve {
         d,
         k,
-        axes: unpack(&[w0, w1, w2, w3], k.min(4 * AXIS_WORDS)),
+        axes: unpack(&axes, k.min(4 * AXIS_WORDS)),
         start: input.cell()?,
         end: input.cell()?,
         segments,
@@ -459,10 +488,82 @@ fn certify(mut input: Input) -> Result<Answer, String> {
         coefficients: input.cells(counts[1])?.to_vec(),
         other_breaks: input.cells(counts[2])?.to_vec(),
         other_coefficients: input.cells(counts[3])?.to_vec(),
+    })
+}
+
+fn queries(mut input: Input, kind: Kind) -> Result<Answer, String> {
+    let whole = input.whole::<16>()?;
+    let [
+        d,
+        k,
         n,
-        points: input.cells(counts[4])?.to_vec(),
+        m,
+        w0,
+        w1,
+        w2,
+        w3,
+        c0,
+        c1,
+        c2,
+        c3,
+        orders,
+        mode,
+        lengths,
+        count,
+    ] = whole;
+    require(mode <= 1, || format!("mode {mode}"))?;
+    let four = |word| std::array::from_fn(|i| unpack(&[word, 0, 0, 0], 4)[i]);
+    let queries = Queries {
+        curve: handed(&mut input, [d, k, n, m], [w0, w1, w2, w3], [c0, c1, c2, c3])?,
+        clamp: mode == 1,
+        orders: if kind == Kind::Reader {
+            four(orders)
+        } else {
+            [orders; 4]
+        },
+        lengths: four(lengths),
+        parameters: input.cells(count)?.to_vec(),
+    };
+    input.end()?;
+    match kind {
+        Kind::Query => {
+            require(count == 1, || format!("{count} queries"))?;
+            Ok(Answer::Queried(vec![queries.single()]))
+        }
+        Kind::Queries => Ok(Answer::Queried(vec![queries.all()])),
+        _ => Ok(Answer::Queried(queries.in_turn())),
+    }
+}
+
+fn certify(mut input: Input) -> Result<Answer, String> {
+    let whole = input.whole::<16>()?;
+    let [
+        d,
+        k,
+        segments,
+        others,
+        n,
+        w0,
+        w1,
+        w2,
+        w3,
+        c0,
+        c1,
+        c2,
+        c3,
+        points,
+        parameters,
+        word,
+    ] = whole;
+    let (axis, mode) = (word % 256, word / 256);
+    require(mode <= 1, || format!("parameter mode {mode}"))?;
+    let counts = [d, k, segments, others];
+    let question = Question {
+        curve: handed(&mut input, counts, [w0, w1, w2, w3], [c0, c1, c2, c3])?,
+        n,
+        points: input.cells(points)?.to_vec(),
         listed: mode == 1,
-        parameters: input.cells(counts[5])?.to_vec(),
+        parameters: input.cells(parameters)?.to_vec(),
         axis,
     };
     input.end()?;

@@ -3,6 +3,7 @@
 
 use crate::certificate::Question;
 use crate::path::smoothing::SmoothingTolerance;
+use crate::query::Queries;
 use crate::request::Request;
 
 /// What is asked, with its number in the list.
@@ -34,12 +35,15 @@ pub enum Kind {
     SortDedup = 62,
     Build = 70,
     Evaluate = 80,
+    Query = 81,
+    Queries = 82,
+    Reader = 83,
     Certify = 90,
 }
 
 impl Kind {
     /// Every kind with its name.
-    pub const ALL: [(Kind, &'static str); 27] = [
+    pub const ALL: [(Kind, &'static str); 30] = [
         (Kind::Clear, "clear"),
         (Kind::Copy, "copy"),
         (Kind::Sqrt, "sqrt"),
@@ -66,6 +70,9 @@ impl Kind {
         (Kind::SortDedup, "sort_dedup"),
         (Kind::Build, "build"),
         (Kind::Evaluate, "evaluate"),
+        (Kind::Query, "query"),
+        (Kind::Queries, "queries"),
+        (Kind::Reader, "reader"),
         (Kind::Certify, "certify"),
     ];
 
@@ -305,30 +312,36 @@ impl Case {
     }
 
     pub fn certify(question: &Question) -> Self {
-        let slices = [
-            &question.breaks,
-            &question.coefficients,
-            &question.other_breaks,
-            &question.other_coefficients,
-            &question.points,
-            &question.parameters,
-        ];
-        let counts = [
-            question.d,
-            question.k,
-            question.segments,
-            question.other_segments,
-            question.n,
-        ];
+        let curve = &question.curve;
         let whole = [
-            &counts[..],
-            &pack(&question.axes),
-            &slices.map(Vec::len),
+            &[curve.d, curve.k, curve.segments, curve.other_segments],
+            &[question.n][..],
+            &pack(&curve.axes),
+            &curve.counts(),
+            &[question.points.len(), question.parameters.len()],
             &pack(&[question.axis, usize::from(question.listed)])[..1],
         ];
-        let ends = vec![question.start, question.end];
-        let cells = [&[&ends], &slices[..]].concat();
-        let cells: Vec<_> = cells.into_iter().flatten().copied().collect();
-        Self::new(Kind::Certify, &whole.concat(), &[&cells])
+        let cells = curve.cells();
+        let cells = [&cells[..], &question.points, &question.parameters];
+        Self::new(Kind::Certify, &whole.concat(), &cells)
+    }
+
+    /// `query`, `queries` or `reader`, the last with four orders.
+    pub fn queries(kind: Kind, queries: &Queries) -> Self {
+        let curve = &queries.curve;
+        let orders = match kind {
+            Kind::Reader => pack(&queries.orders)[0],
+            _ => queries.orders[0],
+        };
+        let whole = [
+            &[curve.d, curve.k, curve.segments, curve.other_segments],
+            &pack(&curve.axes)[..],
+            &curve.counts(),
+            &[orders, usize::from(queries.clamp)],
+            &pack(&queries.lengths)[..1],
+            &[queries.parameters.len()],
+        ];
+        let cells = [&curve.cells()[..], &queries.parameters];
+        Self::new(kind, &whole.concat(), &cells)
     }
 }

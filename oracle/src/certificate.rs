@@ -1,24 +1,14 @@
 //! The certified figure, computed straight from document 01 ("The certified figure"). The source
 //! has no such step. Here every waypoint interval is paired with every segment, in plain loops.
 
+use crate::handed::HandedCurve;
 use std::array::from_fn;
 use std::ops::{Add, Div, Mul, Sub};
 
 /// What is to be certified. Nothing is taken for granted: counts and lengths may differ.
 #[derive(Clone, Debug)]
 pub struct Question {
-    pub d: usize,
-    /// How many axes are selected, and the axes; more than 16 cannot be listed.
-    pub k: usize,
-    pub axes: Vec<usize>,
-    pub start: f64,
-    pub end: f64,
-    pub segments: usize,
-    pub other_segments: usize,
-    pub breaks: Vec<f64>,
-    pub coefficients: Vec<f64>,
-    pub other_breaks: Vec<f64>,
-    pub other_coefficients: Vec<f64>,
+    pub curve: HandedCurve,
     pub n: usize,
     pub points: Vec<f64>,
     /// Whether the parameters are listed; otherwise they are even and the list is not read.
@@ -55,7 +45,7 @@ impl Question {
 
     /// "Certifying: 18, 20, 1, 5, 6, 24, 3."
     fn checked(&self) -> Result<Axis, usize> {
-        let (d, n) = (self.d, self.n);
+        let (curve, d, n) = (&self.curve, self.curve.d, self.n);
         refuse(18, d > 16 || n > 20_000)?;
         refuse(20, self.points.len() != d * n)?;
         let finite = self.points.iter().all(|v| v.is_finite());
@@ -71,41 +61,18 @@ impl Question {
         let normalised = |v| (v - parameters[0]) / length;
         let s: Vec<f64> = parameters.iter().map(normalised).collect();
         refuse(6, !length.is_finite() || !rise(&s))?;
-        refuse(24, !self.well_formed())?;
-        let place = self.axes[..self.k].iter().position(|a| *a == self.axis);
+        refuse(24, !curve.well_formed())?;
+        let place = curve.axes[..curve.k].iter().position(|a| *a == self.axis);
         let place = place.ok_or(3usize)?;
-        let rows = self.coefficients.as_chunks().0;
+        let rows = curve.coefficients.as_chunks().0;
         Ok(Axis {
-            breaks: self.breaks.clone(),
-            coefficients: (0..self.segments)
-                .map(|m| rows[m * self.k + place])
+            breaks: curve.breaks.clone(),
+            coefficients: (0..curve.segments)
+                .map(|m| rows[m * curve.k + place])
                 .collect(),
             s,
             y: (0..n).map(|i| self.points[i * d + self.axis]).collect(),
         })
-    }
-
-    /// A curve "is well formed if ..".
-    fn well_formed(&self) -> bool {
-        let (d, k, axes) = (self.d, self.k, &self.axes);
-        if !(1..=16).contains(&d) || !(1..=d).contains(&k) || axes.len() < k {
-            return false;
-        }
-        let length = self.end - self.start;
-        (0..k).all(|i| axes[i] < d && !axes[..i].contains(&axes[i]))
-            && set_formed(k, self.segments, &self.breaks, &self.coefficients)
-            && if k < d {
-                let (breaks, coefficients) = (&self.other_breaks, &self.other_coefficients);
-                set_formed(d - k, self.other_segments, breaks, coefficients)
-            } else {
-                self.other_segments == 0
-                    && self.other_breaks.is_empty()
-                    && self.other_coefficients.is_empty()
-            }
-            && self.start.is_finite()
-            && self.end.is_finite()
-            && length.is_finite()
-            && length > 0.
     }
 }
 
@@ -116,17 +83,6 @@ fn refuse(number: usize, refused: bool) -> Result<(), usize> {
 /// The source's test, which lets a NaN pass.
 fn rise(list: &[f64]) -> bool {
     !list.windows(2).any(|v| v[1] <= v[0])
-}
-
-/// "slice lengths match, each set has at least one and at most 20,000 segments .., breaks rise
-/// strictly from 0 to 1"
-fn set_formed(axes: usize, segments: usize, breaks: &[f64], coefficients: &[f64]) -> bool {
-    (1..=20_000).contains(&segments)
-        && breaks.len() == segments + 1
-        && coefficients.len() == 6 * axes * segments
-        && breaks[0] == 0.
-        && breaks.windows(2).all(|v| v[0] < v[1])
-        && breaks[segments] == 1.
 }
 
 impl Axis {

@@ -6,6 +6,7 @@ mod curves;
 pub mod jobs;
 pub mod known;
 mod leaves;
+mod queries;
 mod splines;
 mod systems;
 
@@ -74,6 +75,9 @@ fn draw(r: &mut Random, kind: Kind) -> Case {
         Kind::Seed => systems::seed(r),
         Kind::Audit => curves::audit(r),
         Kind::Evaluate => curves::evaluate(r),
+        Kind::Query => queries::query(r),
+        Kind::Queries => queries::queries(r),
+        Kind::Reader => queries::reader(r),
         Kind::Certify => certificates::certify(r),
         Kind::Build => builds::build(r),
     }

@@ -5,7 +5,9 @@ use crate::answer::{Answer, answer, digits};
 use crate::case::{Case, Kind};
 use crate::certificate::{Certificate, Question};
 use crate::generate::known;
+use crate::handed::HandedCurve;
 use crate::path::smoothing::{SmoothingTolerance, reach};
+use crate::query::{MARK, Queries, Told};
 use crate::random::{Random, power_of_two};
 use crate::refusal::Refusal;
 use crate::request::{Request, draw};
@@ -216,7 +218,7 @@ fn stored_requests_reach_every_answer() {
                 nan += usize::from(cells.iter().any(|v| v.is_nan()));
             }
             Answer::Refused(refusal) => found[refusal.number] += 1,
-            Answer::Figure(_) => panic!("no answer of this kind"),
+            _ => panic!("no answer of this kind"),
         }
     }
     for (number, count) in found.iter().enumerate() {
@@ -228,17 +230,19 @@ fn stored_requests_reach_every_answer() {
 /// A straight curve of one axis beside another, with a corner of 0.95 between its waypoints.
 fn corner() -> Question {
     Question {
-        d: 2,
-        k: 1,
-        axes: vec![1],
-        start: 0.,
-        end: 1.,
-        segments: 1,
-        other_segments: 1,
-        breaks: vec![0., 1.],
-        coefficients: vec![0.; 6],
-        other_breaks: vec![0., 1.],
-        other_coefficients: vec![0.; 6],
+        curve: HandedCurve {
+            d: 2,
+            k: 1,
+            axes: vec![1],
+            start: 0.,
+            end: 1.,
+            segments: 1,
+            other_segments: 1,
+            breaks: vec![0., 1.],
+            coefficients: vec![0.; 6],
+            other_breaks: vec![0., 1.],
+            other_coefficients: vec![0.; 6],
+        },
         n: 3,
         points: vec![0., 0., 0., 0.95, 0., 0.],
         listed: false,
@@ -261,7 +265,7 @@ fn certifying_checks_in_order() {
     assert_eq!(number(&question), 0);
     question.axis = 0;
     assert_eq!(number(&question), 3);
-    question.breaks[1] = 2.;
+    question.curve.breaks[1] = 2.;
     assert_eq!(number(&question), 24);
     question.listed = true;
     question.parameters = vec![-1e308, 0., 1e308];
@@ -292,13 +296,13 @@ fn figure_is_the_largest_end() {
     assert!(figure_of_zeros > 0. && figure_of_zeros < power_of_two(-1000));
     // The curve's start and end, and its other axes, have no part in it.
     let mut elsewhere = corner();
-    elsewhere.start = -3.;
-    elsewhere.other_coefficients.fill(f64::NAN);
+    elsewhere.curve.start = -3.;
+    elsewhere.curve.other_coefficients.fill(f64::NAN);
     assert_eq!(figure(&elsewhere).to_bits(), at_corner.to_bits());
     // One coefficient that is not finite, or a product that overflows, gives none.
     for v in [f64::NAN, f64::INFINITY, 1e308] {
         let mut none = corner();
-        none.coefficients[5] = v;
+        none.curve.coefficients[5] = v;
         assert!(matches!(none.certify(), Certificate::None));
     }
 }
@@ -312,7 +316,7 @@ fn certify_cases_reach_every_answer() {
             Answer::Figure(Some(_)) => figures += 1,
             Answer::Figure(None) => none += 1,
             Answer::Refused(refusal) => found[refusal.number] += 1,
-            Answer::Given(..) => panic!("no answer of this kind"),
+            _ => panic!("no answer of this kind"),
         }
     }
     for number in [1, 3, 5, 6, 18, 20, 24] {
@@ -324,8 +328,12 @@ fn certify_cases_reach_every_answer() {
 /// Whatever the whole numbers are, there is an answer or a message.
 #[test]
 fn odd_certify_cases_end() {
+    odd_cases_end("certify");
+}
+
+fn odd_cases_end(name: &str) {
     let mut r = Random::new(9);
-    for case in generate::group("certify", 9, 400).unwrap() {
+    for case in generate::group(name, 9, 400).unwrap() {
         for _ in 0..50 {
             let mut odd = case.clone();
             let place = r.below(odd.whole.len());
@@ -346,15 +354,7 @@ fn figure_of_a_built_curve_is_its_error() {
     for row in [[0., 0.95, 0.], [0., 3., -2.], [1., 1.5, 2.]] {
         let built = reach::build(&one_row(&row)).unwrap();
         let question = Question {
-            d: 1,
-            k: 1,
-            axes: vec![0],
-            segments: built.counts[0],
-            other_segments: 0,
-            breaks: built.curve.selected.breaks,
-            coefficients: built.curve.selected.coefficients,
-            other_breaks: Vec::new(),
-            other_coefficients: Vec::new(),
+            curve: built.curve.into(),
             points: row.to_vec(),
             axis: 0,
             ..corner()
@@ -365,6 +365,145 @@ fn figure_of_a_built_curve_is_its_error() {
         let error = built.max_errors[0];
         assert!((figure - error).abs() < 1e-13, "{figure} {error}");
     }
+}
+
+/// One query of a line from 0 to 3 beside a constant 7, over -1 to 2, with marked cells behind.
+fn line_query(x: f64, order: usize, clamp: bool) -> Queries {
+    let mut curve = corner().curve;
+    (curve.start, curve.end) = (-1., 2.);
+    curve.coefficients[1] = 3.;
+    curve.other_coefficients[0] = 7.;
+    Queries {
+        curve,
+        clamp,
+        orders: [order; 4],
+        lengths: [2, 3, 2, 4],
+        parameters: vec![x],
+    }
+}
+
+/// Faults put in one by one, the last to be met first, give "24, 23, 19, 22" from the end.
+#[test]
+fn queries_check_in_order() {
+    let number = |query: &Queries| query.single().refused.map(|v| v.0);
+    let mut query = line_query(2., 1, false);
+    assert_eq!(number(&query), None);
+    query.parameters[0] = 2f64.next_up();
+    assert_eq!(number(&query), Some(22));
+    query.lengths[1] = 1;
+    assert_eq!(number(&query), Some(19));
+    query.orders = [4; 4];
+    assert_eq!(number(&query), Some(23));
+    query.curve.end = -1.;
+    assert_eq!(number(&query), Some(24));
+}
+
+/// A value of 2 and a slope of 1 at 1; outside, the nearer end in mode Clamp, and 22 in mode Error; a NaN
+/// is 22 in both. Cells behind those asked for stay, and on a refusal all.
+#[test]
+fn queries_outside_and_their_cells() {
+    let told = |x, order, clamp| line_query(x, order, clamp).single();
+    let given = |cells: &[f64]| Told {
+        refused: None,
+        cells: cells.to_vec(),
+    };
+    let m = MARK;
+    let slices = |value: f64| given(&[7., value, 0., 1., m, m, m, m, m, m, m]);
+    assert_eq!(told(1., 1, false), slices(2.));
+    for (x, value) in [
+        (f64::NEG_INFINITY, 0.),
+        (-1.5, 0.),
+        (2.5, 3.),
+        (f64::MAX, 3.),
+    ] {
+        assert_eq!(told(x, 1, true), slices(value));
+    }
+    let values = given(&[7., 2., m, m, m, m, m, m, m, m, m]);
+    assert_eq!(told(1., 0, false), values);
+    let refused = Told {
+        refused: Some((22, None)),
+        cells: vec![m; 11],
+    };
+    for (x, clamp) in [
+        (-1.5, false),
+        (f64::INFINITY, false),
+        (f64::NAN, false),
+        (f64::NAN, true),
+    ] {
+        assert_eq!(told(x, 1, clamp), refused);
+    }
+}
+
+/// Many in one call: the first that is refused gives the place; otherwise each as a single query.
+#[test]
+fn many_queries_are_single_ones() {
+    let mut many = line_query(0., 1, false);
+    many.lengths = [6; 4];
+    many.parameters = vec![0., 3., f64::NAN];
+    assert_eq!(many.all().refused, Some((22, Some(1))));
+    many.parameters[1] = 2.;
+    assert_eq!(many.all().refused, Some((22, Some(2))));
+    many.parameters[2] = 0.5;
+    let all = many.all();
+    assert_eq!(all.refused, None);
+    for (i, single) in many.in_turn().iter().enumerate() {
+        assert_eq!(single.refused, None);
+        for r in [0, 6] {
+            assert_eq!(all.cells[r + 2 * i..][..2], single.cells[r..][..2]);
+        }
+    }
+}
+
+#[test]
+fn query_cases_reach_every_answer() {
+    for (name, seed) in [("query", 81), ("queries", 82), ("reader", 83)] {
+        let mut found = [0; 25];
+        let mut later = 0;
+        for case in generate::group(name, seed, 1000).unwrap() {
+            let Answer::Queried(list) = answer(&case).unwrap() else {
+                panic!("no answer of this kind");
+            };
+            for told in list {
+                found[told.refused.map_or(0, |v| v.0)] += 1;
+                later += usize::from(told.refused.is_some_and(|v| v.1 > Some(0)));
+            }
+        }
+        for number in [0, 19, 22, 23, 24] {
+            assert!(found[number] > 50, "{name} {number}: {}", found[number]);
+        }
+        assert_eq!(later > 50, name == "queries");
+    }
+}
+
+/// What the stored list has of queries: every answer of each kind, in both modes, and every order.
+#[test]
+fn stored_queries_reach_every_answer() {
+    let cases = recipe("lists.txt").unwrap();
+    for kind in [Kind::Query, Kind::Queries] {
+        let (mut found, mut orders) = ([[0; 25]; 2], [0; 4]);
+        for case in cases.iter().filter(|case| case.kind == kind) {
+            let Answer::Queried(list) = answer(case).unwrap() else {
+                panic!("no answer of this kind");
+            };
+            for told in list {
+                found[case.whole[13] as usize][told.refused.map_or(0, |v| v.0)] += 1;
+                if told.refused.is_none() {
+                    orders[case.whole[12] as usize] += 1;
+                }
+            }
+        }
+        for number in [0, 19, 22, 23, 24] {
+            assert!(found[0][number] > 0 && found[1][number] > 0, "{found:?}");
+        }
+        assert!(orders.iter().all(|n| *n > 1), "{orders:?}");
+    }
+}
+
+#[test]
+fn odd_query_cases_end() {
+    odd_cases_end("query");
+    odd_cases_end("queries");
+    odd_cases_end("reader");
 }
 
 /// Fowler, Noll and Vo's checksum, 1a, of 64 bits.
@@ -392,7 +531,7 @@ fn seed_cases_are_finite() {
 
 /// Recorded; a change of a generator changes them, and the stored list with them.
 const REQUESTS_1_200: u64 = 0xEE59_68FF_F28F_F0FA;
-const GROUPS_1_20: u64 = 0x10F8_3B04_B32A_4097;
+const GROUPS_1_20: u64 = 0x6011_2AE9_F659_68D5;
 
 #[test]
 fn refusal_14_prints_its_ratio() {

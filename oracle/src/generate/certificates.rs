@@ -5,6 +5,7 @@ use super::most_cells;
 use super::systems::{coordinates, samples};
 use crate::case::Case;
 use crate::certificate::Question;
+use crate::handed::HandedCurve;
 use crate::path::smoothing::reach;
 use crate::random::{Random, power_of_two};
 use crate::request;
@@ -69,20 +70,9 @@ fn built(r: &mut Random) -> Option<Question> {
         request::draw(r)
     };
     let curve = reach::build(&request).ok()?.curve;
-    let other = curve.other.as_ref();
     Some(Question {
-        d: request.d,
-        k: curve.axes.len(),
         axis: r.pick(&curve.axes),
-        axes: curve.axes,
-        start: curve.start,
-        end: curve.end,
-        segments: curve.selected.segments(),
-        other_segments: other.map_or(0, |p| p.segments()),
-        other_breaks: other.map_or(Vec::new(), |p| p.breaks.clone()),
-        other_coefficients: other.map_or(Vec::new(), |p| p.coefficients.clone()),
-        breaks: curve.selected.breaks,
-        coefficients: curve.selected.coefficients,
+        curve: curve.into(),
         n: request.n,
         points: request.points,
         listed: request.config.parameters.is_some(),
@@ -117,7 +107,7 @@ fn made(r: &mut Random) -> Question {
         (-1e307, 2e307),
         (0., 1e-310),
     ]);
-    let mut question = Question {
+    let curve = HandedCurve {
         d,
         k,
         axes,
@@ -131,6 +121,9 @@ fn made(r: &mut Random) -> Question {
             .collect(),
         other_coefficients: any_coefficients(r, 6 * (d - k) * others),
         breaks,
+    };
+    let mut question = Question {
+        curve,
         n,
         points: coordinates(r, d, n),
         listed: r.chance(75),
@@ -181,14 +174,14 @@ fn straighten(r: &mut Random, question: &mut Question, s: &[f64]) {
         *v = first;
     }
     for (i, s) in s.iter().enumerate() {
-        for axis in &question.axes {
-            question.points[i * question.d + axis] += s * rise + noise * r.signed();
+        for axis in &question.curve.axes {
+            question.points[i * question.curve.d + axis] += s * rise + noise * r.signed();
         }
     }
-    let rows = question.coefficients.as_chunks_mut().0;
+    let rows = question.curve.coefficients.as_chunks_mut().0;
     for (row, p) in rows.iter_mut().enumerate() {
-        let m = row / question.k;
-        let (a, b) = (question.breaks[m], question.breaks[m + 1]);
+        let m = row / question.curve.k;
+        let (a, b) = (question.curve.breaks[m], question.curve.breaks[m + 1]);
         *p = [first + a * rise, (b - a) * rise, 0., 0., 0., 0.];
     }
 }
@@ -196,12 +189,12 @@ fn straighten(r: &mut Random, question: &mut Question, s: &[f64]) {
 /// Changes a question so that another figure or none is due, or shows what the figure does not
 /// depend on.
 fn change(r: &mut Random, question: &mut Question) {
-    let (d, n) = (question.d, question.n);
-    let place = r.below(question.coefficients.len());
+    let (d, n) = (question.curve.d, question.n);
+    let place = r.below(question.curve.coefficients.len());
     let point = r.below(question.points.len());
     match r.below(12) {
-        0 => question.coefficients[place] = r.pick(&HUGE),
-        1 => question.coefficients[place] = r.float(),
+        0 => question.curve.coefficients[place] = r.pick(&HUGE),
+        1 => question.curve.coefficients[place] = r.float(),
         2 => question.points[point] = r.scaled(900, 1023),
         3 => question.points[point] += r.plain(),
         4 => question.points[point] = question.points[point].next_up(),
@@ -212,16 +205,16 @@ fn change(r: &mut Random, question: &mut Question) {
             question.parameters = request::parameters(r, n);
         }
         8 => {
-            for v in &mut question.coefficients {
+            for v in &mut question.curve.coefficients {
                 *v = f64::from_bits(r.next() >> r.between(12, 63)) * r.sign();
             }
         }
-        9 => question.breaks[0] = -0.,
-        10 => (question.start, question.end) = (-7., 9.5),
+        9 => question.curve.breaks[0] = -0.,
+        10 => (question.curve.start, question.curve.end) = (-7., 9.5),
         // A segment's end moved to the next number: strictly between two waypoints.
-        _ if question.segments > 1 => {
-            let place = r.between(1, question.segments - 1);
-            question.breaks[place] = question.breaks[place].next_up();
+        _ if question.curve.segments > 1 => {
+            let place = r.between(1, question.curve.segments - 1);
+            question.curve.breaks[place] = question.curve.breaks[place].next_up();
         }
         _ => {}
     }
@@ -230,7 +223,7 @@ fn change(r: &mut Random, question: &mut Question) {
 /// Damages a question so that it is turned away with the number, if with none that comes before.
 fn damage(r: &mut Random, question: &mut Question, number: usize) {
     match number {
-        18 if r.chance(50) => question.d = r.pick(&[17, 17, 18, 255]),
+        18 if r.chance(50) => question.curve.d = r.pick(&[17, 17, 18, 255]),
         18 => question.n = r.pick(&[20_001, 20_001, 1 << 20]),
         20 => match r.below(4) {
             0 => question.points.push(1.),
@@ -245,11 +238,13 @@ fn damage(r: &mut Random, question: &mut Question, number: usize) {
             question.listed = true;
             question.parameters = request::faulty_parameters(r, question.n.clamp(2, 40));
         }
-        24 => damage_curve(r, question),
+        24 => damage_curve(r, &mut question.curve),
         // Another axis, or one that is not below d.
         _ => {
-            let others = (0..question.d.min(16)).filter(|a| !question.axes.contains(a));
-            let others: Vec<_> = others.chain([question.d.min(200) + r.below(3)]).collect();
+            let others = (0..question.curve.d.min(16)).filter(|a| !question.curve.axes.contains(a));
+            let others: Vec<_> = others
+                .chain([question.curve.d.min(200) + r.below(3)])
+                .collect();
             question.axis = r.pick(&others);
         }
     }
@@ -259,12 +254,12 @@ fn damage(r: &mut Random, question: &mut Question, number: usize) {
 fn damage_points(r: &mut Random, question: &mut Question) {
     match r.below(4) {
         0 => {
-            question.d = 0;
+            question.curve.d = 0;
             question.points.clear();
         }
         1 => {
             question.n = r.below(2);
-            question.points.truncate(question.d * question.n);
+            question.points.truncate(question.curve.d * question.n);
         }
         _ => {
             if !question.points.is_empty() {
@@ -276,58 +271,56 @@ fn damage_points(r: &mut Random, question: &mut Question) {
 }
 
 /// Makes a curve that is not well formed.
-fn damage_curve(r: &mut Random, question: &mut Question) {
-    if question.breaks.is_empty() {
+pub fn damage_curve(r: &mut Random, curve: &mut HandedCurve) {
+    if curve.breaks.is_empty() {
         return;
     }
-    let last = question.breaks.len() - 1;
+    let last = curve.breaks.len() - 1;
     let place = r.below(last + 1);
     let not_finite = r.pick(&HUGE[..3]);
     match r.below(28) {
-        0 => question.k = 0,
-        1 => question.k = question.d.min(200) + 1,
-        2 => question.k = r.pick(&[16, 17, 255]),
-        3 => question.axes[0] = question.d.min(200) + r.below(2),
+        0 => curve.k = 0,
+        1 => curve.k = curve.d.min(200) + 1,
+        2 => curve.k = r.pick(&[16, 17, 255]),
+        3 => curve.axes[0] = curve.d.min(200) + r.below(2),
         4 => {
-            question.axes.truncate(15);
-            question.axes.push(question.axes[0]);
-            question.k = question.axes.len();
+            curve.axes.truncate(15);
+            curve.axes.push(curve.axes[0]);
+            curve.k = curve.axes.len();
         }
-        5 => question.segments += 1,
-        6 => question.segments = question.segments.saturating_sub(1),
-        7 => question.segments = r.pick(&[0, 20_001, 1 << 20]),
-        8 => question.other_segments += 1,
-        9 => question.other_segments = 0,
-        10 => question.breaks.push(2.),
+        5 => curve.segments += 1,
+        6 => curve.segments = curve.segments.saturating_sub(1),
+        7 => curve.segments = r.pick(&[0, 20_001, 1 << 20]),
+        8 => curve.other_segments += 1,
+        9 => curve.other_segments = 0,
+        10 => curve.breaks.push(2.),
         11 => {
-            question.breaks.pop();
+            curve.breaks.pop();
         }
-        12 => question.coefficients.push(0.),
+        12 => curve.coefficients.push(0.),
         13 => {
-            question.coefficients.pop();
+            curve.coefficients.pop();
         }
-        14 => question.other_breaks.push(1.),
-        15 => question.other_breaks.clear(),
-        16 => question.other_coefficients.push(0.),
+        14 => curve.other_breaks.push(1.),
+        15 => curve.other_breaks.clear(),
+        16 => curve.other_coefficients.push(0.),
         17 => {
-            question.other_coefficients.pop();
+            curve.other_coefficients.pop();
         }
-        18 => question.breaks[place] = not_finite,
-        19 => question.breaks[0] = r.pick(&[5e-324, -5e-324, 0.25]),
-        20 => question.breaks[last] = r.pick(&[1f64.next_up(), 1f64.next_down(), 0.]),
-        21 => question.breaks.insert(place, question.breaks[place]),
+        18 => curve.breaks[place] = not_finite,
+        19 => curve.breaks[0] = r.pick(&[5e-324, -5e-324, 0.25]),
+        20 => curve.breaks[last] = r.pick(&[1f64.next_up(), 1f64.next_down(), 0.]),
+        21 => curve.breaks.insert(place, curve.breaks[place]),
         22 => {
             // One segment more, of no width.
-            question.breaks.insert(place, question.breaks[place]);
-            question
-                .coefficients
-                .extend(vec![0.; 6 * question.k.min(16)]);
-            question.segments += 1;
+            curve.breaks.insert(place, curve.breaks[place]);
+            curve.coefficients.extend(vec![0.; 6 * curve.k.min(16)]);
+            curve.segments += 1;
         }
-        23 => question.start = not_finite,
-        24 => question.end = not_finite,
-        25 => question.end = question.start,
-        26 => (question.start, question.end) = (question.end, question.start),
-        _ => (question.start, question.end) = (-1e308, 1e308),
+        23 => curve.start = not_finite,
+        24 => curve.end = not_finite,
+        25 => curve.end = curve.start,
+        26 => (curve.start, curve.end) = (curve.end, curve.start),
+        _ => (curve.start, curve.end) = (-1e308, 1e308),
     }
 }

@@ -102,7 +102,7 @@ pub fn evaluate(r: &mut Random) -> Case {
 }
 
 /// A well-formed curve of any pieces; in some any coefficient may be infinite or a NaN.
-fn made(r: &mut Random) -> Curve {
+pub fn made(r: &mut Random) -> Curve {
     let d = match r.below(3) {
         0 => r.between(1, 16),
         _ => r.between(1, 4),
