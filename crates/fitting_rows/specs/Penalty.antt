@@ -30,7 +30,8 @@ thirdWeights =
 unfoldable pub thirdOf : List Float → List Float
 thirdOf powers = each (λ i b. set b i (mul binary64 (floats .literal 6 1) (at powers (6 * i + 3)))) 0 6 (zeros 6)
 
--- the row of node r on a span: weight `strength * h.powi(7) * w`, target 0; `let h = b.t[span + 1] - left`
+-- the row of node r on a span: weight `strength * h.powi(7) * w`, target 0 for up to 16 axes, as in `rowOf`;
+-- `let h = b.t[span + 1] - left`
 unfoldable pub penaltyRowOf : Arrays → Float → ℕ → ℕ → Row
 penaltyRowOf x strength span r =
     let h = spanWidth floats (x .t) span in

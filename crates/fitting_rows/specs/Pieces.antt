@@ -51,7 +51,7 @@ unfoldable pub lineTurn : List Float → ℕ → ℕ → Float → ℕ → List 
 lineTurn y d i f axis r =
     set r axis (add binary64 (at y (i * d + axis)) (mul binary64 f (sub binary64 (at y ((i + 1) * d + axis)) (at y (i * d + axis)))))
 
--- `target` at x on interval i, with +0 up to 16 cells; `let f = (x - s[i]) / (s[i + 1] - s[i])`
+-- `target` at x on interval i, with +0 up to 16 cells, for d ≤ 16, as in `rowOf`; `let f = (x - s[i]) / (s[i + 1] - s[i])`
 unfoldable pub lineOf : List Float → List Float → ℕ → ℕ → Float → List Float
 lineOf s y d i x =
     each (lineTurn y d i (div binary64 (sub binary64 x (at s i)) (sub binary64 (at s (i + 1)) (at s i)))) 0 d (zeros 16)

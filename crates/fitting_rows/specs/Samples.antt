@@ -33,7 +33,7 @@ weightOf s n i =
     (cond (eqb (i + 1) n) (div binary64 (sub binary64 (at s i) (at s (i - 1))) two)
     (div binary64 (sub binary64 (at s (i + 1)) (at s (i - 1))) two))
 
--- `&y[i * b.d..(i + 1) * b.d]`, with +0 up to 16 cells
+-- `&y[i * b.d..(i + 1) * b.d]`, with +0 up to 16 cells; for d ≤ 16, as in `rowOf`
 unfoldable pub pointOf : List Float → ℕ → ℕ → List Float
 pointOf y d i = each (λ axis r. set r axis (at y (i * d + axis))) 0 d (zeros 16)
 

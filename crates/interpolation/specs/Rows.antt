@@ -24,7 +24,7 @@ waypointRow x i =
     let span = sampleSpan x i in
     rowOf (x .c) (x .d) (span - 5) (valuesOf floats (x .t) span (at (x .s) i)) (floats .one) (pointOf (x .y) (x .d) i)
 
--- the row of the derivative of order r at an end u whose interval is h wide
+-- the row of the derivative of order r at an end u whose interval is h wide; target 0 for up to 16 axes, as in `rowOf`
 unfoldable pub endRow : Arrays → Float → Float → ℕ → Row
 endRow x u h r =
     let span = spanOf floats (x .t) (x .m) u in

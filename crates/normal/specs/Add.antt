@@ -26,7 +26,8 @@ valueOf c d start b axis = each (termOf c d start b axis) 0 6 -0
 unfoldable pub differenceOf : List Float → ℕ → ℕ → List Float → Float → List Float → ℕ → List Float → List Float
 differenceOf c d start b weight target axis r = set r axis (mul binary64 weight (sub binary64 (at target axis) (valueOf c d start b axis)))
 
--- the fitting row: residuals of d axes, +0 beyond
+-- the fitting row: residuals of d axes, +0 beyond. A row holds 16, so that this is the source's row for d ≤ 16, document 01's domain; `set`
+-- drops the residual of any further axis.
 unfoldable pub rowOf : List Float → ℕ → ℕ → List Float → Float → List Float → Row
 rowOf c d start b weight target =
     record { start = start; basis = b; weight = weight; residual = each (differenceOf c d start b weight target) 0 d (zeros 16) }

@@ -45,7 +45,7 @@ module _ (n d : ℕ) (s rows : List Float) where
       let factorial = getD (factorials floats) r (floats .outside) in
       each (λ i v. set v i (mul binary64 (mul binary64 (at powers (6 * i + r)) factorial) (powerOf floats h r))) 0 6 (zeros 6)
 
-  -- `for r in 1..=2`, at an end x whose interval is h wide
+  -- `for r in 1..=2`, at an end x whose interval is h wide; target 0 for up to 16 axes, as in `rowOf`
   unfoldable pub endTurns : Float → Float → System → System
   endTurns x h a =
       let span = spanOf floats waypointKnots controlCount x in
