@@ -1,7 +1,7 @@
 -- The audit's step over exact fractions: on a piece of a segment its six Bernstein coefficients are those of curve minus line, so that
 -- their largest absolute value bounds the distance there. The loops are tied to the sums of crate `fraction`, whose laws hold for every
 -- degree.
-use mathlib.Core.Path.{_≡_, sym, ap, _∙_, subst}
+use mathlib.Core.Path.{_≡_, refl, sym, ap, _∙_, subst}
 use mathlib.Core.List.{List, [], _∷_}
 use Prim.Native.Nat.{ℕ, zero, suc, _+_, _-_, _^_, _≤_, _<_}
 use native.Mathlib.Omega.{arith}
@@ -24,7 +24,7 @@ use Rattle.fraction.proofs.Inverse.{inverse-is, inverse-nonnegative}
 use Rattle.fraction.proofs.Rational.{rationalOrder, <q-weaken, ≤q-mul, difference-above}
 use Rattle.fraction.proofs.Sum.{sum-equal, sum-scale, sum-last}
 use Rattle.book.specs.Fractions.{fractions}
-use Rattle.polynomial.specs.Piece.{addTerm, piecePower, errorOf, addShare, bernsteinOf}
+use Rattle.polynomial.specs.Piece.{addTerm, piecePower, errorOf, addShare, bernsteinOf, bernsteinCoefficients, pieceFrom, errorForm}
 use Rattle.book.specs.Audit.{lineAt, pieceErrors}
 use Rattle.arith.proofs.Loops.{each-runs}
 use Rattle.book.proofs.Terms.{n0, n1, powerTerm}
@@ -147,19 +147,31 @@ pub piece-is : (p : List ℚ) (u w a b y : ℚ)
     ≡ polynomial rationalRing 5 (λ k. getD p k 𝟘) (u +q w *q y) -q (a +q b *q y)
 piece-is p u w a b y = bernstein-form (errorOf fractions (powerOf fractions) p u w a b) y ∙ piece-powers p u w a b y
 
+-- one of the six, by its number
+form-at : (p : List ℚ) (k : ℕ) → k ≤ 5 → getD (bernsteinCoefficients fractions p) k 𝟘 ≡ bernsteinOf fractions p k
+unfolding bernsteinCoefficients
+form-at p zero h = refl
+form-at p (suc zero) h = refl
+form-at p (suc (suc zero)) h = refl
+form-at p (suc (suc (suc zero))) h = refl
+form-at p (suc (suc (suc (suc zero)))) h = refl
+form-at p (suc (suc (suc (suc (suc zero))))) h = refl
+form-at p (suc (suc (suc (suc (suc (suc k)))))) h = absurd (omega arith)
+
 -- The piece from left to right: where all six Bernstein coefficients lie from -M to M, so does the segment's value at x less the line's,
 -- for every x of the piece.
 pub piece-bound : (p : List ℚ) (a b s₀ s₁ y₀ y₁ left right M : ℚ) → left <q right
-    → ((k : ℕ) → k ≤ 5 → (negq M ≤q bernsteinOf fractions (pieceErrors p a b s₀ s₁ y₀ y₁ left right) k)
-    × (bernsteinOf fractions (pieceErrors p a b s₀ s₁ y₀ y₁ left right) k ≤q M))
+    → ((k : ℕ) → k ≤ 5 → (negq M ≤q getD (pieceErrors p a b s₀ s₁ y₀ y₁ left right) k 𝟘)
+    × (getD (pieceErrors p a b s₀ s₁ y₀ y₁ left right) k 𝟘 ≤q M))
     → (x : ℚ) → left ≤q x → x ≤q right
     → (negq M ≤q polynomial rationalRing 5 (λ k. getD p k 𝟘) ((x -q a) /q (b -q a)) -q lineAt s₀ s₁ y₀ y₁ x)
     × (polynomial rationalRing 5 (λ k. getD p k 𝟘) ((x -q a) /q (b -q a)) -q lineAt s₀ s₁ y₀ y₁ x ≤q M)
+unfolding errorForm pieceFrom
 piece-bound p a b s₀ s₁ y₀ y₁ left right M piece h x low high =
     let u : ℚ = (left -q a) /q (b -q a) in
     let w : ℚ = (right -q left) /q (b -q a) in
     let slope : ℚ = (right -q left) /q (s₁ -q s₀) *q (y₁ -q y₀) in
-    let q = pieceErrors p a b s₀ s₁ y₀ y₁ left right in
+    let q = errorOf fractions (powerOf fractions) p u w (lineAt s₀ s₁ y₀ y₁ left) slope in
     let r : ℚ = right -q left in
     let y : ℚ = (x -q left) /q r in
     let i = inverse-is r (difference-above left right piece) in
@@ -173,5 +185,5 @@ piece-bound p a b s₀ s₁ y₀ y₁ left right M piece h x low high =
     (piece-powers p u w (lineAt s₀ s₁ y₀ y₁ left) slope y
     ∙ ap (λ (z : ℚ). polynomial rationalRing 5 (λ k. getD p k 𝟘) z -q (lineAt s₀ s₁ y₀ y₁ left +q slope *q y)) local
     ∙ ap (λ (z : ℚ). polynomial rationalRing 5 (λ k. getD p k 𝟘) ((x -q a) /q (b -q a)) -q z) line)
-    (within 5 (λ j. getD q j 𝟘) M y (λ k l. rw (← (bernstein-is q k l)) (h k l)) (fraction-low left right x piece low)
+    (within 5 (λ j. getD q j 𝟘) M y (λ k l. subst (λ (z : ℚ). (negq M ≤q z) × (z ≤q M)) (form-at q k l ∙ bernstein-is q k l) (h k l)) (fraction-low left right x piece low)
     (fraction-high left right x piece high))

@@ -21,7 +21,7 @@ use Rattle.polynomial.specs.declared.interval.Outcome.{Outcome}
 use Rattle.polynomial.specs.declared.interval.Outcome.the-variants.{Done}
 use Rattle.polynomial.specs.Span.{segments, passed, advanced}
 use Rattle.polynomial.specs.Outcome.{numberOf, isDone}
-use Rattle.polynomial.specs.Interval.{Found, Interval, placeOf, allFinite, axisTurn, axesOf, Walk, endedBy, walkTurn, intervalOf}
+use Rattle.polynomial.specs.Interval.{Found, Interval, pieceAt, allFinite, axisTurn, axesOf, Walk, endedBy, walkTurn, intervalOf}
 use Rattle.polynomial.specs.Audit.{Audit, auditTurn, auditOf}
 use Rattle.polynomial.proofs.Walk.{to-end, to-break}
 
@@ -85,7 +85,7 @@ module _ (breaks coefficients s y : List Float) (d : ℕ) (top : (i : ℕ) → l
   walk-not-12 i j w h =
       let k = advanced breaks (w .left) (w .span) in
       let right = minOf (at s (i + 1)) (at breaks (k + 1)) in
-      let q = placeOf breaks s i k (w .left) right in
+      let q = pieceAt breaks s i k (w .left) right in
       let inside = advanced-ends breaks (w .left) (w .span) (h .0) .0 in
       let fine = axes-not-12 coefficients y d (k * d) (i * d) q (w .found) (h .1) in
       holds-cond Going Fine (lt (w .left) (at s (i + 1)))

@@ -5,7 +5,7 @@ use Prim.Native.Nat.{ℕ, _+_, _*_}
 use mathlib.Core.Bool.{Bool, true, _&&_, cond}
 use mathlib.Core.List.{List}
 use lib.ListN.{length, set}
-use lib.Ieee.{Float, binary64, ofBits, add, sub, mul, div, neg, lt, le}
+use lib.Ieee.{Float, binary64, ofBits, add, div, neg, lt, le}
 use lib.Ieee.Scale.{finite}
 use Rattle.arith.specs.Operations.{floats}
 use Rattle.arith.specs.Loop.{each, till, Step}
@@ -22,7 +22,7 @@ use Rattle.polynomial.specs.declared.interval.Outcome.the-variants.{Done
 use Rattle.polynomial.specs.declared.interval.Peak.{Peak}
 use Rattle.polynomial.specs.declared.interval.Ended.{Ended}
 use Rattle.polynomial.specs.Span.{advanced}
-use Rattle.polynomial.specs.Piece.{errorOf, bernsteinForm}
+use Rattle.polynomial.specs.Piece.{PieceOver, pieceFrom, errorForm}
 use Rattle.polynomial.specs.Outcome.{isDone}
 
 -- what was found so far: for each axis the largest absolute coefficient, the largest of all, and the middle of the piece that it is of
@@ -46,26 +46,25 @@ found bounds f = record { bounds = bounds; peak = f .peak; witness = f .witness;
 abbrev pub interval : List Float → Ended → Interval
 interval bounds r = record { bounds = bounds; witness = r .witness; span = r .span; outcome = r .outcome }
 
--- the piece from left to right, in segment `span` and interval i: u and w, what part of the interval lies before it and what part it is,
--- its middle
-unfoldable pub placeOf : List Float → List Float → ℕ → ℕ → Float → Float → Piece
-placeOf breaks s i span left right =
-    let h = sub binary64 (at breaks (span + 1)) (at breaks span) in
-    let l = sub binary64 (at s (i + 1)) (at s i) in
+-- the piece from left to right, in segment `span` and interval i, and its middle
+unfoldable pub pieceAt : List Float → List Float → ℕ → ℕ → Float → Float → Piece
+pieceAt breaks s i span left right =
+    let q = pieceFrom floats (at breaks span) (at breaks (span + 1)) (at s i) (at s (i + 1)) left right in
     record {
-      u = div binary64 (sub binary64 left (at breaks span)) h;
-      w = div binary64 (sub binary64 right left) h;
-      before = div binary64 (sub binary64 left (at s i)) l;
-      part = div binary64 (sub binary64 right left) l;
+      u = q .u;
+      w = q .w;
+      before = q .before;
+      part = q .part;
       middle = div binary64 (add binary64 left right) (ofBits binary64 0x4000_0000_0000_0000);
     }
 
--- the Bernstein coefficients of a segment's six powers p less the line from `start` to `end` over the interval
-unfoldable pub errorForm : List Float → Float → Float → Piece → List Float
-errorForm p start end q =
-    let delta = sub binary64 end start in
-    bernsteinForm floats
-    (errorOf floats (powerOf floats) p (q .u) (q .w) (add binary64 start (mul binary64 (q .before) delta)) (mul binary64 (q .part) delta))
+-- a piece without its middle
+abbrev pub ofPiece : Piece → PieceOver Float
+ofPiece q = record { u = q .u; w = q .w; before = q .before; part = q .part }
+
+-- its Bernstein coefficients less the line: those of any arithmetic, at f64
+abbrev pub errorsOn : List Float → Float → Float → Piece → List Float
+errorsOn p start end q = errorForm floats (powerOf floats) p start end (ofPiece q)
 
 -- no coefficient is infinite or a NaN
 unfoldable pub allFinite : List Float → Bool
@@ -89,7 +88,7 @@ powersAt coefficients first axis = window (6 * (first + axis)) (6 * (first + axi
 -- an axis on a piece: the first axis of the segment is number `first` of all, and the first of the interval's waypoint stands at `row` of y
 unfoldable pub axisTurn : List Float → List Float → ℕ → ℕ → ℕ → Piece → ℕ → Found → Step Found Found
 axisTurn coefficients y d first row q axis f =
-    let b = errorForm (powersAt coefficients first axis) (at y (row + axis)) (at y (row + d + axis)) q in
+    let b = errorsOn (powersAt coefficients first axis) (at y (row + axis)) (at y (row + d + axis)) q in
     let l = each (largestTurn b (q .middle)) 0 6 (record { bound = at (f .bounds) axis; peak = f .peak; witness = f .witness }) in
     cond (allFinite b)
     (next (record { bounds = set (f .bounds) axis (l .bound); peak = l .peak; witness = l .witness; outcome = f .outcome }))
@@ -115,7 +114,7 @@ walkTurn breaks coefficients s y d i _ w =
     let end = at s (i + 1) in
     let span = advanced breaks (w .left) (w .span) in
     let right = minOf end (at breaks (span + 1)) in
-    let f = axesOf coefficients y d (span * d) (i * d) (placeOf breaks s i span (w .left) right) (w .found) in
+    let f = axesOf coefficients y d (span * d) (i * d) (pieceAt breaks s i span (w .left) right) (w .found) in
     cond (lt (w .left) end)
     (cond (le right (w .left)) (stop (endedBy NotAbove span (w .found)))
     (cond (isDone (f .outcome)) (next (record { left = right; span = span; found = f })) (stop (endedBy (f .outcome) span f))))

@@ -36,6 +36,31 @@ unfoldable pub bernsteinOf : {A : Type 0} → Arith A → List A → ℕ → A
 bernsteinOf o p k = each (addShare o p k) 0 (k + 1) (o .zero)
 
 -- all six
-unfoldable pub bernsteinForm : {A : Type 0} → Arith A → List A → List A
-bernsteinForm o p =
+unfoldable pub bernsteinCoefficients : {A : Type 0} → Arith A → List A → List A
+bernsteinCoefficients o p =
     bernsteinOf o p 0 ∷ bernsteinOf o p 1 ∷ bernsteinOf o p 2 ∷ bernsteinOf o p 3 ∷ bernsteinOf o p 4 ∷ bernsteinOf o p 5 ∷ []
+
+-- where a piece lies: u and w on the segment; what part of the waypoint interval lies before it, and what part it is
+pub record PieceOver (A : Type 0) : Type 0 where
+  pub u : A
+  pub w : A
+  pub before : A
+  pub part : A
+
+-- the piece from left to right, in the segment from a to b and the waypoint interval from s₀ to s₁: `u`, `w` and the two quotients of the
+-- line
+unfoldable pub pieceFrom : {A : Type 0} → Arith A → A → A → A → A → A → A → PieceOver A
+pieceFrom o a b s₀ s₁ left right =
+    record {
+      u = o .over (o .minus left a) (o .minus b a);
+      w = o .over (o .minus right left) (o .minus b a);
+      before = o .over (o .minus left s₀) (o .minus s₁ s₀);
+      part = o .over (o .minus right left) (o .minus s₁ s₀);
+    }
+
+-- the Bernstein coefficients of a segment's six powers p less the line from `start` to `end` over the interval
+unfoldable pub errorForm : {A : Type 0} → Arith A → (A → ℕ → A) → List A → A → A → PieceOver A → List A
+errorForm o powi p start end q =
+    let delta = o .minus end start in
+    bernsteinCoefficients o
+    (errorOf o powi p (q .u) (q .w) (o .plus start (o .times (q .before) delta)) (o .times (q .part) delta))

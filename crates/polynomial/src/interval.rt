@@ -3,7 +3,7 @@ ghost use mathlib.Core.Path.{_≡_};
 ghost use Prim.Native.Nat.{_+_, _-_, _*_, _≤_, _<_};
 ghost use lib.ListN.{length};
 ghost use Rattle.polynomial.specs.Outcome.{isDone};
-ghost use Rattle.polynomial.specs.Interval.{found, interval, placeOf, axesOf, intervalOf};
+ghost use Rattle.polynomial.specs.Interval.{found, interval, pieceAt, axesOf, intervalOf};
 use crate::piece;
 use crate::piece::Largest;
 use crate::piece::Piece;
@@ -45,7 +45,7 @@ pub(crate) fn is_done(o: Outcome) -> bool
 // The piece from `left` to `right`, in segment `span` and interval i.
 fn place(breaks: &[f64], s: &[f64], i: usize, span: usize, left: f64, right: f64) -> Piece
     requires { ⌜ (span + 1 < length (now breaks)) × (i + 1 < length (now s)) ⌝ }
-    ensures { λ r. ⌜ r ≡ placeOf (now (breaks .entry)) (now (s .entry)) i span left right ⌝ }
+    ensures { λ r. ⌜ r ≡ pieceAt (now (breaks .entry)) (now (s .entry)) i span left right ⌝ }
 {
     let h = breaks[span + 1] - breaks[span];
     let l = s[i + 1] - s[i];

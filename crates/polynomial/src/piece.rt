@@ -7,8 +7,8 @@ ghost use lib.ListN.{length};
 ghost use Rattle.arith.specs.Operations.{floats};
 ghost use Rattle.arith.specs.Loop.{each};
 ghost use Rattle.float.specs.Power.{powerOf};
-ghost use Rattle.polynomial.specs.Piece.{piecePower, errorOf, bernsteinOf, bernsteinForm};
-ghost use Rattle.polynomial.specs.Interval.{errorForm, allFinite, largestTurn};
+ghost use Rattle.polynomial.specs.Piece.{piecePower, errorOf, bernsteinOf, bernsteinCoefficients};
+ghost use Rattle.polynomial.specs.Interval.{errorsOn, allFinite, largestTurn};
 ghost use Rattle.polynomial.specs.Largest.{largerOf, largestOf};
 
 // Where a piece lies. `u` and `w`: its left end and its width, by the segment's local parameter.
@@ -84,7 +84,7 @@ fn bernstein(powers: [f64; 6], k: usize) -> f64
 
 // All six.
 fn bernsteins(powers: [f64; 6]) -> Six
-    ensures { λ r. ⌜ r .cells ≡ bernsteinForm floats powers ⌝ }
+    ensures { λ r. ⌜ r .cells ≡ bernsteinCoefficients floats powers ⌝ }
 {
     Six {
         cells: [
@@ -102,7 +102,7 @@ fn bernsteins(powers: [f64; 6]) -> Six
 // from `start` to `end` over the waypoint interval.
 pub fn error_form(p: &[f64], start: f64, end: f64, q: Piece) -> Six
     requires { ⌜ length (now p) ≡ 6 ⌝ }
-    ensures { λ r. ⌜ r .cells ≡ errorForm (now (p .entry)) start end q ⌝ }
+    ensures { λ r. ⌜ r .cells ≡ errorsOn (now (p .entry)) start end q ⌝ }
 {
     let delta = end - start;
     let e = error(p, q.u, q.w, start + q.before * delta, q.part * delta);

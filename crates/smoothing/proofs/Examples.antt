@@ -24,8 +24,8 @@ use Rattle.fitting_rows.specs.Samples.{denseOf, weightOf, pointOf, sampleRowOf}
 use Rattle.fit.specs.Assembly.{counted, sampleTurn, samplesOf, pieceOf, meshTurn, meshOf, sparseTurn, sparseOf, nodesOf, penaltyTurn, penaltiesOf, assembledOf}
 use Rattle.fit.specs.Fit.{addTurn as addTurn₂, addedTo, solvedOf, fitOf}
 use Rattle.polynomial.specs.Audit.{boundsWith, auditTurn, auditOf}
-use Rattle.polynomial.specs.Interval.{placeOf, errorForm, allFinite, largestTurn, axisTurn, axesOf, endedBy, walkTurn, intervalOf as intervalOf₂}
-use Rattle.polynomial.specs.Piece.{addTerm, piecePower, errorOf, addShare, bernsteinOf, bernsteinForm}
+use Rattle.polynomial.specs.Interval.{pieceAt, allFinite, largestTurn, axisTurn, axesOf, endedBy, walkTurn, intervalOf as intervalOf₂}
+use Rattle.polynomial.specs.Piece.{addTerm, piecePower, errorOf, addShare, bernsteinOf, bernsteinCoefficients, pieceFrom, errorForm}
 use Rattle.polynomial.specs.Span.{advanced}
 use Rattle.sorting.specs.Sort.{placed, sortOf}
 use Rattle.sorting.specs.Thin.{thinned, distinct, gap, inside, apart, testOf, dedupOf, keptOf}
@@ -76,8 +76,8 @@ unfolding isNan ofBits toBits add sub mul div le lt eq ne round ofInt neg turns 
     pointOf sampleRowOf
     counted sampleTurn samplesOf pieceOf meshTurn meshOf sparseTurn sparseOf nodesOf penaltyTurn penaltiesOf assembledOf addTurn₂ addedTo
     solvedOf fitOf
-    boundsWith auditTurn auditOf placeOf errorForm allFinite largestTurn axisTurn axesOf endedBy walkTurn intervalOf₂ addTerm piecePower
-    errorOf addShare bernsteinOf bernsteinForm advanced placed sortOf thinned distinct gap inside apart testOf dedupOf keptOf
+    boundsWith auditTurn auditOf pieceAt pieceFrom errorForm allFinite largestTurn axisTurn axesOf endedBy walkTurn intervalOf₂ addTerm piecePower
+    errorOf addShare bernsteinOf bernsteinCoefficients advanced placed sortOf thinned distinct gap inside apart testOf dedupOf keptOf
     fits scanTurn anchorsOf axisTurn₂ narrowed jumpTurn jumpOf widthOf around knotsAt rawKnots seedOf rangeOf joined regionsOf
     any parameterOf miscounted lengthOf normalisedOf misplaced unreliable unfit firstOf axesFormed andThen unless numberOf
     selectedOf otherOf resultOf smoothedOf checkedOf answerOf buildOf

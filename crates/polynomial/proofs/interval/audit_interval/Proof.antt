@@ -18,7 +18,7 @@ use Rattle.polynomial.specs.declared.piece.Piece.{Piece}
 use Rattle.polynomial.specs.declared.interval.Outcome.the-variants.{Done, NotAbove}
 use Rattle.polynomial.specs.Span.{advanced}
 use Rattle.polynomial.specs.Outcome.{isDone}
-use Rattle.polynomial.specs.Interval.{Found, Interval, found, placeOf, axesOf, Walk, endedBy, walkTurn, intervalOf}
+use Rattle.polynomial.specs.Interval.{Found, Interval, found, pieceAt, axesOf, Walk, endedBy, walkTurn, intervalOf}
 use Rattle.polynomial.proofs.Walk.{turnsLeft, turns-most, turns-fall}
 use Rattle.polynomial.proofs.interval.audit_interval.Statement.{statement}
 use Rattle.polynomial.proofs.interval.audit_interval.Tie as tie
@@ -52,9 +52,9 @@ module _ (breaks coefficients s y : List Float) (d i j : ℕ) (w : Walk) where
     not-above g = rw (more, ← ek, ← er, g)
 
     -- all axes, on the piece q that was found
-    module _ {q : Piece} {f : Found} (above : le right (w .left) ≡ false) (eq : q ≡ placeOf breaks s i k (w .left) right)
+    module _ {q : Piece} {f : Found} (above : le right (w .left) ≡ false) (eq : q ≡ pieceAt breaks s i k (w .left) right)
         (ef : f ≡ axesOf coefficients y d (k * d) (i * d) q (w .found)) where
-      on-piece : f ≡ axesOf coefficients y d (k * d) (i * d) (placeOf breaks s i k (w .left) right) (w .found)
+      on-piece : f ≡ axesOf coefficients y d (k * d) (i * d) (pieceAt breaks s i k (w .left) right) (w .found)
       on-piece = ef ∙ rw eq
 
       not-finite : isDone (f .outcome) ≡ false → turn ≡ stop (endedBy (f .outcome) k f)

@@ -15,7 +15,7 @@ use Rattle.window.proofs.Windows.{length-window}
 use Rattle.polynomial.specs.declared.piece.Piece.{Piece}
 use Rattle.polynomial.specs.declared.piece.Largest.{Largest}
 use Rattle.polynomial.specs.declared.interval.Outcome.the-variants.{NotFinite}
-use Rattle.polynomial.specs.Interval.{Found, errorForm, allFinite, largestTurn, powersAt, axisTurn, axesOf}
+use Rattle.polynomial.specs.Interval.{Found, errorsOn, allFinite, largestTurn, powersAt, axisTurn, axesOf}
 use Rattle.polynomial.proofs.interval.axes.Statement.{statement}
 use Rattle.polynomial.proofs.interval.axes.Tie as tie
 
@@ -33,7 +33,7 @@ abbrev μ-loop : tie.MeasureT-loop
 
 -- a turn of the definition: it goes on where all coefficients are finite, and ends the loop where one is not
 module _ (coefficients y : List Float) (d first row : ℕ) (q : Piece) (axis : ℕ) (f : Found) (b : List Float)
-    (is : b ≡ errorForm (powersAt coefficients first axis) (at y (row + axis)) (at y (row + d + axis)) q) where
+    (is : b ≡ errorsOn (powersAt coefficients first axis) (at y (row + axis)) (at y (row + d + axis)) q) where
   goes-on : (l : Largest) → allFinite b ≡ true → l ≡ each (largestTurn b (q .middle)) 0 6
       (record { bound = at (f .bounds) axis; peak = f .peak; witness = f .witness })
       → axisTurn coefficients y d first row q axis f ≡ next

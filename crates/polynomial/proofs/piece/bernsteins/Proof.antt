@@ -1,11 +1,11 @@
 -- `piece::bernsteins` meets its contract: each of the six is its definition.
 use borrow.Author.Needs.{needs}
-use Rattle.polynomial.specs.Piece.{bernsteinForm}
+use Rattle.polynomial.specs.Piece.{bernsteinCoefficients}
 use Rattle.polynomial.proofs.piece.bernsteins.Statement.{statement}
 use Rattle.polynomial.proofs.piece.bernsteins.Tie as tie
 
 returns : tie.Need-returns
-unfolding bernsteinForm
+unfolding bernsteinCoefficients
 returns c =
     rw (
       c .bernstein6 .ensures,
