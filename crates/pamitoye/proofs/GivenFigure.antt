@@ -6,8 +6,9 @@ use borrow.Author.Tests.{eq-eqb}
 use lib.Ieee.{Float}
 use Rattle.certificate.specs.declared.certify.Refusal.{Refusal}
 use Rattle.certificate.specs.declared.certify.Refusal.the-variants.{AboveDomain, PointCells, BadPoints, BadParameters, BadRange, Malformed, NotSelected}
-use Rattle.certificate.specs.Figure.{Figure, figure, noFigure}
-use Rattle.certificate.specs.Certify.{outcome, refusalNumber}
+use Rattle.figure.specs.Figure.{Figure, figure, noFigure}
+use Rattle.figure.specs.Certify.{outcome}
+use Rattle.certificate.specs.Outcome.{refusalNumber}
 use Rattle.pamitoye.specs.Certificates.{givenAfter, figureAfter}
 
 -- the number n, what is given, g, and the figure z, where b and x stood before

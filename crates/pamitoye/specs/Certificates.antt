@@ -2,8 +2,8 @@
 use mathlib.Core.Bool.{Bool, true, false, cond}
 use lib.Dec.{eqb}
 use lib.Ieee.{Float}
-use Rattle.certificate.specs.Figure.{Figure, figure, noFigure}
-use Rattle.certificate.specs.Certify.{Outcome}
+use Rattle.figure.specs.Figure.{Figure, figure, noFigure}
+use Rattle.figure.specs.Certify.{Outcome}
 
 abbrev pub isFigure : Figure → Bool
 isFigure (figure x) = true

@@ -2,7 +2,8 @@
 ghost use mathlib.Core.Path.{_≡_};
 ghost use mathlib.Core.Bool.{true};
 ghost use Rattle.curve.specs.Form.{slices};
-ghost use Rattle.certificate.specs.Certify.{Certified, certifyOf, outcomeOf, refusalNumber};
+ghost use Rattle.figure.specs.Certify.{Certified, certifyOf};
+ghost use Rattle.certificate.specs.Outcome.{outcomeOf, refusalNumber};
 ghost use Rattle.pamitoye.specs.Choices.{curveOf, spacingOf};
 ghost use Rattle.pamitoye.specs.Certificates.{givenAfter, figureAfter};
 use crate::choices;

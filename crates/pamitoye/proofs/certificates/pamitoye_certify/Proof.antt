@@ -1,7 +1,8 @@
 -- `certificates::pamitoye_certify` meets its contract.
 use mathlib.Core.Path.{ap, _∙_}
 use borrow.Author.Needs.{needs}
-use Rattle.certificate.specs.Certify.{Outcome, outcomeOf}
+use Rattle.figure.specs.Certify.{Outcome}
+use Rattle.certificate.specs.Outcome.{outcomeOf}
 use Rattle.pamitoye.specs.Certificates.{givenAfter, figureAfter}
 use Rattle.pamitoye.proofs.GivenFigure.{given-figure}
 use Rattle.pamitoye.proofs.certificates.pamitoye_certify.Statement.{statement}
