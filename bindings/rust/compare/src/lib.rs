@@ -19,9 +19,15 @@ mod case;
 #[path = "../../../../oracle/src/certificate.rs"]
 #[allow(dead_code)]
 mod certificate;
+#[path = "../../../../oracle/src/handed.rs"]
+#[allow(dead_code)]
+mod handed;
 #[cfg(test)]
 #[path = "../../../../oracle/src/generate/known.rs"]
 mod known;
+#[path = "../../../../oracle/src/query.rs"]
+#[allow(dead_code)]
+mod query;
 #[path = "../../../../oracle/src/random.rs"]
 #[allow(dead_code)]
 mod random;

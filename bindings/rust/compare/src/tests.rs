@@ -206,22 +206,8 @@ fn outside(error: PathError, range: (f64, f64), at: usize, x: f64) -> bool {
 /// The figure of each axis, against the oracle's computation from document 01.
 fn certificates(request: &Request, path: &Path, curve: &Curve, seen: &mut Seen) {
     let parameters = request.config.parameters.as_deref();
-    let (breaks, coefficients) = match &curve.other {
-        Some(other) => (other.breaks.clone(), other.coefficients.clone()),
-        None => (Vec::new(), Vec::new()),
-    };
     let mut question = Question {
-        d: curve.d,
-        k: curve.axes.len(),
-        axes: curve.axes.clone(),
-        start: curve.start,
-        end: curve.end,
-        segments: curve.selected.segments(),
-        other_segments: breaks.len().saturating_sub(1),
-        breaks: curve.selected.breaks.clone(),
-        coefficients: curve.selected.coefficients.clone(),
-        other_breaks: breaks,
-        other_coefficients: coefficients,
+        curve: curve.clone().into(),
         n: request.n,
         points: request.points.clone(),
         listed: parameters.is_some(),
