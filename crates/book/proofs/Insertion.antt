@@ -20,7 +20,7 @@ use Rattle.fraction.proofs.Inverse.{inverse-is}
 use Rattle.fraction.proofs.Sum.{sum-equal}
 use Rattle.book.specs.Fractions.{fractions}
 use Rattle.book.specs.Basis.{knot, basis, onSpan, halfOpen, closedAtEnd, Nondecreasing}
-use Rattle.book.specs.Curve.{curve, axisOf}
+use Rattle.book.specs.Curve.{curve, axisControl}
 use Rattle.book.specs.Insertion.{insertedKnot, alpha, insertedControl, oldSpan}
 use Rattle.book.proofs.Terms.{n0, n1}
 use Rattle.book.proofs.Order.{wider}
@@ -50,20 +50,20 @@ knots-are t u k h i = elim (decLt k i) [
 
 -- the controls of an axis: both go by the same cases
 pub controls-are : (t : List ℚ) (u : ℚ) (d m k : ℕ) (c : List ℚ) (axis i : ℕ) → axis < d → i ≤ m
-    → axisOf (controlsWith fractions t u d m k c) d axis i ≡ insertedControl (knot t) u k 5 (axisOf c d axis) i
+    → axisControl (controlsWith fractions t u d m k c) d axis i ≡ insertedControl (knot t) u k 5 (axisControl c d axis) i
 unfolding newControl insertedControl alpha
 controls-are t u d m k c axis i z h = control-is fractions (alphaOf fractions t u) d m k c i axis h z ∙ cases (leb (i + 5) k) (leb i k)
   where
-    cases : (low mid : Bool) → cond low (axisOf c d axis i)
-        (cond mid ((𝟙 -q alphaOf fractions t u i) *q axisOf c d axis (i - 1) +q alphaOf fractions t u i *q axisOf c d axis i)
-        (axisOf c d axis (i - 1)))
-        ≡ cond low 𝟙 (cond mid (alphaOf fractions t u i) 𝟘) *q axisOf c d axis i +q (𝟙 -q cond low 𝟙 (cond mid (alphaOf fractions t u i) 𝟘))
-        *q axisOf c d axis (i - 1)
-    cases true mid = solve rationalRing (axisOf c d axis i ∷ axisOf c d axis (i - 1) ∷ []) v0 (n1 ⊗ v0 ⊕ (n1 ⊖ n1) ⊗ v1) tt
+    cases : (low mid : Bool) → cond low (axisControl c d axis i)
+        (cond mid ((𝟙 -q alphaOf fractions t u i) *q axisControl c d axis (i - 1) +q alphaOf fractions t u i *q axisControl c d axis i)
+        (axisControl c d axis (i - 1)))
+        ≡ cond low 𝟙 (cond mid (alphaOf fractions t u i) 𝟘) *q axisControl c d axis i +q (𝟙 -q cond low 𝟙 (cond mid (alphaOf fractions t u i) 𝟘))
+        *q axisControl c d axis (i - 1)
+    cases true mid = solve rationalRing (axisControl c d axis i ∷ axisControl c d axis (i - 1) ∷ []) v0 (n1 ⊗ v0 ⊕ (n1 ⊖ n1) ⊗ v1) tt
     cases false true =
-        solve rationalRing (alphaOf fractions t u i ∷ axisOf c d axis (i - 1) ∷ axisOf c d axis i ∷ []) ((n1 ⊖ v0) ⊗ v1 ⊕ v0 ⊗ v2)
+        solve rationalRing (alphaOf fractions t u i ∷ axisControl c d axis (i - 1) ∷ axisControl c d axis i ∷ []) ((n1 ⊖ v0) ⊗ v1 ⊕ v0 ⊗ v2)
         (v0 ⊗ v2 ⊕ (n1 ⊖ v0) ⊗ v1) tt
-    cases false false = solve rationalRing (axisOf c d axis i ∷ axisOf c d axis (i - 1) ∷ []) v1 (n0 ⊗ v0 ⊕ (n1 ⊖ n0) ⊗ v1) tt
+    cases false false = solve rationalRing (axisControl c d axis i ∷ axisControl c d axis (i - 1) ∷ []) v1 (n0 ⊗ v0 ⊕ (n1 ⊖ n0) ⊗ v1) tt
 
 -- ---- the curve by the new controls and the new knots, on a span s of those
 sum-shift : (n : ℕ) (a b : ℕ → ℚ) → sum rationalRing (suc n) (λ i. a i +q b i) ≡ b 0 +q sum rationalRing n (λ i. a i +q b (suc i)) +q a (suc
@@ -150,21 +150,21 @@ module _ (t : List ℚ) (u : ℚ) (m k : ℕ) (five : 5 ≤ k) (km : k < m) (lon
 
   -- on each span of the new knots that is wider than 0, at every x
   pub curve-kept : (s : ℕ) → s ≤ m → t′ s <q t′ (s + 1) → (d axis : ℕ) → axis < d → (c : List ℚ) (x : ℚ)
-      → curve t′ (onSpan s) (m + 1) (axisOf (controlsWith fractions t u d m k c) d axis) x
-      ≡ curve (knot t) (onSpan (oldSpan k s)) m (axisOf c d axis) x
+      → curve t′ (onSpan s) (m + 1) (axisControl (controlsWith fractions t u d m k c) d axis) x
+      ≡ curve (knot t) (onSpan (oldSpan k s)) m (axisControl c d axis) x
   curve-kept s h w d axis z c x =
       let divides : (i j : ℕ) → i ≤ s → s < j → j ≤ s + 6 → Inverse (insertedKnot (knot t) u k j -q insertedKnot (knot t) u k i) =
       λ i j a b g. inverse-is (insertedKnot (knot t) u k j -q insertedKnot (knot t) u k i)
       (difference-above (insertedKnot (knot t) u k i) (insertedKnot (knot t) u k j)
       (rw (is-new i, is-new j) at (wider t′ (m + 7) new-nondecreasing s i j a b (omega arith) w))) in
-      sum-equal rationalRing (m + 1 - 1) (λ i. basis t′ (onSpan s) x 5 i *q axisOf (controlsWith fractions t u d m k c) d axis i)
-      (λ i. basis (insertedKnot (knot t) u k) (onSpan s) x 5 i *q insertedControl (knot t) u k 5 (axisOf c d axis) i)
+      sum-equal rationalRing (m + 1 - 1) (λ i. basis t′ (onSpan s) x 5 i *q axisControl (controlsWith fractions t u d m k c) d axis i)
+      (λ i. basis (insertedKnot (knot t) u k) (onSpan s) x 5 i *q insertedControl (knot t) u k 5 (axisControl c d axis) i)
       (λ i l. rw (
         controls-are t u d m k c axis i z (omega arith),
         basis-knots t′ (insertedKnot (knot t) u k) (onSpan s) x 5 i
             (λ j a b. is-new j),
       ))
-      ∙ curve-inserted (knot t) u k five s divides x (axisOf c d axis) m km
+      ∙ curve-inserted (knot t) u k five s divides x (axisControl c d axis) m km
 
   -- ---- a new span lies in its old one
   old-span-low : (s : ℕ) (x : ℚ) → t′ s ≤q x → knot t (oldSpan k s) ≤q x
@@ -208,27 +208,27 @@ module _ (t : List ℚ) (u : ℚ) (m k : ℕ) (five : 5 ≤ k) (km : k < m) (lon
 
   -- the book's curve, from the knot 5 to before the knot m
   pub half-open-kept : (d axis : ℕ) → axis < d → (c : List ℚ) (x : ℚ) → knot t 5 ≤q x → x <q knot t m
-      → curve t′ (halfOpen t′ x) (m + 1) (axisOf (controlsWith fractions t u d m k c) d axis) x
-      ≡ curve (knot t) (halfOpen (knot t) x) m (axisOf c d axis) x
+      → curve t′ (halfOpen t′ x) (m + 1) (axisControl (controlsWith fractions t u d m k c) d axis) x
+      ≡ curve (knot t) (halfOpen (knot t) x) m (axisControl c d axis) x
   half-open-kept d axis z c x a b =
       let s = spanOf fractions (knotsWith u k t) (m + 1) x in
       let rising : Nondecreasing (m + 1 + 6) t′ = λ i l. new-nondecreasing i (omega arith) in
       let f = found-holds (knotsWith u k t) (m + 1) new-length rising x (rw new-start a) (rw new-end b) in
-      half-open-curve t′ (m + 1) rising s (f .1) x (f .2) (f .3) (axisOf (controlsWith fractions t u d m k c) d axis)
+      half-open-curve t′ (m + 1) rising s (f .1) x (f .2) (f .3) (axisControl (controlsWith fractions t u d m k c) d axis)
       ∙ curve-kept s (omega (arith, f .1)) (≤q-<q-trans (t′ s) x (t′ (s + 1)) (f .2) (f .3)) d axis z c x
       ∙ sym (half-open-curve (knot t) m sorted (oldSpan k s) (old-span-below s (omega (arith, f .1))) x (old-span-low s x (f .2))
-      (old-span-high s x (f .3)) (axisOf c d axis))
+      (old-span-high s x (f .3)) (axisControl c d axis))
 
   -- with the right end of the domain, where the last span is wider than 0 and u before its end
   pub closed-kept : u <q knot t (k + 1) → knot t (m - 1) <q knot t m → (d axis : ℕ) → axis < d → (c : List ℚ) (x : ℚ) → knot t 5 ≤q x
       → x ≤q knot t m
-      → curve t′ (closedAtEnd (m + 1) t′ x) (m + 1) (axisOf (controlsWith fractions t u d m k c) d axis) x
-      ≡ curve (knot t) (closedAtEnd m (knot t) x) m (axisOf c d axis) x
+      → curve t′ (closedAtEnd (m + 1) t′ x) (m + 1) (axisControl (controlsWith fractions t u d m k c) d axis) x
+      ≡ curve (knot t) (closedAtEnd m (knot t) x) m (axisControl c d axis) x
   unfolding oldSpan
   closed-kept before last d axis z c x a b = go (atMostq (knot t m) x) refl
     where
       c′ : ℕ → ℚ
-      c′ = axisOf (controlsWith fractions t u d m k c) d axis
+      c′ = axisControl (controlsWith fractions t u d m k c) d axis
 
       -- the last new span is wider than 0
       wide : t′ m <q t′ (m + 1)
@@ -241,7 +241,7 @@ module _ (t : List ℚ) (u : ℚ) (m k : ℕ) (five : 5 ≤ k) (km : k < m) (lon
       one = omega arith
 
       go : (b : Bool) → atMostq (knot t m) x ≡ b → curve t′ (closedAtEnd (m + 1) t′ x) (m + 1) c′ x
-          ≡ curve (knot t) (closedAtEnd m (knot t) x) m (axisOf c d axis) x
+          ≡ curve (knot t) (closedAtEnd m (knot t) x) m (axisControl c d axis) x
       go true e =
           let e′ : atMostq (t′ (m + 1)) x ≡ true = rw new-end e in
           let o : oldSpan k m ≡ m - 1 = rw (lt-leb m k km) in
@@ -249,12 +249,12 @@ module _ (t : List ℚ) (u : ℚ) (m k : ℕ) (five : 5 ≤ k) (km : k < m) (lon
           (λ i l. closed-last (m + 1) t′ x e′ (rw new-end b) 5 i)
           ∙ ap (λ (n : ℕ). curve t′ (onSpan n) (m + 1) c′ x) one
           ∙ curve-kept m (omega arith) wide d axis z c x
-          ∙ ap (λ (n : ℕ). curve (knot t) (onSpan n) m (axisOf c d axis) x) o
-          ∙ sym (curve-reading (knot t) (closedAtEnd m (knot t) x) (onSpan (m - 1)) m (axisOf c d axis) x (omega arith)
+          ∙ ap (λ (n : ℕ). curve (knot t) (onSpan n) m (axisControl c d axis) x) o
+          ∙ sym (curve-reading (knot t) (closedAtEnd m (knot t) x) (onSpan (m - 1)) m (axisControl c d axis) x (omega arith)
           (λ i l. closed-last m (knot t) x e b 5 i))
       go false e =
           let e′ : atMostq (t′ (m + 1)) x ≡ false = rw new-end e in
           curve-reading t′ (closedAtEnd (m + 1) t′ x) (halfOpen t′ x) (m + 1) c′ x (omega arith) (λ i l. closed-before (m + 1) t′ x e′ 5 i)
           ∙ half-open-kept d axis z c x a (rw e tt)
-          ∙ sym (curve-reading (knot t) (closedAtEnd m (knot t) x) (halfOpen (knot t) x) m (axisOf c d axis) x (omega arith)
+          ∙ sym (curve-reading (knot t) (closedAtEnd m (knot t) x) (halfOpen (knot t) x) m (axisControl c d axis) x (omega arith)
           (λ i l. closed-before m (knot t) x e 5 i))

@@ -23,7 +23,7 @@ use Rattle.fraction.proofs.Sum.{sum-equal}
 use Rattle.fraction.proofs.Rational.{≤q-add, difference-above}
 use Rattle.book.specs.Fractions.{fractions}
 use Rattle.book.specs.Basis.{knot, Nondecreasing, onSpan, halfOpen, closedAtEnd}
-use Rattle.book.specs.Curve.{curve, axisOf, breakOf, segmentValue}
+use Rattle.book.specs.Curve.{curve, axisControl, breakOf, segmentValue}
 use Rattle.arith.proofs.Loops.{each-done, each-runs}
 use Rattle.book.proofs.Terms.{n0, n1}
 use Rattle.book.proofs.Order.{antisymmetric, not-both, rises}
@@ -212,7 +212,7 @@ module _ (t : List ℚ) (m : ℕ) (sorted : Nondecreasing (m + 6) (knot t)) (end
   own = segments-are t c d m sorted end ℓ h
 
   -- it is the curve of its span
-  value-on-span : (x : ℚ) → segmentValue (polynomialOf fractions t c d m) d axis ℓ x ≡ curve (knot t) (onSpan (own .span)) m (axisOf c d
+  value-on-span : (x : ℚ) → segmentValue (polynomialOf fractions t c d m) d axis ℓ x ≡ curve (knot t) (onSpan (own .span)) m (axisControl c d
       axis) x
   value-on-span x =
       let s = own .span in
@@ -224,21 +224,21 @@ module _ (t : List ℚ) (m : ℕ) (sorted : Nondecreasing (m + 6) (knot t)) (end
       (λ k. getD (segmentOf fractions (powersOf fractions t s (knot t s)) w c ((s - 5) * d + axis) d) k 𝟘 *q power rationalRing y k)
       (λ k l. ap (λ (q : ℚ). q *q power rationalRing y k) (own .cells axis k z (omega arith)))
       ∙ segment-curve t m s (own .five) (own .below) c d axis y
-      ∙ ap (curve (knot t) (onSpan s) m (axisOf c d axis))
+      ∙ ap (curve (knot t) (onSpan s) m (axisControl c d axis))
       (combine rationalRing (x ∷ knot t s ∷ w ∷ inverse w ∷ []) (v1 ⊕ v2 ⊗ ((v0 ⊖ v1) ⊗ v3)) v0 (v0 ⊖ v1) (v2 ⊗ v3) n1 tt
       (inverse-is w (difference-above (knot t s) (knot t (s + 1)) (own .wide)))))
 
   -- the book's curve, from its break to the next
   pub value-half-open : (x : ℚ) → breakOf (polynomialOf fractions t c d m) ℓ ≤q x → x <q breakOf (polynomialOf fractions t c d m) (ℓ + 1)
-      → segmentValue (polynomialOf fractions t c d m) d axis ℓ x ≡ curve (knot t) (halfOpen (knot t) x) m (axisOf c d axis) x
+      → segmentValue (polynomialOf fractions t c d m) d axis ℓ x ≡ curve (knot t) (halfOpen (knot t) x) m (axisControl c d axis) x
   value-half-open x low high =
       value-on-span x ∙ sym (half-open-curve (knot t) m sorted (own .span) (own .below) x (rw (own .start) at low)
-      (rw (own .next h) at high) (axisOf c d axis))
+      (rw (own .next h) at high) (axisControl c d axis))
 
   -- the last segment: from its break to the right end
   pub value-last : knot t (m - 1) <q knot t m → ℓ + 2 ≡ length (polynomialOf fractions t c d m .breaks) → (x : ℚ)
       → breakOf (polynomialOf fractions t c d m) ℓ ≤q x → x ≤q knot t m
-      → segmentValue (polynomialOf fractions t c d m) d axis ℓ x ≡ curve (knot t) (closedAtEnd m (knot t) x) m (axisOf c d axis) x
+      → segmentValue (polynomialOf fractions t c d m) d axis ℓ x ≡ curve (knot t) (closedAtEnd m (knot t) x) m (axisControl c d axis) x
   value-last wide e x low high = go (atMostq (knot t m) x) refl
     where
       ends : knot t (own .span + 1) ≡ knot t m
@@ -252,12 +252,12 @@ module _ (t : List ℚ) (m : ℕ) (sorted : Nondecreasing (m + 6) (knot t)) (end
       ]
 
       go : (b : Bool) → atMostq (knot t m) x ≡ b → segmentValue (polynomialOf fractions t c d m) d axis ℓ x
-          ≡ curve (knot t) (closedAtEnd m (knot t) x) m (axisOf c d axis) x
+          ≡ curve (knot t) (closedAtEnd m (knot t) x) m (axisControl c d axis) x
       go true g =
-          value-on-span x ∙ ap (λ (s : ℕ). curve (knot t) (onSpan s) m (axisOf c d axis) x) last
-          ∙ sym (curve-reading (knot t) (closedAtEnd m (knot t) x) (onSpan (m - 1)) m (axisOf c d axis) x (omega (arith, own .below))
+          value-on-span x ∙ ap (λ (s : ℕ). curve (knot t) (onSpan s) m (axisControl c d axis) x) last
+          ∙ sym (curve-reading (knot t) (closedAtEnd m (knot t) x) (onSpan (m - 1)) m (axisControl c d axis) x (omega (arith, own .below))
           (λ i l. closed-last m (knot t) x g high 5 i))
       go false g =
           value-half-open x low (rw (own .next h, ends, g) tt)
-          ∙ sym (curve-reading (knot t) (closedAtEnd m (knot t) x) (halfOpen (knot t) x) m (axisOf c d axis) x (omega (arith, own .below))
+          ∙ sym (curve-reading (knot t) (closedAtEnd m (knot t) x) (halfOpen (knot t) x) m (axisControl c d axis) x (omega (arith, own .below))
           (λ i l. closed-before m (knot t) x g 5 i))

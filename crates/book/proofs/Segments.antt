@@ -17,7 +17,7 @@ use Rattle.fraction.proofs.Polynomial.{horner-is-sum}
 use Rattle.fraction.proofs.Sum.{sum-equal}
 use Rattle.book.specs.Fractions.{fractions}
 use Rattle.book.specs.Basis.{knot, basis, onSpan}
-use Rattle.book.specs.Curve.{curve, axisOf}
+use Rattle.book.specs.Curve.{curve, axisControl}
 use Rattle.book.proofs.Terms.{n0, n1, hornerTerm}
 use Rattle.book.proofs.Powers.{row-is}
 use Rattle.book.proofs.Curves.{curve-six}
@@ -78,7 +78,7 @@ segment-is t span five x h c at d y =
 pub segment-curve : (t : List ℚ) (m span : ℕ) → 5 ≤ span → span < m → (c : List ℚ) (d axis : ℕ) (y : ℚ)
     → polynomial rationalRing 5 (λ k. getD (segmentOf fractions (powersOf fractions t span (knot t span)) (knot t (span + 1) -q knot t span)
     c ((span - 5) * d + axis) d) k 𝟘) y
-    ≡ curve (knot t) (onSpan span) m (axisOf c d axis) (knot t span +q (knot t (span + 1) -q knot t span) *q y)
+    ≡ curve (knot t) (onSpan span) m (axisControl c d axis) (knot t span +q (knot t (span + 1) -q knot t span) *q y)
 segment-curve t m span five h c d axis y =
     let w = knot t (span + 1) -q knot t span in
     let x = knot t span +q w *q y in
@@ -86,9 +86,9 @@ segment-curve t m span five h c d axis y =
     d) k 𝟘) y)
     ∙ segment-is t span five (knot t span) w c ((span - 5) * d + axis) d y
     ∙ sum-equal rationalRing 5 (λ r. basis (knot t) (onSpan span) x 5 (span - 5 + r) *q getD c ((span - 5) * d + axis + r * d) 𝟘)
-    (λ r. basis (knot t) (onSpan span) x 5 (span - 5 + r) *q axisOf c d axis (span - 5 + r))
+    (λ r. basis (knot t) (onSpan span) x 5 (span - 5 + r) *q axisControl c d axis (span - 5 + r))
     (λ r g. let e : (span - 5) * d + axis + r * d ≡ (span - 5 + r) * d + axis = index (span - 5) r in rw e)
-    ∙ sym (curve-six (knot t) m span five h x (axisOf c d axis))
+    ∙ sym (curve-six (knot t) m span five h x (axisControl c d axis))
   where
     index : (s r : ℕ) → s * d + axis + r * d ≡ (s + r) * d + axis
     index s r = omega arith

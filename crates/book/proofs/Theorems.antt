@@ -20,7 +20,7 @@ use Rattle.fraction.proofs.Rational.{<q-weaken}
 use Rattle.fraction.proofs.Polynomial.{horner-is-sum}
 use Rattle.book.specs.Fractions.{fractions, fractionsBy}
 use Rattle.book.specs.Basis.{knot, Nondecreasing, basis, halfOpen, onSpan, closedAtEnd}
-use Rattle.book.specs.Curve.{curve, axisOf, breakOf, segmentValue}
+use Rattle.book.specs.Curve.{curve, axisControl, breakOf, segmentValue}
 use Rattle.book.specs.Insertion.{insertedKnot, insertedControl, oldSpan}
 use Rattle.book.proofs.Readings.{half-open-basis}
 use Rattle.book.proofs.Values.{entries-are}
@@ -79,7 +79,7 @@ module _ (divide : ℚ → ℚ → ℚ) (agrees : (a b : ℚ) → Above b → di
 pub segment-is-curve : (t : List ℚ) (m span : ℕ) → 5 ≤ span → span < m → (c : List ℚ) (d axis : ℕ) (y : ℚ)
     → polynomial rationalRing 5 (λ k. getD (segmentOf fractions (powersOf fractions t span (knot t span)) (knot t (span + 1) -q knot t span)
     c ((span - 5) * d + axis) d) k 𝟘) y
-    ≡ curve (knot t) (onSpan span) m (axisOf c d axis) (knot t span +q (knot t (span + 1) -q knot t span) *q y)
+    ≡ curve (knot t) (onSpan span) m (axisControl c d axis) (knot t span +q (knot t (span + 1) -q knot t span) *q y)
 segment-is-curve = segment-curve
 
 -- For knots that never fall, on a domain that ends at 1, as the source's breaks do: each segment of the polynomial of m controls is the
@@ -87,14 +87,14 @@ segment-is-curve = segment-curve
 pub polynomial-is-curve : (t : List ℚ) (m : ℕ) → Nondecreasing (m + 6) (knot t) → knot t m ≡ 𝟙
     → (c : List ℚ) (d axis ℓ : ℕ) → axis < d → ℓ + 1 < length (polynomialOf fractions t c d m .breaks)
     → (x : ℚ) → breakOf (polynomialOf fractions t c d m) ℓ ≤q x → x <q breakOf (polynomialOf fractions t c d m) (ℓ + 1)
-    → segmentValue (polynomialOf fractions t c d m) d axis ℓ x ≡ curve (knot t) (halfOpen (knot t) x) m (axisOf c d axis) x
+    → segmentValue (polynomialOf fractions t c d m) d axis ℓ x ≡ curve (knot t) (halfOpen (knot t) x) m (axisControl c d axis) x
 polynomial-is-curve = value-half-open
 
 -- The last segment is so up to the right end, that end included, where the last span is wider than 0.
 pub polynomial-is-curve-at-end : (t : List ℚ) (m : ℕ) → Nondecreasing (m + 6) (knot t) → knot t m ≡ 𝟙 → knot t (m - 1) <q knot t m
     → (c : List ℚ) (d axis ℓ : ℕ) → axis < d → ℓ + 2 ≡ length (polynomialOf fractions t c d m .breaks)
     → (x : ℚ) → breakOf (polynomialOf fractions t c d m) ℓ ≤q x → x ≤q knot t m
-    → segmentValue (polynomialOf fractions t c d m) d axis ℓ x ≡ curve (knot t) (closedAtEnd m (knot t) x) m (axisOf c d axis) x
+    → segmentValue (polynomialOf fractions t c d m) d axis ℓ x ≡ curve (knot t) (closedAtEnd m (knot t) x) m (axisControl c d axis) x
 polynomial-is-curve-at-end t m sorted end wide c d axis ℓ z h = value-last t m sorted end c d axis ℓ z (omega arith) wide h
 
 -- ==== Knot insertion (section 5.2, eq. 5.15): u goes in after the knot k
@@ -105,7 +105,7 @@ inserted-knots = knots-are
 
 -- The new controls of each axis are the book's, by cases on α.
 pub inserted-controls : (t : List ℚ) (u : ℚ) (d m k : ℕ) (c : List ℚ) (axis i : ℕ) → axis < d → i ≤ m
-    → axisOf (controlsWith fractions t u d m k c) d axis i ≡ insertedControl (knot t) u k 5 (axisOf c d axis) i
+    → axisControl (controlsWith fractions t u d m k c) d axis i ≡ insertedControl (knot t) u k 5 (axisControl c d axis) i
 inserted-controls = controls-are
 
 -- ==== The spline of m controls and m + 6 knots that never fall
@@ -128,10 +128,10 @@ module _ (t : List ℚ) (m : ℕ) (count : length t ≡ m + 6) (sorted : Nondecr
 
   -- And six products of a value and a control give the curve (eq. 3.1, algorithm A3.1).
   pub values-give-curve : 6 ≤ m → (x : ℚ) → knot t 5 ≤q x → x ≤q knot t m → (c : List ℚ) (d axis : ℕ)
-      → sum rationalRing 5 (λ r. getD (valuesOf fractions t (spanOf fractions t m x) x) r 𝟘 *q axisOf c d axis
+      → sum rationalRing 5 (λ r. getD (valuesOf fractions t (spanOf fractions t m x) x) r 𝟘 *q axisControl c d axis
       (spanOf fractions t m x - 5 + r))
-      ≡ curve (knot t) (closedAtEnd m (knot t) x) m (axisOf c d axis) x
-  values-give-curve six x low high c d axis = curve-found t m count sorted x six low high (axisOf c d axis)
+      ≡ curve (knot t) (closedAtEnd m (knot t) x) m (axisControl c d axis) x
+  values-give-curve six x low high c d axis = curve-found t m count sorted x six low high (axisControl c d axis)
 
   -- ---- insertion leaves the curve as it is
 
@@ -139,16 +139,16 @@ module _ (t : List ℚ) (m : ℕ) (count : length t ≡ m + 6) (sorted : Nondecr
   -- a part of.
   pub insertion-keeps-spans : (u : ℚ) (k : ℕ) → 5 ≤ k → k < m → knot t k ≤q u → u ≤q knot t (k + 1)
       → (s : ℕ) → s ≤ m → knot (knotsWith u k t) s <q knot (knotsWith u k t) (s + 1) → (c : List ℚ) (d axis : ℕ) → axis < d → (x : ℚ)
-      → curve (knot (knotsWith u k t)) (onSpan s) (m + 1) (axisOf (controlsWith fractions t u d m k c) d axis) x
-      ≡ curve (knot t) (onSpan (oldSpan k s)) m (axisOf c d axis) x
+      → curve (knot (knotsWith u k t)) (onSpan s) (m + 1) (axisControl (controlsWith fractions t u d m k c) d axis) x
+      ≡ curve (knot t) (onSpan (oldSpan k s)) m (axisControl c d axis) x
   insertion-keeps-spans u k five below low high s h wide c d axis z = curve-kept t u m k five below count sorted low high s h wide d axis z
       c
 
   -- So the book's curve is the same before and after.
   pub insertion-keeps-curve : (u : ℚ) (k : ℕ) → 5 ≤ k → k < m → knot t k ≤q u → u ≤q knot t (k + 1)
       → (c : List ℚ) (d axis : ℕ) → axis < d → (x : ℚ) → knot t 5 ≤q x → x <q knot t m
-      → curve (knot (knotsWith u k t)) (halfOpen (knot (knotsWith u k t)) x) (m + 1) (axisOf (controlsWith fractions t u d m k c) d axis) x
-      ≡ curve (knot t) (halfOpen (knot t) x) m (axisOf c d axis) x
+      → curve (knot (knotsWith u k t)) (halfOpen (knot (knotsWith u k t)) x) (m + 1) (axisControl (controlsWith fractions t u d m k c) d axis) x
+      ≡ curve (knot t) (halfOpen (knot t) x) m (axisControl c d axis) x
   insertion-keeps-curve u k five below low high c d axis z = half-open-kept t u m k five below count sorted low high d axis z c
 
   -- With the span that the code finds for u it is so on the whole domain, its right end included, where the last span is wider than 0.
@@ -156,8 +156,8 @@ module _ (t : List ℚ) (m : ℕ) (count : length t ≡ m + 6) (sorted : Nondecr
       → (c : List ℚ) (d axis : ℕ) → axis < d → (x : ℚ) → knot t 5 ≤q x → x ≤q knot t m
       → curve (knot (knotsWith u (spanOf fractions t m u) t)) (closedAtEnd (m + 1) (knot (knotsWith u (spanOf fractions t m u) t)) x)
       (m + 1)
-      (axisOf (controlsWith fractions t u d m (spanOf fractions t m u) c) d axis) x
-      ≡ curve (knot t) (closedAtEnd m (knot t) x) m (axisOf c d axis) x
+      (axisControl (controlsWith fractions t u d m (spanOf fractions t m u) c) d axis) x
+      ≡ curve (knot t) (closedAtEnd m (knot t) x) m (axisControl c d axis) x
   insertion-at-own-span u low high wide c d axis z =
       let f = found-holds t m count sorted u low high in
       let k = spanOf fractions t m u in

@@ -14,8 +14,8 @@ abbrev pub curve : (ℕ → ℚ) → (ℕ → ℚ) → ℕ → (ℕ → ℚ) →
 curve t first m c u = sum rationalRing (m - 1) (λ i. basis t first u 5 i *q c i)
 
 -- the controls of one axis: control i of d axes lies at i * d
-abbrev pub axisOf : List ℚ → ℕ → ℕ → ℕ → ℚ
-axisOf c d axis i = getD c (i * d + axis) 𝟘
+abbrev pub axisControl : List ℚ → ℕ → ℕ → ℕ → ℚ
+axisControl c d axis i = getD c (i * d + axis) 𝟘
 
 -- break ℓ, where segment ℓ starts
 abbrev pub breakOf : Polynomial ℚ → ℕ → ℚ

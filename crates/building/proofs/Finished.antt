@@ -35,7 +35,7 @@ use Rattle.interpolation.specs.declared.Nodes.{Nodes}
 use Rattle.interpolation.specs.Memory.{breaksPlace as otherBreaksPlace, polynomialIn}
 use Rattle.building.specs.Outcome.{reportOf, Results, resultsAfter, workAfter}
 use Rattle.building.specs.Computed.{Both, both, bothFrom, withOther, selectedAt, otherAt}
-use Rattle.building.specs.Answered.{checkedBoth, planOf, Placed, reportIn, curveIn, resultsFrom}
+use Rattle.building.specs.Answered.{checkedBoth, planOf, BothPlaced, reportIn, curveIn, resultsFrom}
 
 -- equal numbers, one refusal
 pub is : (n m : ℕ) → n ≡ m → _≡_ {A = Answer Report} (refused n) (refused m)
@@ -142,7 +142,7 @@ module _ (l : Lane) (m : Limits) where
       go (exhausted x) e = refl
 
 -- ---- the result of a run that is done
-module _ (l : Lane) (m : Limits) (r : Run) (w : List Float) (P : Placed l m r (length w)) where
+module _ (l : Lane) (m : Limits) (r : Run) (w : List Float) (P : BothPlaced l m r (length w)) where
   abbrev pub plan : Plan
   plan = sized (planOf l m) (r .computed .count)
 

@@ -83,7 +83,7 @@ pub record Domain (d n : ℕ) (m : Limits) (points work : ℕ) : Type 0 where
   pub work-fits : (max n (m .segments) + 16) * (16 * d + 32) ≤ work
 
 -- where everything is done: the axes, and the places of both polynomials
-pub record Placed (l : Lane) (m : Limits) (r : Run) (cells : ℕ) : Type 0 where
+pub record BothPlaced (l : Lane) (m : Limits) (r : Run) (cells : ℕ) : Type 0 where
   pub k-is : r .k ≡ axisCount l
   pub j-is : r .j ≡ length (otherAxes l)
   pub two : 2 ≤ l .n
@@ -97,7 +97,7 @@ pub record Placed (l : Lane) (m : Limits) (r : Run) (cells : ℕ) : Type 0 where
 -- the run of a lane
 pub record Ran (l : Lane) (m : Limits) (r : Run) (w : List Float) : Type 0 where
   pub is : runIn l m r w ≡ checkedBoth l m
-  pub places : r .computed .ending ≡ Done → Placed l m r (length w)
+  pub places : r .computed .ending ≡ Done → BothPlaced l m r (length w)
 
 -- the report and the curve that the code makes of a run
 abbrev pub reportIn : Run → Report

@@ -1,6 +1,6 @@
 -- Document 01's number of each answer of the code, with its figure.
 use Prim.Native.Nat.{ℕ}
-use Rattle.figure.specs.Certify.{Outcome, outcome}
+use Rattle.figure.specs.Certify.{CertificateOutcome, outcome}
 use Rattle.figure.specs.Figure.{figure, noFigure}
 use Rattle.certificate.specs.declared.certify.Certificate.{Certificate}
 use Rattle.certificate.specs.declared.certify.Certificate.the-variants as answers
@@ -18,7 +18,7 @@ refusalNumber Malformed = 24
 refusalNumber NotSelected = 3
 
 -- and of an answer, with its figure
-abbrev pub outcomeOf : Certificate → Outcome
+abbrev pub outcomeOf : Certificate → CertificateOutcome
 outcomeOf (answers.Figure x) = outcome 0 (figure x)
 outcomeOf answers.None = outcome 0 noFigure
 outcomeOf (answers.Refused r) = outcome (refusalNumber r) noFigure

@@ -10,7 +10,7 @@ use lib.ListN.{length, getD}
 use lib.Ieee.{Float, binary64, ofBits, eq}
 use Rattle.window.specs.Cells.{+0, at}
 use Rattle.curve.specs.declared.Curve.{Curve}
-use Rattle.curve.specs.Form.{Slices, axesFormed, rises, setFormed, othersFormed, rangeFormed, wellFormed}
+use Rattle.curve.specs.Form.{Slices, axesFormed, breaksRise, setFormed, othersFormed, rangeFormed, wellFormed}
 use Rattle.curve.specs.Places.{positionOf}
 use Rattle.curve.proofs.Order.{and-parts}
 use Rattle.curve.proofs.Placing.{Distinct}
@@ -30,9 +30,9 @@ set-sizes m n b c h =
     let t2 = t1 && eqb (length b) (n + 1) in
     let t3 = t2 && eqb (length c) (6 * (n * m)) in
     let t4 = t3 && eq (at b 0) +0 in
-    let t5 = t4 && rises b n in
+    let t5 = t4 && breaksRise b n in
     let p5 = and-parts t5 (eq (at b n) (ofBits binary64 0x3ff0_0000_0000_0000)) h in
-    let p4 = and-parts t4 (rises b n) (p5 .0) in
+    let p4 = and-parts t4 (breaksRise b n) (p5 .0) in
     let p3 = and-parts t3 (eq (at b 0) +0) (p4 .0) in
     let p2 = and-parts t2 (eqb (length c) (6 * (n * m))) (p3 .0) in
     let p1 = and-parts t1 (eqb (length b) (n + 1)) (p2 .0) in

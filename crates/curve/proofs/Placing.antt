@@ -1,4 +1,4 @@
--- The laws of `placeOf`: how a loop over the axes finds their places, and that a place is below d.
+-- The laws of `axisPlace`: how a loop over the axes finds their places, and that a place is below d.
 use mathlib.Core.Path.{_≡_, refl, _∙_}
 use mathlib.Core.Bool.{cond}
 use mathlib.Core.List.{List}
@@ -11,13 +11,13 @@ use lib.Dec.{ltb, eqb}
 use lib.ListN.{length, getD, set}
 use lib.Seq.{getD-set-same, getD-set-other}
 use Rattle.curve.specs.First.{firstOf}
-use Rattle.curve.specs.Places.{positionOf, othersBelow, placeOf}
+use Rattle.curve.specs.Places.{positionOf, othersBelow, axisPlace}
 use Rattle.curve.proofs.Firsts.{first-le, first-more, first-stays}
 
 module _ (axes : List ℕ) (k : ℕ) where
   -- a listed axis is at its index
-  pub listed-place : (a : ℕ) → positionOf axes k a < k → placeOf axes k a ≡ positionOf axes k a
-  unfolding placeOf
+  pub listed-place : (a : ℕ) → positionOf axes k a < k → axisPlace axes k a ≡ positionOf axes k a
+  unfolding axisPlace
   listed-place a h = rw (lt-ltb (positionOf axes k a) k h)
 
   pub listed-next : (a : ℕ) → positionOf axes k a < k → othersBelow axes k (a + 1) ≡ othersBelow axes k a
@@ -25,8 +25,8 @@ module _ (axes : List ℕ) (k : ℕ) where
   listed-next a h = rw (add-one, lt-ltb (positionOf axes k a) k h) (omega arith)
 
   -- another axis follows the others below it
-  pub other-place : (a : ℕ) → k ≤ positionOf axes k a → placeOf axes k a ≡ k + othersBelow axes k a
-  unfolding placeOf
+  pub other-place : (a : ℕ) → k ≤ positionOf axes k a → axisPlace axes k a ≡ k + othersBelow axes k a
+  unfolding axisPlace
   other-place a h = rw (le-ltb (positionOf axes k a) k h)
 
   pub other-next : (a : ℕ) → k ≤ positionOf axes k a → othersBelow axes k (a + 1) ≡ othersBelow axes k a + 1
@@ -34,8 +34,8 @@ module _ (axes : List ℕ) (k : ℕ) where
   other-next a h = rw (add-one, le-ltb (positionOf axes k a) k h)
 
   -- the places of one axis more
-  pub place-next : (at : List ℕ) (a v : ℕ) → a < length at → v ≡ placeOf axes k a → ((b : ℕ) → b < a → getD at b 0 ≡ placeOf axes k b)
-      → (b : ℕ) → b < a + 1 → getD (set at a v) b 0 ≡ placeOf axes k b
+  pub place-next : (at : List ℕ) (a v : ℕ) → a < length at → v ≡ axisPlace axes k a → ((b : ℕ) → b < a → getD at b 0 ≡ axisPlace axes k b)
+      → (b : ℕ) → b < a + 1 → getD (set at a v) b 0 ≡ axisPlace axes k b
   place-next at a v l e h b m = elim (decLt b a) [
     | yes g ↦ getD-set-other at a b v 0 (λ q. absurd (omega arith)) ∙ h b g
     | no g ↦
@@ -122,7 +122,7 @@ module _ (axes : List ℕ) where
   ]
 
   -- a place is below d
-  pub place-below : (k d : ℕ) → k ≤ d → Distinct axes k d → (a : ℕ) → a < d → placeOf axes k a < d
+  pub place-below : (k d : ℕ) → k ≤ d → Distinct axes k d → (a : ℕ) → a < d → axisPlace axes k a < d
   place-below k d h good a l = elim (decLt (positionOf axes k a) k) [
     | yes p ↦ rw (listed-place axes k a p) (omega arith)
     | no p ↦

@@ -26,8 +26,8 @@ unfoldable pub axesFormed : List ℕ → ℕ → ℕ → Bool
 axesFormed axes k d = every k (λ i. ltb (getD axes i 0) d && eqb (positionOf axes i (getD axes i 0)) i)
 
 -- each of the first n breaks is below the next
-abbrev pub rises : List Float → ℕ → Bool
-rises breaks n = every n (λ i. lt (at breaks i) (at breaks (i + 1)))
+abbrev pub breaksRise : List Float → ℕ → Bool
+breaksRise breaks n = every n (λ i. lt (at breaks i) (at breaks (i + 1)))
 
 -- A set of n segments with m axes: "slice lengths match, each set has at least one and at most 20,000 segments", "breaks rise strictly
 -- from 0
@@ -36,7 +36,7 @@ unfoldable pub setFormed : ℕ → ℕ → List Float → List Float → Bool
 setFormed m n breaks coefficients =
     leb 1 n && leb n 20000
     && eqb (length breaks) (n + 1) && eqb (length coefficients) (6 * (n * m))
-    && eq (at breaks 0) +0 && rises breaks n && eq (at breaks n) (ofBits binary64 0x3ff0_0000_0000_0000)
+    && eq (at breaks 0) +0 && breaksRise breaks n && eq (at breaks n) (ofBits binary64 0x3ff0_0000_0000_0000)
 
 -- the n segments of the m other axes: "when k = d the other set has neither segments nor breaks", so the lengths are 0
 unfoldable pub othersFormed : ℕ → ℕ → List Float → List Float → Bool

@@ -17,5 +17,5 @@ othersBelow axes k (suc a) = othersBelow axes k a + cond (ltb (positionOf axes k
 
 -- The place of axis a: among the selected axes its index in the list; the other axes follow in rising order, k and above (the source's
 -- `(0..d).filter(|a| !seen[*a])`).
-unfoldable pub placeOf : List ℕ → ℕ → ℕ → ℕ
-placeOf axes k a = cond (ltb (positionOf axes k a) k) (positionOf axes k a) (k + othersBelow axes k a)
+unfoldable pub axisPlace : List ℕ → ℕ → ℕ → ℕ
+axisPlace axes k a = cond (ltb (positionOf axes k a) k) (positionOf axes k a) (k + othersBelow axes k a)

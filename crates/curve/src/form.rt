@@ -2,7 +2,7 @@
 ghost use mathlib.Core.Path.{_≡_};
 ghost use Prim.Native.Nat.{_+_, _-_, _*_, _≤_, _<_};
 ghost use lib.ListN.{length};
-ghost use Rattle.curve.specs.Form.{slices, axesFormed, rises, setFormed, othersFormed, rangeFormed, wellFormed};
+ghost use Rattle.curve.specs.Form.{slices, axesFormed, breaksRise, setFormed, othersFormed, rangeFormed, wellFormed};
 use crate::Curve;
 use crate::count::one_if;
 use crate::place::position;
@@ -29,7 +29,7 @@ pub fn axes_formed(axes: &[usize; 16], k: usize, d: usize) -> bool
 // Whether each of the first n breaks is below the next: those that are, are counted.
 fn rise(breaks: &[f64], n: usize) -> bool
     requires { ⌜ n < length (now breaks) ⌝ }
-    ensures { λ r. ⌜ r ≡ rises (now (breaks .entry)) n ⌝ }
+    ensures { λ r. ⌜ r ≡ breaksRise (now (breaks .entry)) n ⌝ }
 {
     let mut below = 0;
     let mut i = 0;

@@ -18,11 +18,11 @@ use Rattle.request.proofs.Anys.{or-none}
 use Rattle.request.proofs.Counts.{waypoint-count}
 use Rattle.request.proofs.Normalised.{normalised-first, normalised-last, normalised-rises}
 use Rattle.curve.specs.declared.Curve.{Curve}
-use Rattle.curve.specs.Form.{Slices, rises, setFormed, wellFormed}
+use Rattle.curve.specs.Form.{Slices, breaksRise, setFormed, wellFormed}
 use Rattle.curve.specs.Places.{positionOf}
 use Rattle.curve.proofs.Firsts.{every-at, first-passes}
 use Rattle.curve.proofs.Formed.{axes-good, formed, set-sizes}
-use Rattle.figure.specs.Certify.{Certified, Outcome, certifiedAxis, certifyOf, outcome}
+use Rattle.figure.specs.Certify.{Certified, CertificateOutcome, certifiedAxis, certifyOf, outcome}
 use Rattle.figure.specs.Distance.{Rises}
 use Rattle.figure.specs.Figure.{Figure, figure, figureOf, noFigure}
 use Rattle.figure.proofs.Covering.{covered}
@@ -36,13 +36,13 @@ set-rises m n b c h =
     let t = leb 1 n && leb n 20000 && eqb (length b) (n + 1) && eqb (length c) (6 * (n * m)) in
     let zero = eq (at b 0) +0 in
     let one = eq (at b n) (ofBits binary64 0x3ff0_0000_0000_0000) in
-    let all : T (t && zero && rises b n && one) = subst T (sym h) tt in
-    let below = and-l (t && zero && rises b n) one all in
+    let all : T (t && zero && breaksRise b n && one) = subst T (sym h) tt in
+    let below = and-l (t && zero && breaksRise b n) one all in
     record {
-      from-zero = and-r t zero (and-l (t && zero) (rises b n) below);
-      rising = λ i l. subst T (sym (every-at (λ i. lt (at b i) (at b (i + 1))) n (is-true (rises b n) (and-r (t && zero) (rises b n) below))
+      from-zero = and-r t zero (and-l (t && zero) (breaksRise b n) below);
+      rising = λ i l. subst T (sym (every-at (λ i. lt (at b i) (at b (i + 1))) n (is-true (breaksRise b n) (and-r (t && zero) (breaksRise b n) below))
           i l)) tt;
-      to-one = and-r (t && zero && rises b n) one all;
+      to-one = and-r (t && zero && breaksRise b n) one all;
     }
 
 -- ---- the place of an axis
@@ -54,9 +54,9 @@ selected-below axes k d a h l =
 
 -- ---- what is not refused
 -- an answer that is no refusal passed the check, and is what follows it
-passed : (b : Bool) (k : ℕ) (next : Outcome) (f : Figure) → cond b (outcome (suc k) noFigure) next ≡ outcome 0 f → (b ≡ false)
+passed : (b : Bool) (k : ℕ) (next : CertificateOutcome) (f : Figure) → cond b (outcome (suc k) noFigure) next ≡ outcome 0 f → (b ≡ false)
     × (next ≡ outcome 0 f)
-passed true k next f h = let e : suc k ≡ 0 = ap (λ (o : Outcome). o .number) h in absurd (omega arith)
+passed true k next f h = let e : suc k ≡ 0 = ap (λ (o : CertificateOutcome). o .number) h in absurd (omega arith)
 passed false k next f h = (refl, h)
 
 module _ (c : Curve) (s : Slices) (points : List Float) (n : ℕ) (spacing : Spacing) (parameters : List Float) (axis : ℕ) where
@@ -93,7 +93,7 @@ module _ (c : Curve) (s : Slices) (points : List Float) (n : ℕ) (spacing : Spa
           well-formed = not-false (wellFormed c s) (e24 .0);
           selected = ltb-true (positionOf (c .axes) (c .k) axis) (c .k) (not-false (ltb (positionOf (c .axes) (c .k) axis) (c .k)) (e3 .0));
         },
-        ap (λ (o : Outcome). o .certified) (e3 .1),
+        ap (λ (o : CertificateOutcome). o .certified) (e3 .1),
       )
 
   module _ (A : Accepted) where

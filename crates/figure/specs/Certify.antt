@@ -20,11 +20,11 @@ use Rattle.figure.specs.Distance.{Covered, DistanceRule, Rises}
 use Rattle.figure.specs.Figure.{Axis, Figure, figure, figureOf, noFigure}
 
 -- document 01's number, 0 where nothing is refused; and the figure, or none
-pub record Outcome : Type 0 where
+pub record CertificateOutcome : Type 0 where
   pub number : ℕ
   pub certified : Figure
 
-abbrev pub outcome : ℕ → Figure → Outcome
+abbrev pub outcome : ℕ → Figure → CertificateOutcome
 outcome n f = record { number = n; certified = f }
 
 -- the selected axis that is certified: "p the curve's coefficients, and d the curve's own d"
@@ -33,7 +33,7 @@ certifiedAxis c s points n spacing parameters axis =
     axisOf (s .breaks) (s .coefficients) (c .k) (positionOf (c .axes) (c .k) axis) points (c .d) axis n spacing parameters
 
 -- "Certifying: 18, 20, 1, 5, 6, 24, 3": 18 d or n above the domain, 20 "point cells differ from d times n", 3 "an axis not selected"
-unfoldable pub certifyOf : Curve → Slices → List Float → ℕ → Spacing → List Float → ℕ → Outcome
+unfoldable pub certifyOf : Curve → Slices → List Float → ℕ → Spacing → List Float → ℕ → CertificateOutcome
 certifyOf c s points n spacing parameters axis =
     cond (ltb 16 (c .d) || ltb 20000 n) (outcome 18 noFigure)
     (cond (not (eqb (length points) (c .d * n))) (outcome 20 noFigure)

@@ -11,7 +11,7 @@ use lib.Ieee.{Float, nan, binary64, add, le, lt}
 use Rattle.arith.proofs.Loops.{each-keeps, each-runs}
 use Rattle.window.specs.Cells.{at}
 use Rattle.normal.specs.System.{newOf}
-use Rattle.normal.specs.Solve.{Outcome, solveOf}
+use Rattle.normal.specs.Solve.{SolveOutcome, solveOf}
 use Rattle.normal.proofs.Outcomes.{solve-number}
 use Rattle.fitting_rows.specs.Arrays.{Arrays}
 use Rattle.fitting_rows.specs.Samples.{below}
@@ -35,7 +35,7 @@ added-outside delta from count c i out =
 
 module _ (x : Arrays) (a z : ℕ) where
   -- the two ways in which a fit ends
-  abbrev fine : ℕ → Outcome → Fit
+  abbrev fine : ℕ → SolveOutcome → Fit
   fine rows o =
       record {
         answered = answer 0 (below (x .s) (low x a z)) (atOrBelow (x .s) (high x a z)) rows;
@@ -43,7 +43,7 @@ module _ (x : Arrays) (a z : ℕ) where
         system = o .system;
       }
 
-  abbrev refused : Outcome → Fit
+  abbrev refused : SolveOutcome → Fit
   refused o = record { answered = answer (o .number) 0 0 0; controls = x .c; system = o .system }
 
   -- what holds of both, for the rows that were assembled and what `solve` gave, holds of the fit

@@ -8,8 +8,8 @@ use lib.Ieee.{Float}
 use Rattle.window.specs.Window.{window, splice}
 use Rattle.window.proofs.Windows.{length-window, window-same, window-before}
 use Rattle.fitting_rows.specs.declared.Place.{Place}
-use Rattle.fitting_rows.specs.Arrays.{Placed}
-use Rattle.fit.specs.Region.{Laid, before}
+use Rattle.fitting_rows.specs.Arrays.{ArraysWithin}
+use Rattle.fit.specs.Region.{WindowLaid, before}
 
 module _ (g e : ℕ) (v w : List Float) (lies : g ≤ e) (long : e ≡ length w) (fills : length v ≡ e - g) where
   -- the arrays are as before
@@ -21,7 +21,7 @@ module _ (g e : ℕ) (v w : List Float) (lies : g ≤ e) (long : e ≡ length w)
   back-written = window-same g e v w (omega arith) fills
 
 -- the arrays of a fit lie in the cells before its system
-pub placed : (p : Place) (a z : ℕ) (w : List Float) → Laid p a z (length w) → Placed p (length (before p w))
+pub placed : (p : Place) (a z : ℕ) (w : List Float) → WindowLaid p a z (length w) → ArraysWithin p (length (before p w))
 placed p a z w h =
     let e = length-window 0 (p .system) w (omega arith) (omega arith) in (
       omega arith,

@@ -19,7 +19,7 @@ use Rattle.fitting_rows.specs.Pieces.{atOrBelow, nodeRowOf, passedOver, meshSpa
 use Rattle.bspline.proofs.PointWithin.{point-within}
 use Rattle.fit.specs.Assembly.{Assembled, assembled, low, high, counted, sampleTurn, samplesOf, pieceOf, meshTurn, meshOf, sparseTurn, sparseOf, assembledOf}
 use Rattle.fit.specs.Fit.{Answer, Bounded, fitOf, rowsMost}
-use Rattle.fit.specs.Region.{Laid, before}
+use Rattle.fit.specs.Region.{WindowLaid, before}
 use Rattle.fit.proofs.Bounds.{fit-either, fit-reach}
 
 -- turns that count at most c rows each
@@ -92,7 +92,7 @@ module _ (x : Arrays) (a z : ℕ) where
       (omega arith)
 
 -- the answer of a fit at a place, with the bounds of its counts
-pub answer-bounded : {C : Type 0} (p : Place) (a z : ℕ) (strength : Float) (l : List Float) {k : Answer} → Laid p a z (length l)
+pub answer-bounded : {C : Type 0} (p : Place) (a z : ℕ) (strength : Float) (l : List Float) {k : Answer} → WindowLaid p a z (length l)
     → (k ≡ fitOf (arraysAt p (before p l)) a z strength .answered) × C → (k ≡ fitOf (arraysAt p (before p l)) a z strength .answered)
     × (C × Bounded (p .samples) (p .count) k)
 answer-bounded p a z strength l h e =

@@ -8,7 +8,7 @@ use lib.Ieee.{Float, binary64, add}
 use Rattle.arith.specs.Loop.{each}
 use Rattle.window.specs.Cells.{at}
 use Rattle.normal.specs.System.{System, newOf}
-use Rattle.normal.specs.Solve.{Outcome, solveOf}
+use Rattle.normal.specs.Solve.{SolveOutcome, solveOf}
 use Rattle.window.specs.Window.{splice}
 use Rattle.fitting_rows.specs.declared.Place.{Place}
 use Rattle.fitting_rows.specs.Arrays.{Arrays}
@@ -59,7 +59,7 @@ pub record Fit : Type 0 where
   pub system : System
 
 -- what `solve` gave; on a refusal the controls stay
-unfoldable pub solvedOf : Arrays → ℕ → ℕ → ℕ → Outcome → Fit
+unfoldable pub solvedOf : Arrays → ℕ → ℕ → ℕ → SolveOutcome → Fit
 solvedOf x a z rows o =
     cond (eqb (o .number) 0)
     (record {

@@ -16,8 +16,8 @@ abbrev pub systemAt : Place → ℕ → List Float → System
 systemAt p k l = systemOf k (p .axes) (window (p .system) (p .system + sizeOf k (p .axes)) l)
 
 -- they lie before the system of the window [a, z), which ends with the slice; there are few enough of them for their rows to be counted
-abbrev pub Laid : Place → ℕ → ℕ → ℕ → Type 0
-Laid p a z cells =
+abbrev pub WindowLaid : Place → ℕ → ℕ → ℕ → Type 0
+WindowLaid p a z cells =
     (a ≤ z) × (z ≤ p .count) × (p .count ≤ 65536) × (p .samples ≤ 65536) × (p .system + sizeOf (z - a) (p .axes) ≡ cells)
     × (6 ≤ p .count) × (2 ≤ p .samples) × (p .axes ≤ 16)
     × (p .knots + (p .count + 6) ≤ p .system) × (p .controls + p .count * p .axes ≤ p .system)

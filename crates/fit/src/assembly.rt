@@ -4,7 +4,7 @@ ghost use Prim.Native.Nat.{_+_, _-_, _*_, _≤_, _<_};
 ghost use lib.ListN.{length};
 ghost use lib.Ieee as ieee;
 ghost use Rattle.fitting_rows.specs.Arrays.{arraysAt};
-ghost use Rattle.fit.specs.Region.{Laid, before, systemAt};
+ghost use Rattle.fit.specs.Region.{WindowLaid, before, systemAt};
 ghost use Rattle.fitting_rows.specs.Samples.{sampleRowOf};
 ghost use Rattle.fitting_rows.specs.Pieces.{nodeRowOf};
 ghost use Rattle.fitting_rows.specs.Penalty.{penaltyRowOf};
@@ -16,7 +16,7 @@ use fitting_rows::samples;
 
 // Adds a row to the system of the window [a, z).
 fn add_row(work: &mut [f64], p: Place, a: usize, z: usize, row: normal::Row)
-    requires { ⌜ Laid p a z (length (now work)) × (row .start < p .count) ⌝ }
+    requires { ⌜ WindowLaid p a z (length (now work)) × (row .start < p .count) ⌝ }
     ensures { λ _. ⌜ before p (now (work .exit)) ≡ before p (now (work .entry)) ⌝ }
     ensures { λ _. ⌜ systemAt p (z - a) (now (work .exit)) ≡ added (arraysAt p (before p (now (work .entry)))) a z row
         (systemAt p (z - a) (now (work .entry))) ⌝ }
@@ -30,7 +30,7 @@ fn add_row(work: &mut [f64], p: Place, a: usize, z: usize, row: normal::Row)
 
 // Adds the row of sample i, which lies in the span.
 fn add_sample(work: &mut [f64], p: Place, a: usize, z: usize, i: usize, span: usize)
-    requires { ⌜ Laid p a z (length (now work)) × (i < p .samples) × (5 ≤ span) × (span < p .count) ⌝ }
+    requires { ⌜ WindowLaid p a z (length (now work)) × (i < p .samples) × (5 ≤ span) × (span < p .count) ⌝ }
     ensures { λ _. ⌜ before p (now (work .exit)) ≡ before p (now (work .entry)) ⌝ }
     ensures { λ _. ⌜ systemAt p (z - a) (now (work .exit)) ≡ added (arraysAt p (before p (now (work .entry)))) a z
         (sampleRowOf (arraysAt p (before p (now (work .entry)))) i span) (systemAt p (z - a) (now (work .entry))) ⌝ }
@@ -49,7 +49,7 @@ pub fn add_samples(
     first: usize,
     last: usize,
 ) -> usize
-    requires { ⌜ Laid p a z (length (now work)) × (last ≤ p .samples) ⌝ }
+    requires { ⌜ WindowLaid p a z (length (now work)) × (last ≤ p .samples) ⌝ }
     ensures { λ _. ⌜ before p (now (work .exit)) ≡ before p (now (work .entry)) ⌝ }
     ensures { λ r. ⌜ assembled r (systemAt p (z - a) (now (work .exit)))
         ≡ samplesOf (arraysAt p (before p (now (work .entry)))) a z first last (assembled 0 (systemAt p (z - a) (now (work .entry)))) ⌝ }
@@ -72,7 +72,7 @@ pub fn add_samples(
 
 // Adds the row of node r of the piece that begins at `from` and is h wide.
 fn add_node(work: &mut [f64], p: Place, a: usize, z: usize, from: f64, h: f64, r: usize)
-    requires { ⌜ Laid p a z (length (now work)) × (r < 6) ⌝ }
+    requires { ⌜ WindowLaid p a z (length (now work)) × (r < 6) ⌝ }
     ensures { λ _. ⌜ before p (now (work .exit)) ≡ before p (now (work .entry)) ⌝ }
     ensures { λ _. ⌜ systemAt p (z - a) (now (work .exit)) ≡ added (arraysAt p (before p (now (work .entry)))) a z
         (nodeRowOf (arraysAt p (before p (now (work .entry)))) from h r) (systemAt p (z - a) (now (work .entry))) ⌝ }
@@ -92,7 +92,7 @@ fn add_piece(
     to: f64,
     rows: usize,
 ) -> usize
-    requires { ⌜ Laid p a z (length (now work)) × (rows ≤ 0xffff_ffff_ffff) ⌝ }
+    requires { ⌜ WindowLaid p a z (length (now work)) × (rows ≤ 0xffff_ffff_ffff) ⌝ }
     ensures { λ _. ⌜ before p (now (work .exit)) ≡ before p (now (work .entry)) ⌝ }
     ensures { λ r. ⌜ assembled r (systemAt p (z - a) (now (work .exit)))
         ≡ pieceOf (arraysAt p (before p (now (work .entry)))) a z from to (assembled rows (systemAt p (z - a) (now (work .entry)))) ⌝ }
@@ -119,7 +119,7 @@ fn add_mesh_piece(
     j: usize,
     rows: usize,
 ) -> usize
-    requires { ⌜ Laid p a z (length (now work)) × (mesh .begin ≤ j) × (j ≤ mesh .end) × (mesh .end ≤ p .samples)
+    requires { ⌜ WindowLaid p a z (length (now work)) × (mesh .begin ≤ j) × (j ≤ mesh .end) × (mesh .end ≤ p .samples)
         × (rows ≤ 0xffff_ffff_ffff) ⌝ }
     ensures { λ _. ⌜ before p (now (work .exit)) ≡ before p (now (work .entry)) ⌝ }
     ensures { λ r. ⌜ assembled r (systemAt p (z - a) (now (work .exit)))
@@ -133,7 +133,7 @@ fn add_mesh_piece(
 
 // Adds the rows of all pieces of the mesh.
 fn add_mesh(work: &mut [f64], p: Place, a: usize, z: usize, mesh: Mesh, rows: usize) -> usize
-    requires { ⌜ Laid p a z (length (now work)) × (mesh .end ≤ p .samples) × (rows ≤ 0xffff_0000_0000) ⌝ }
+    requires { ⌜ WindowLaid p a z (length (now work)) × (mesh .end ≤ p .samples) × (rows ≤ 0xffff_0000_0000) ⌝ }
     ensures { λ _. ⌜ before p (now (work .exit)) ≡ before p (now (work .entry)) ⌝ }
     ensures { λ r. ⌜ assembled r (systemAt p (z - a) (now (work .exit)))
         ≡ meshOf (arraysAt p (before p (now (work .entry)))) a z mesh (assembled rows (systemAt p (z - a) (now (work .entry)))) ⌝ }
@@ -160,7 +160,7 @@ fn add_span(
     span: usize,
     rows: usize,
 ) -> usize
-    requires { ⌜ Laid p a z (length (now work)) × (span < p .count) × (rows ≤ 0xffff_0000_0000) ⌝ }
+    requires { ⌜ WindowLaid p a z (length (now work)) × (span < p .count) × (rows ≤ 0xffff_0000_0000) ⌝ }
     requires { ⌜ (lo ≡ low (arraysAt p (before p (now work))) a z) × (hi ≡ high (arraysAt p (before p (now work))) a z) ⌝ }
     ensures { λ _. ⌜ before p (now (work .exit)) ≡ before p (now (work .entry)) ⌝ }
     ensures { λ r. ⌜ assembled r (systemAt p (z - a) (now (work .exit)))
@@ -185,7 +185,7 @@ pub fn add_sparse(
     hi: f64,
     rows: usize,
 ) -> usize
-    requires { ⌜ Laid p a z (length (now work)) × (rows ≤ 65536) ⌝ }
+    requires { ⌜ WindowLaid p a z (length (now work)) × (rows ≤ 65536) ⌝ }
     requires { ⌜ (lo ≡ low (arraysAt p (before p (now work))) a z) × (hi ≡ high (arraysAt p (before p (now work))) a z) ⌝ }
     ensures { λ _. ⌜ before p (now (work .exit)) ≡ before p (now (work .entry)) ⌝ }
     ensures { λ r. ⌜ assembled r (systemAt p (z - a) (now (work .exit)))
@@ -211,7 +211,7 @@ fn add_penalty_node(
     span: usize,
     r: usize,
 )
-    requires { ⌜ Laid p a z (length (now work)) × (5 ≤ span) × (span < p .count) × (r < 3) ⌝ }
+    requires { ⌜ WindowLaid p a z (length (now work)) × (5 ≤ span) × (span < p .count) × (r < 3) ⌝ }
     ensures { λ _. ⌜ before p (now (work .exit)) ≡ before p (now (work .entry)) ⌝ }
     ensures { λ _. ⌜ systemAt p (z - a) (now (work .exit)) ≡ added (arraysAt p (before p (now (work .entry)))) a z
         (penaltyRowOf (arraysAt p (before p (now (work .entry)))) strength span r) (systemAt p (z - a) (now (work .entry))) ⌝ }
@@ -223,7 +223,7 @@ fn add_penalty_node(
 
 // Adds the three rows of the span.
 fn add_penalty_nodes(work: &mut [f64], p: Place, a: usize, z: usize, strength: f64, span: usize)
-    requires { ⌜ Laid p a z (length (now work)) × (5 ≤ span) × (span < p .count) ⌝ }
+    requires { ⌜ WindowLaid p a z (length (now work)) × (5 ≤ span) × (span < p .count) ⌝ }
     ensures { λ _. ⌜ before p (now (work .exit)) ≡ before p (now (work .entry)) ⌝ }
     ensures { λ _. ⌜ systemAt p (z - a) (now (work .exit)) ≡ nodesOf (arraysAt p (before p (now (work .entry)))) a z strength span
         (systemAt p (z - a) (now (work .entry))) ⌝ }
@@ -246,7 +246,7 @@ fn add_penalty(
     hi: f64,
     span: usize,
 )
-    requires { ⌜ Laid p a z (length (now work)) × (5 ≤ span) × (span < p .count) ⌝ }
+    requires { ⌜ WindowLaid p a z (length (now work)) × (5 ≤ span) × (span < p .count) ⌝ }
     requires { ⌜ (lo ≡ low (arraysAt p (before p (now work))) a z) × (hi ≡ high (arraysAt p (before p (now work))) a z) ⌝ }
     ensures { λ _. ⌜ before p (now (work .exit)) ≡ before p (now (work .entry)) ⌝ }
     ensures { λ _. ⌜ systemAt p (z - a) (now (work .exit)) ≡ penaltyTurn (arraysAt p (before p (now (work .entry)))) a z strength span
@@ -269,7 +269,7 @@ pub fn add_penalties(
     lo: f64,
     hi: f64,
 )
-    requires { ⌜ Laid p a z (length (now work)) ⌝ }
+    requires { ⌜ WindowLaid p a z (length (now work)) ⌝ }
     requires { ⌜ (lo ≡ low (arraysAt p (before p (now work))) a z) × (hi ≡ high (arraysAt p (before p (now work))) a z) ⌝ }
     ensures { λ _. ⌜ before p (now (work .exit)) ≡ before p (now (work .entry)) ⌝ }
     ensures { λ _. ⌜ systemAt p (z - a) (now (work .exit)) ≡ penaltiesOf (arraysAt p (before p (now (work .entry)))) a z strength

@@ -6,8 +6,8 @@ ghost use lib.Ieee.{binary64, add};
 ghost use Rattle.window.specs.Window.{splice};
 ghost use Rattle.window.specs.Cells.{at};
 ghost use Rattle.normal.specs.System.{newOf};
-ghost use Rattle.fitting_rows.specs.Arrays.{Placed, arraysAt};
-ghost use Rattle.fit.specs.Region.{Laid, before, systemAt};
+ghost use Rattle.fitting_rows.specs.Arrays.{ArraysWithin, arraysAt};
+ghost use Rattle.fit.specs.Region.{WindowLaid, before, systemAt};
 ghost use Rattle.fitting_rows.specs.Samples.{below};
 ghost use Rattle.fitting_rows.specs.Pieces.{atOrBelow};
 ghost use Rattle.fit.specs.Assembly.{low, high, assembled, assembledOf};
@@ -41,7 +41,7 @@ struct Reach {
 
 // The reach of the window [a, z).
 fn reach_of(cells: &[f64], p: Place, a: usize, z: usize) -> Reach
-    requires { ⌜ Placed p (length (now cells)) × (a ≤ z) × (z ≤ p .count) ⌝ }
+    requires { ⌜ ArraysWithin p (length (now cells)) × (a ≤ z) × (z ≤ p .count) ⌝ }
     ensures { λ r. ⌜ (r .lo ≡ low (arraysAt p (now (cells .entry))) a z) × (r .hi ≡ high (arraysAt p (now (cells .entry))) a z) ⌝ }
     ensures { λ r. ⌜ (r .first ≡ below (arraysAt p (now (cells .entry)) .s) (low (arraysAt p (now (cells .entry))) a z))
         × (r .last ≡ atOrBelow (arraysAt p (now (cells .entry)) .s) (high (arraysAt p (now (cells .entry))) a z)) ⌝ }
@@ -64,7 +64,7 @@ fn reach_of(cells: &[f64], p: Place, a: usize, z: usize) -> Reach
 
 // Every cell of the window's system becomes +0.
 fn clear_system(work: &mut [f64], p: Place, a: usize, z: usize)
-    requires { ⌜ Laid p a z (length (now work)) ⌝ }
+    requires { ⌜ WindowLaid p a z (length (now work)) ⌝ }
     ensures { λ _. ⌜ before p (now (work .exit)) ≡ before p (now (work .entry)) ⌝ }
     ensures { λ _. ⌜ systemAt p (z - a) (now (work .exit)) ≡ newOf (z - a) (p .axes) ⌝ }
 {
@@ -76,7 +76,7 @@ fn clear_system(work: &mut [f64], p: Place, a: usize, z: usize)
 
 // The system of the window [a, z), with all its rows.
 fn assemble(work: &mut [f64], p: Place, a: usize, z: usize, strength: f64) -> Counts
-    requires { ⌜ Laid p a z (length (now work)) ⌝ }
+    requires { ⌜ WindowLaid p a z (length (now work)) ⌝ }
     ensures { λ _. ⌜ before p (now (work .exit)) ≡ before p (now (work .entry)) ⌝ }
     ensures { λ r. ⌜ assembled (r .rows) (systemAt p (z - a) (now (work .exit))) ≡ assembledOf (arraysAt p
         (before p (now (work .entry)))) a z strength (newOf (z - a) (p .axes)) ⌝ }
@@ -106,7 +106,7 @@ fn add_cell(c: &mut [f64], k: usize, v: f64)
 
 // Adds the solution, in the system's right sides, to the active controls.
 fn add_solution(work: &mut [f64], p: Place, a: usize, z: usize)
-    requires { ⌜ Laid p a z (length (now work)) ⌝ }
+    requires { ⌜ WindowLaid p a z (length (now work)) ⌝ }
     ensures { λ _. ⌜ now (work .exit) ≡ splice (p .controls) (p .controls + p .count * p .axes)
         (addedTo (systemAt p (z - a) (now (work .entry)) .right) (a * p .axes) ((z - a) * p .axes)
         (arraysAt p (before p (now (work .entry))) .c)) (now (work .entry)) ⌝ }
@@ -128,7 +128,7 @@ fn add_solution(work: &mut [f64], p: Place, a: usize, z: usize)
 // system's cells are scratch, and hold afterwards what `solve` left there; on a refusal the controls
 // are unchanged.
 pub fn fit(work: &mut [f64], p: Place, a: usize, z: usize, strength: f64) -> Fitted
-    requires { ⌜ Laid p a z (length (now work)) ⌝ }
+    requires { ⌜ WindowLaid p a z (length (now work)) ⌝ }
     ensures { λ r. ⌜ answerOf r ≡ fitOf (arraysAt p (before p (now (work .entry)))) a z strength .answered ⌝ }
     ensures { λ _. ⌜ now (work .exit) ≡ cellsAfter p (fitOf (arraysAt p (before p (now (work .entry)))) a z strength) (now (work .entry)) ⌝ }
     ensures { λ r. ⌜ Bounded (p .samples) (p .count) (answerOf r) ⌝ }

@@ -9,11 +9,11 @@ use Rattle.arith.proofs.Rows.{rows-le, row-end}
 use Rattle.window.specs.Cells.{at}
 use Rattle.window.proofs.Windows.{length-window}
 use Rattle.fitting_rows.specs.declared.Place.{Place}
-use Rattle.fitting_rows.specs.Arrays.{Placed, arraysAt}
-use Rattle.fitting_rows.specs.Pieces.{intervalOf}
+use Rattle.fitting_rows.specs.Arrays.{ArraysWithin, arraysAt}
+use Rattle.fitting_rows.specs.Pieces.{waypointInterval}
 
 -- the arrays at p in the cells l
-module _ (p : Place) (l : List Float) (h : Placed p (length l)) where
+module _ (p : Place) (l : List Float) (h : ArraysWithin p (length l)) where
   pub knots-length : length (arraysAt p l .t) ≡ p .count + 6
   knots-length = length-window (p .knots) (p .knots + (p .count + 6)) l (omega arith) (omega arith) ∙ omega arith
 
@@ -46,6 +46,6 @@ module _ (p : Place) (l : List Float) (h : Placed p (length l)) where
       row-end i (p .samples) (p .axes) (length (arraysAt p l .y)) g (omega arith)
 
 -- an interval lies between two of the n samples
-pub interval-within : (s : List Float) (n : ℕ) (x : Float) → 2 ≤ n → intervalOf s n x + 1 < n
-unfolding intervalOf
+pub interval-within : (s : List Float) (n : ℕ) (x : Float) → 2 ≤ n → waypointInterval s n x + 1 < n
+unfolding waypointInterval
 interval-within s n x h = omega arith

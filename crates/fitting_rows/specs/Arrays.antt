@@ -34,8 +34,8 @@ arraysAt p l =
     }
 
 -- the arrays lie in the first `cells` cells
-abbrev pub Placed : Place → ℕ → Type 0
-Placed p cells =
+abbrev pub ArraysWithin : Place → ℕ → Type 0
+ArraysWithin p cells =
     (6 ≤ p .count) × (2 ≤ p .samples) × (p .axes ≤ 16)
     × (p .knots + (p .count + 6) ≤ cells) × (p .controls + p .count * p .axes ≤ cells)
     × (p .parameters + p .samples ≤ cells) × (p .points + p .samples * p .axes ≤ cells)

@@ -43,8 +43,8 @@ weights =
     ∷ []
 
 -- the waypoint interval of x: `s.partition_point(|v| *v <= x).saturating_sub(1).min(s.len() - 2)`
-unfoldable pub intervalOf : List Float → ℕ → Float → ℕ
-intervalOf s n x = min (atOrBelow s x - 1) (n - 2)
+unfoldable pub waypointInterval : List Float → ℕ → Float → ℕ
+waypointInterval s n x = min (atOrBelow s x - 1) (n - 2)
 
 -- `target[axis] = y[i * b.d + axis] + f * (y[(i + 1) * b.d + axis] - y[i * b.d + axis])`
 unfoldable pub lineTurn : List Float → ℕ → ℕ → Float → ℕ → List Float → List Float
@@ -60,7 +60,7 @@ lineOf s y d i x =
 unfoldable pub rowAt : Arrays → Float → Float → Row
 rowAt x u weight =
     let span = spanOf floats (x .t) (x .m) u in
-    rowOf (x .c) (x .d) (span - 5) (valuesOf floats (x .t) span u) weight (lineOf (x .s) (x .y) (x .d) (intervalOf (x .s) (x .n) u) u)
+    rowOf (x .c) (x .d) (span - 5) (valuesOf floats (x .t) span u) weight (lineOf (x .s) (x .y) (x .d) (waypointInterval (x .s) (x .n) u) u)
 
 -- the row of node r of the piece that begins at `from` and is h wide: `let x = pair[0] + GX[r] * h`, with weight `h * GW[r]`
 unfoldable pub nodeRowOf : Arrays → Float → Float → ℕ → Row

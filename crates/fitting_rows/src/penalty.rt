@@ -3,7 +3,7 @@ ghost use mathlib.Core.Path.{_≡_};
 ghost use mathlib.Core.List.{[]};
 ghost use Prim.Native.Nat.{_+_, _-_, _*_, _≤_, _<_};
 ghost use lib.ListN.{length};
-ghost use Rattle.fitting_rows.specs.Arrays.{Placed, arrays, arraysAt};
+ghost use Rattle.fitting_rows.specs.Arrays.{ArraysWithin, arrays, arraysAt};
 ghost use Rattle.fitting_rows.specs.Penalty.{thirdOf, penaltyRowOf, leftOut};
 use crate::Place;
 
@@ -41,7 +41,7 @@ fn penalty_row(t: &[f64], c: &[f64], d: usize, strength: f64, span: usize, r: us
 
 // The same for the arrays at p.
 pub fn penalty_row_at(cells: &[f64], p: Place, strength: f64, span: usize, r: usize) -> normal::Row
-    requires { ⌜ Placed p (length (now cells)) × (5 ≤ span) × (span < p .count) × (r < 3) ⌝ }
+    requires { ⌜ ArraysWithin p (length (now cells)) × (5 ≤ span) × (span < p .count) × (r < 3) ⌝ }
     ensures { λ v. ⌜ v ≡ penaltyRowOf (arraysAt p (now (cells .entry))) strength span r ⌝ }
 {
     let d = p.axes;
@@ -70,7 +70,7 @@ fn leaves_out(t: &[f64], lo: f64, hi: f64, span: usize) -> bool
 
 // The same for the arrays at p.
 pub fn is_left_out(cells: &[f64], p: Place, lo: f64, hi: f64, span: usize) -> bool
-    requires { ⌜ Placed p (length (now cells)) × (span < p .count) ⌝ }
+    requires { ⌜ ArraysWithin p (length (now cells)) × (span < p .count) ⌝ }
     ensures { λ r. ⌜ r ≡ leftOut (arraysAt p (now (cells .entry)) .t) lo hi span ⌝ }
 {
     let t = p.knots;

@@ -3,8 +3,8 @@
 ghost use mathlib.Core.Path.{_≡_};
 ghost use Prim.Native.Nat.{_+_, _-_, _*_, _≤_, _<_};
 ghost use lib.ListN.{length};
-ghost use Rattle.fitting_rows.specs.Arrays.{Placed, arrays, arraysAt};
-ghost use Rattle.fitting_rows.specs.Pieces.{intervalOf, lineOf, rowAt, nodeRowOf, passedOver, pieceStart, pieceEnd, meshSpan};
+ghost use Rattle.fitting_rows.specs.Arrays.{ArraysWithin, arrays, arraysAt};
+ghost use Rattle.fitting_rows.specs.Pieces.{waypointInterval, lineOf, rowAt, nodeRowOf, passedOver, pieceStart, pieceEnd, meshSpan};
 use crate::Place;
 use crate::Target;
 
@@ -30,7 +30,7 @@ const GW: [f64; 6] = [
 // The interval between two of the n samples in which x lies.
 fn interval(s: &[f64], n: usize, x: f64) -> usize
     requires { ⌜ 2 ≤ n ⌝ }
-    ensures { λ r. ⌜ r ≡ intervalOf (now (s .entry)) n x ⌝ }
+    ensures { λ r. ⌜ r ≡ waypointInterval (now (s .entry)) n x ⌝ }
 {
     let p = bspline::search::partition_point_le(s, x);
     if p < 1 {
@@ -84,7 +84,7 @@ fn row_at(
 
 // The row of node r of the piece that begins at `from` and is h wide.
 pub fn node_row(cells: &[f64], p: Place, from: f64, h: f64, r: usize) -> normal::Row
-    requires { ⌜ Placed p (length (now cells)) × (r < 6) ⌝ }
+    requires { ⌜ ArraysWithin p (length (now cells)) × (r < 6) ⌝ }
     ensures { λ v. ⌜ v ≡ nodeRowOf (arraysAt p (now (cells .entry))) from h r ⌝ }
 {
     let x = from + GX[r] * h;
@@ -134,7 +134,7 @@ fn passes_over(t: &[f64], s: &[f64], lo: f64, hi: f64, span: usize) -> bool
 
 // The same for the arrays at p.
 pub fn is_passed_over(cells: &[f64], p: Place, lo: f64, hi: f64, span: usize) -> bool
-    requires { ⌜ Placed p (length (now cells)) × (span < p .count) ⌝ }
+    requires { ⌜ ArraysWithin p (length (now cells)) × (span < p .count) ⌝ }
     ensures { λ r. ⌜ r ≡ passedOver (arraysAt p (now (cells .entry)) .t) (arraysAt p (now (cells .entry)) .s) lo hi span ⌝ }
 {
     let t = p.knots;
@@ -154,7 +154,7 @@ pub struct Mesh {
 
 // The mesh of the span.
 pub fn mesh_at(cells: &[f64], p: Place, span: usize) -> Mesh
-    requires { ⌜ Placed p (length (now cells)) × (span < p .count) ⌝ }
+    requires { ⌜ ArraysWithin p (length (now cells)) × (span < p .count) ⌝ }
     ensures { λ r. ⌜ r ≡ meshSpan (arraysAt p (now (cells .entry))) span ⌝ }
 {
     let t = p.knots;
@@ -204,7 +204,7 @@ pub struct Piece {
 
 // Piece j of the mesh.
 pub fn piece_at(cells: &[f64], p: Place, mesh: Mesh, j: usize) -> Piece
-    requires { ⌜ Placed p (length (now cells)) × (mesh .begin ≤ j) × (j ≤ mesh .end) × (mesh .end ≤ p .samples) ⌝ }
+    requires { ⌜ ArraysWithin p (length (now cells)) × (mesh .begin ≤ j) × (j ≤ mesh .end) × (mesh .end ≤ p .samples) ⌝ }
     ensures { λ r. ⌜ r .from ≡ pieceStart (arraysAt p (now (cells .entry)) .s) (mesh .left) (mesh .begin) j ⌝ }
     ensures { λ r. ⌜ r .to ≡ pieceEnd (arraysAt p (now (cells .entry)) .s) (mesh .right) (mesh .end) j ⌝ }
 {

@@ -3,7 +3,7 @@ ghost use mathlib.Core.Path.{_≡_};
 ghost use Prim.Native.Nat.{_+_, _-_, _*_, _≤_, _<_};
 ghost use lib.ListN.{length};
 ghost use Rattle.window.specs.Cells.{at};
-ghost use Rattle.fitting_rows.specs.Arrays.{Placed, arrays, arraysAt};
+ghost use Rattle.fitting_rows.specs.Arrays.{ArraysWithin, arrays, arraysAt};
 ghost use Rattle.fitting_rows.specs.Samples.{denseOf, weightOf, pointOf, sampleSpan, sampleRowOf};
 use crate::Place;
 use crate::Target;
@@ -80,7 +80,7 @@ fn sample_row(
 
 // What is known before the first sample: the first span, and whether it is dense.
 pub fn first_density(cells: &[f64], p: Place) -> Density
-    requires { ⌜ Placed p (length (now cells)) ⌝ }
+    requires { ⌜ ArraysWithin p (length (now cells)) ⌝ }
     ensures { λ r. ⌜ r .dense ≡ denseOf (arraysAt p (now (cells .entry)) .t) (arraysAt p (now (cells .entry)) .s) (r .span) ⌝ }
 {
     let t = p.knots;
@@ -93,7 +93,7 @@ pub fn first_density(cells: &[f64], p: Place) -> Density
 
 // The span of sample i, and whether it is dense; `seen` is what is known of a span.
 pub fn look(cells: &[f64], p: Place, i: usize, seen: Density) -> Density
-    requires { ⌜ Placed p (length (now cells)) × (i < p .samples) ⌝ }
+    requires { ⌜ ArraysWithin p (length (now cells)) × (i < p .samples) ⌝ }
     requires { ⌜ seen .dense ≡ denseOf (arraysAt p (now cells) .t) (arraysAt p (now cells) .s) (seen .span) ⌝ }
     ensures { λ r. ⌜ r .span ≡ sampleSpan (arraysAt p (now (cells .entry))) i ⌝ }
     ensures { λ r. ⌜ r .dense ≡ denseOf (arraysAt p (now (cells .entry)) .t) (arraysAt p (now (cells .entry)) .s) (r .span) ⌝ }
@@ -113,7 +113,7 @@ pub fn look(cells: &[f64], p: Place, i: usize, seen: Density) -> Density
 
 // The row of sample i of the arrays at p; it lies in the span.
 pub fn sample_row_at(cells: &[f64], p: Place, i: usize, span: usize) -> normal::Row
-    requires { ⌜ Placed p (length (now cells)) × (i < p .samples) × (5 ≤ span) × (span < p .count) ⌝ }
+    requires { ⌜ ArraysWithin p (length (now cells)) × (i < p .samples) × (5 ≤ span) × (span < p .count) ⌝ }
     ensures { λ r. ⌜ r ≡ sampleRowOf (arraysAt p (now (cells .entry))) i span ⌝ }
 {
     let d = p.axes;

@@ -15,7 +15,7 @@ use Rattle.fitting_rows.specs.declared.Place.{Place}
 use Rattle.fitting_rows.specs.Arrays.{arraysAt}
 use Rattle.smoothing.specs.Start.{openKnots}
 use Rattle.interpolation.specs.declared.Nodes.{Nodes}
-use Rattle.interpolation.specs.Memory.{Roomy, placeOf, Laid, systemIn}
+use Rattle.interpolation.specs.Memory.{Roomy, placeOf, NodesLaid, systemIn}
 use Rattle.interpolation.specs.Rows.{prepared}
 use Rattle.interpolation.proofs.Knots.{knots-long}
 
@@ -24,7 +24,7 @@ pub rows-fit : (p : Nodes) (cells : ℕ) → Roomy p cells
     → (p .samples * p .axes ≤ p .room * p .axes) × ((p .samples + 4) * p .axes ≤ p .room * p .axes)
 rows-fit p cells r = (mul-le-mul-right (p .axes) (omega arith), mul-le-mul-right (p .axes) (omega arith))
 
-pub laid : (p : Nodes) (cells : ℕ) → Roomy p cells → Laid (placeOf p) cells
+pub laid : (p : Nodes) (cells : ℕ) → Roomy p cells → NodesLaid (placeOf p) cells
 laid p cells r =
     let f = rows-fit p cells r in
     record {
@@ -38,7 +38,7 @@ laid p cells r =
       controls-fit = omega arith;
     }
 
-module _ (q : Place) (w : List Float) (l : Laid q (length w)) where
+module _ (q : Place) (w : List Float) (l : NodesLaid q (length w)) where
   abbrev end : ℕ
   end = q .system + sizeOf (q .count) (q .axes)
 
@@ -60,7 +60,7 @@ module _ (q : Place) (w : List Float) (l : Laid q (length w)) where
     system-written = ap (systemOf (q .count) (q .axes)) (window-same (q .system) end v w (omega arith) (omega arith))
 
 -- ---- the knots are written, then the controls and the system are cleared
-module _ (q : Place) (w : List Float) (l : Laid q (length w)) (w₁ v₁ v₂ : List Float) where
+module _ (q : Place) (w : List Float) (l : NodesLaid q (length w)) (w₁ v₁ v₂ : List Float) where
   abbrev knots : List Float
   knots = openKnots (window 1 (q .samples - 1) (arraysAt q w .s))
 
@@ -105,8 +105,8 @@ module _ (q : Place) (w : List Float) (l : Laid q (length w)) (w₁ v₁ v₂ : 
     long₂ : length w₂ ≡ length w
     long₂ = let k = long₁ in length-splice c c-end v₁ w₁ (omega arith) (omega arith) controls-fill ∙ k
 
-    laid₂ : Laid q (length w₂)
-    laid₂ = subst (Laid q) (sym long₂) l
+    laid₂ : NodesLaid q (length w₂)
+    laid₂ = subst (NodesLaid q) (sym long₂) l
 
     system-is : v₂ ≡ zeros (sizeOf (q .count) (q .axes))
     system-is =

@@ -59,7 +59,7 @@ abbrev pub systemIn : Place → List Float → System
 systemIn q w = systemOf (q .count) (q .axes) (window (q .system) (q .system + sizeOf (q .count) (q .axes)) w)
 
 -- one array after the other: the waypoints, the knots, the system, the controls
-pub record Laid (q : Place) (cells : ℕ) : Type 0 where
+pub record NodesLaid (q : Place) (cells : ℕ) : Type 0 where
   pub few : q .axes ≤ 16
   pub two : 2 ≤ q .samples
   pub count-is : q .count ≡ q .samples + 4

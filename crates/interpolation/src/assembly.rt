@@ -10,7 +10,7 @@ ghost use Rattle.normal.specs.Add.{addOf};
 ghost use Rattle.fitting_rows.specs.Arrays.{arraysAt};
 ghost use Rattle.smoothing.specs.Start.{openKnots};
 ghost use Rattle.smoothing.specs.Interpolate.{waypointKnots, waypointTurn, endTurns, interpolationSystem};
-ghost use Rattle.interpolation.specs.Memory.{Laid, systemIn};
+ghost use Rattle.interpolation.specs.Memory.{NodesLaid, systemIn};
 ghost use Rattle.interpolation.specs.Rows.{prepared, waypointRow, endRow};
 use crate::rows;
 use fitting_rows::Place;
@@ -31,7 +31,7 @@ fn knot(s: &[f64], n: usize, j: usize) -> f64
 
 // The knots in their place.
 fn put_knots(work: &mut [f64], q: Place)
-    requires { ⌜ Laid q (length (now work)) ⌝ }
+    requires { ⌜ NodesLaid q (length (now work)) ⌝ }
     ensures { λ _. ⌜ now (work .exit)
         ≡ splice (q .knots) (q .knots + (q .count + 6)) (openKnots (window 1 (q .samples - 1) (arraysAt q (now (work .entry)) .s)))
         (now (work .entry)) ⌝ }
@@ -51,7 +51,7 @@ fn put_knots(work: &mut [f64], q: Place)
 
 // The knots; controls of +0, and a system without rows.
 fn prepare(work: &mut [f64], q: Place)
-    requires { ⌜ Laid q (length (now work)) ⌝ }
+    requires { ⌜ NodesLaid q (length (now work)) ⌝ }
     ensures { λ _. ⌜ arraysAt q (now (work .exit)) ≡ prepared (arraysAt q (now (work .entry))) ⌝ }
     ensures { λ _. ⌜ systemIn q (now (work .exit)) ≡ newOf (q .count) (q .axes) ⌝ }
 {
@@ -68,7 +68,7 @@ fn prepare(work: &mut [f64], q: Place)
 
 // Adds a row to the system.
 fn add_row(work: &mut [f64], q: Place, row: normal::Row)
-    requires { ⌜ Laid q (length (now work)) × (row .start < q .count) ⌝ }
+    requires { ⌜ NodesLaid q (length (now work)) × (row .start < q .count) ⌝ }
     ensures { λ _. ⌜ arraysAt q (now (work .exit)) ≡ arraysAt q (now (work .entry)) ⌝ }
     ensures { λ _. ⌜ systemIn q (now (work .exit)) ≡ addOf 0 (q .count) (q .axes) row (systemIn q (now (work .entry))) ⌝ }
 {
@@ -81,7 +81,7 @@ fn add_row(work: &mut [f64], q: Place, row: normal::Row)
 
 // Adds the row of waypoint i.
 fn add_waypoint(work: &mut [f64], q: Place, i: usize)
-    requires { ⌜ Laid q (length (now work)) × (i < q .samples) ⌝ }
+    requires { ⌜ NodesLaid q (length (now work)) × (i < q .samples) ⌝ }
     ensures { λ _. ⌜ arraysAt q (now (work .exit)) ≡ arraysAt q (now (work .entry)) ⌝ }
     ensures { λ _. ⌜ systemIn q (now (work .exit))
         ≡ addOf 0 (q .count) (q .axes) (waypointRow (arraysAt q (now (work .entry))) i) (systemIn q (now (work .entry))) ⌝ }
@@ -92,7 +92,7 @@ fn add_waypoint(work: &mut [f64], q: Place, i: usize)
 
 // Adds the rows of all waypoints.
 fn add_waypoints(work: &mut [f64], q: Place)
-    requires { ⌜ Laid q (length (now work)) × (arraysAt q (now work) ≡ prepared (arraysAt q (now work))) ⌝ }
+    requires { ⌜ NodesLaid q (length (now work)) × (arraysAt q (now work) ≡ prepared (arraysAt q (now work))) ⌝ }
     ensures { λ _. ⌜ arraysAt q (now (work .exit)) ≡ arraysAt q (now (work .entry)) ⌝ }
     ensures { λ _. ⌜ systemIn q (now (work .exit))
         ≡ each (waypointTurn (q .samples) (q .axes) (arraysAt q (now (work .entry)) .s) (arraysAt q (now (work .entry)) .y)) 0 (q .samples)
@@ -108,7 +108,7 @@ fn add_waypoints(work: &mut [f64], q: Place)
 
 // Adds the row of the derivative of order r at an end u whose interval is h wide.
 fn add_derivative(work: &mut [f64], q: Place, u: f64, h: f64, r: usize)
-    requires { ⌜ Laid q (length (now work)) × (r < 6) ⌝ }
+    requires { ⌜ NodesLaid q (length (now work)) × (r < 6) ⌝ }
     ensures { λ _. ⌜ arraysAt q (now (work .exit)) ≡ arraysAt q (now (work .entry)) ⌝ }
     ensures { λ _. ⌜ systemIn q (now (work .exit))
         ≡ addOf 0 (q .count) (q .axes) (endRow (arraysAt q (now (work .entry))) u h r) (systemIn q (now (work .entry))) ⌝ }
@@ -119,7 +119,7 @@ fn add_derivative(work: &mut [f64], q: Place, u: f64, h: f64, r: usize)
 
 // Adds the two rows of an end.
 fn add_end(work: &mut [f64], q: Place, u: f64, h: f64)
-    requires { ⌜ Laid q (length (now work)) × (arraysAt q (now work) ≡ prepared (arraysAt q (now work))) ⌝ }
+    requires { ⌜ NodesLaid q (length (now work)) × (arraysAt q (now work) ≡ prepared (arraysAt q (now work))) ⌝ }
     ensures { λ _. ⌜ arraysAt q (now (work .exit)) ≡ arraysAt q (now (work .entry)) ⌝ }
     ensures { λ _. ⌜ systemIn q (now (work .exit))
         ≡ endTurns (q .samples) (q .axes) (arraysAt q (now (work .entry)) .s) (arraysAt q (now (work .entry)) .y) u h
@@ -134,7 +134,7 @@ fn add_end(work: &mut [f64], q: Place, u: f64, h: f64)
 
 // The system with all its rows; the knots are in their place.
 pub fn assemble(work: &mut [f64], q: Place)
-    requires { ⌜ Laid q (length (now work)) ⌝ }
+    requires { ⌜ NodesLaid q (length (now work)) ⌝ }
     ensures { λ _. ⌜ arraysAt q (now (work .exit)) .t
         ≡ waypointKnots (q .samples) (q .axes) (arraysAt q (now (work .entry)) .s) (arraysAt q (now (work .entry)) .y) ⌝ }
     ensures { λ _. ⌜ systemIn q (now (work .exit))

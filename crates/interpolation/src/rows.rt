@@ -4,7 +4,7 @@ ghost use mathlib.Core.Path.{_≡_};
 ghost use mathlib.Core.List.{[]};
 ghost use Prim.Native.Nat.{_<_};
 ghost use lib.ListN.{length};
-ghost use Rattle.fitting_rows.specs.Arrays.{Placed, arraysAt};
+ghost use Rattle.fitting_rows.specs.Arrays.{ArraysWithin, arraysAt};
 ghost use Rattle.smoothing.specs.Interpolate.{derivativeOf};
 ghost use Rattle.interpolation.specs.Rows.{waypointRow, endRow};
 use bspline::basis::Basis;
@@ -14,7 +14,7 @@ use fitting_rows::Place;
 
 // The row of waypoint i.
 pub fn waypoint_row(cells: &[f64], q: Place, i: usize) -> normal::Row
-    requires { ⌜ Placed q (length (now cells)) × (i < q .samples) ⌝ }
+    requires { ⌜ ArraysWithin q (length (now cells)) × (i < q .samples) ⌝ }
     ensures { λ r. ⌜ r ≡ waypointRow (arraysAt q (now (cells .entry))) i ⌝ }
 {
     let d = q.axes;
@@ -52,7 +52,7 @@ fn derivative(powers: Taylor, h: f64, r: usize) -> Basis
 
 // The row of the derivative of order r at an end u whose interval is h wide.
 pub fn end_row(cells: &[f64], q: Place, u: f64, h: f64, r: usize) -> normal::Row
-    requires { ⌜ Placed q (length (now cells)) × (r < 6) ⌝ }
+    requires { ⌜ ArraysWithin q (length (now cells)) × (r < 6) ⌝ }
     ensures { λ v. ⌜ v ≡ endRow (arraysAt q (now (cells .entry))) u h r ⌝ }
 {
     let d = q.axes;

@@ -6,7 +6,7 @@ ghost use Rattle.arith.specs.Operations.{floats};
 ghost use Rattle.bspline.specs.Segments.{polynomialOf};
 ghost use Rattle.normal.specs.Solve.{numberOf, solveOf};
 ghost use Rattle.fitting_rows.specs.Arrays.{arraysAt};
-ghost use Rattle.interpolation.specs.Memory.{Laid, Roomy, systemIn, placeOf, polynomialIn};
+ghost use Rattle.interpolation.specs.Memory.{NodesLaid, Roomy, systemIn, placeOf, polynomialIn};
 use crate::Nodes;
 use bspline::Spline;
 use fitting_rows::Place;
@@ -26,7 +26,7 @@ fn number_of(solved: Solved) -> usize
 
 // Solves the system in its place.
 pub fn solve(work: &mut [f64], q: Place) -> usize
-    requires { ⌜ Laid q (length (now work)) ⌝ }
+    requires { ⌜ NodesLaid q (length (now work)) ⌝ }
     ensures { λ r. ⌜ r ≡ solveOf (q .count) (q .axes) (systemIn q (now (work .entry))) .number ⌝ }
     ensures { λ _. ⌜ arraysAt q (now (work .exit)) ≡ arraysAt q (now (work .entry)) ⌝ }
     ensures { λ _. ⌜ systemIn q (now (work .exit)) ≡ solveOf (q .count) (q .axes) (systemIn q (now (work .entry))) .system ⌝ }

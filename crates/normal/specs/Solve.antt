@@ -145,25 +145,25 @@ unscaleOf n d s = each (divideRowOf d) 0 n s
 -- ---- `solve`
 -- document 01's number of the refusal, 0 where there is none; and what the arrays then hold: the solution in the right sides, or what the
 -- work had come to
-pub record Outcome : Type 0 where
+pub record SolveOutcome : Type 0 where
   pub number : ℕ
   pub system : System
 
 -- once the band is factored; 11 for a solution that is not finite
-unfoldable pub finishOf : ℕ → ℕ → System → Outcome
+unfoldable pub finishOf : ℕ → ℕ → System → SolveOutcome
 finishOf n d s =
     let x = unscaleOf n d (backwardOf n d (forwardOf n d s)) in
     record { number = cond (anyUnfitOf false (x .right)) 11 0; system = x }
 
 -- once the system is scaled; 10 for a pivot that is not finite or not above 0
-unfoldable pub solveScaledOf : ℕ → ℕ → System → Outcome
+unfoldable pub solveScaledOf : ℕ → ℕ → System → SolveOutcome
 solveScaledOf n d s =
     let f = factorOf n (s .band) in
     let x = withBand s (f .band) in
     cond (f .whole) (finishOf n d x) (record { number = 10; system = x })
 
 -- the whole; 9 for a scale that is not finite or not above 0
-unfoldable pub solveOf : ℕ → ℕ → System → Outcome
+unfoldable pub solveOf : ℕ → ℕ → System → SolveOutcome
 solveOf n d s =
     let r = rootsOf n s in
     cond (anyUnfitOf true (r .scales)) (record { number = 9; system = r }) (solveScaledOf n d (scaleOf n d r))

@@ -17,8 +17,8 @@ use Rattle.float.specs.Order.{minOf}
 use Rattle.arith.proofs.FloatOrder.{lt-not-le}
 use Rattle.arith.proofs.Runs.{whilst-ends}
 use Rattle.polynomial.specs.declared.piece.Piece.{Piece}
-use Rattle.polynomial.specs.declared.interval.Outcome.{Outcome}
-use Rattle.polynomial.specs.declared.interval.Outcome.the-variants.{Done}
+use Rattle.polynomial.specs.declared.interval.AuditOutcome.{AuditOutcome}
+use Rattle.polynomial.specs.declared.interval.AuditOutcome.the-variants.{Done}
 use Rattle.polynomial.specs.Span.{segments, passed, advanced}
 use Rattle.polynomial.specs.Outcome.{numberOf, isDone}
 use Rattle.polynomial.specs.Interval.{Found, Interval, pieceAt, allFinite, axisTurn, axesOf, Walk, endedBy, walkTurn, intervalOf}
@@ -59,7 +59,7 @@ module _ (breaks : List Float) where
           ])
 
 -- ---- the audit
-abbrev Not12 : Outcome → Type 0
+abbrev Not12 : AuditOutcome → Type 0
 Not12 o = numberOf o ≡ 12 → ⊥
 
 done-not-12 : Not12 Done

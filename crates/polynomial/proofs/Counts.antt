@@ -11,8 +11,8 @@ use Rattle.arith.specs.Loop.Step.{next, stop}
 use Rattle.arith.proofs.Loops.{Holds, till-done, till-holds, till-next, till-stop}
 use Rattle.arith.proofs.Loops.Holds.{goes, ends}
 use Rattle.window.specs.Cells.{at}
-use Rattle.polynomial.specs.declared.interval.Outcome.the-variants.{Done}
-use Rattle.polynomial.specs.Span.{spanOf}
+use Rattle.polynomial.specs.declared.interval.AuditOutcome.the-variants.{Done}
+use Rattle.polynomial.specs.Span.{breakSpan}
 use Rattle.polynomial.specs.Outcome.{isDone}
 use Rattle.polynomial.specs.Interval.{Interval, intervalOf}
 use Rattle.polynomial.specs.Audit.{Audit, boundsWith, auditTurn, auditOf}
@@ -81,7 +81,7 @@ module _ (breaks coefficients s y : List Float) (d : ℕ) where
       let n = counted (last - first) first last (record {
         bounds = bounds;
         witness = witness;
-        span = spanOf breaks (at s first);
+        span = breakSpan breaks (at s first);
         checked =
             0;
         outcome = Done;

@@ -11,7 +11,7 @@ use Rattle.window.proofs.Windows.{splice-window}
 use Rattle.polynomial.specs.declared.audit.Parts.{Parts}
 use Rattle.polynomial.specs.Interval.{Interval, intervalOf}
 use Rattle.polynomial.specs.Audit.{boundsWith}
-use Rattle.polynomial.specs.Placed.{Laid, breaksAt, coefficientsAt, parametersAt, pointsAt, boundsAt, witnessAt, intervalAt, withBounds}
+use Rattle.polynomial.specs.Placed.{PartsLaid, breaksAt, coefficientsAt, parametersAt, pointsAt, boundsAt, witnessAt, intervalAt, withBounds}
 use Rattle.window.proofs.TwoParts.{Apart, both-length, both-before, both-after, both-first, both-second, both-again}
 
 -- bounds written leave their number
@@ -23,18 +23,18 @@ bounds-length row d cells bounds = each-keeps (λ (b : List Float). length b ≡
 pub bounds-own : (p : Parts) (w : List Float) → withBounds p (boundsAt p w) (witnessAt p w) w ≡ w
 bounds-own p w =
     let b = p .bounds in
-    let e = p .bounds + (p .count - 1) * p .axes in
+    let e = p .bounds + (p .samples - 1) * p .axes in
     let f = p .witness in
-    let g = p .witness + (p .count - 1) in
+    let g = p .witness + (p .samples - 1) in
     rw (splice-window b e w) (splice-window f g w)
 
-module _ (p : Parts) (w x z : List Float) (laid : Laid p (length w)) (lx : length x ≡ (p .count - 1) * p .axes)
-    (lz : length z ≡ p .count - 1) where
+module _ (p : Parts) (w x z : List Float) (laid : PartsLaid p (length w)) (lx : length x ≡ (p .samples - 1) * p .axes)
+    (lz : length z ≡ p .samples - 1) where
   abbrev e : ℕ
-  e = p .bounds + (p .count - 1) * p .axes
+  e = p .bounds + (p .samples - 1) * p .axes
 
   abbrev f : ℕ
-  f = p .witness + (p .count - 1)
+  f = p .witness + (p .samples - 1)
 
   apart : Apart (p .bounds) e (p .witness) f x z w
   apart =
@@ -61,13 +61,13 @@ module _ (p : Parts) (w x z : List Float) (laid : Laid p (length w)) (lx : lengt
           rw (
             both-after apart (p .breaks) (p .breaks + p .segments + 1) (laid .before-breaks),
             both-after apart (p .coefficients) (p .coefficients + p .segments * (6 * p .axes)) (laid .before-coefficients),
-            both-before apart (p .parameters) (p .parameters + p .count) (omega arith) (laid .parameters-end),
-            both-before apart (p .points) (p .points + p .count * p .axes) (omega arith) (laid .points-end),
+            both-before apart (p .parameters) (p .parameters + p .samples) (omega arith) (laid .parameters-end),
+            both-before apart (p .points) (p .points + p .samples * p .axes) (omega arith) (laid .points-end),
             both-second apart,
           )
 
   -- bounds and witnesses changed once more, to g and h of what they were
-  pub bounds-next : (g h : List Float → List Float) → length (g x) ≡ (p .count - 1) * p .axes → {u v : List Float} → u ≡ withBounds p x z w
+  pub bounds-next : (g h : List Float → List Float) → length (g x) ≡ (p .samples - 1) * p .axes → {u v : List Float} → u ≡ withBounds p x z w
       → v ≡ withBounds p (g (boundsAt p u)) (h (witnessAt p u)) u → v ≡ withBounds p (g x) (h z) w
   bounds-next g h k e is =
       is

@@ -7,9 +7,9 @@ use lib.Ieee.{Float}
 use Rattle.arith.specs.Loop.{each, till, Step}
 use Rattle.arith.specs.Loop.Step.{next, stop}
 use Rattle.window.specs.Cells.{at}
-use Rattle.polynomial.specs.declared.interval.Outcome.{Outcome}
-use Rattle.polynomial.specs.declared.interval.Outcome.the-variants.{Done}
-use Rattle.polynomial.specs.Span.{spanOf}
+use Rattle.polynomial.specs.declared.interval.AuditOutcome.{AuditOutcome}
+use Rattle.polynomial.specs.declared.interval.AuditOutcome.the-variants.{Done}
+use Rattle.polynomial.specs.Span.{breakSpan}
 use Rattle.polynomial.specs.Outcome.{isDone}
 use Rattle.polynomial.specs.Interval.{intervalOf}
 
@@ -19,7 +19,7 @@ pub record Audit : Type 0 where
   pub witness : List Float
   pub span : ℕ
   pub checked : ℕ
-  pub outcome : Outcome
+  pub outcome : AuditOutcome
 
 -- the first d of an interval's cells, from `row` on
 unfoldable pub boundsWith : ℕ → ℕ → List Float → List Float → List Float
@@ -42,4 +42,4 @@ auditTurn breaks coefficients s y d i a =
 unfoldable pub auditOf : List Float → List Float → List Float → List Float → ℕ → ℕ → ℕ → List Float → List Float → Audit
 auditOf breaks coefficients s y d first last bounds witness =
     till (auditTurn breaks coefficients s y d) (λ a. a) first last
-    (record { bounds = bounds; witness = witness; span = spanOf breaks (at s first); checked = 0; outcome = Done })
+    (record { bounds = bounds; witness = witness; span = breakSpan breaks (at s first); checked = 0; outcome = Done })

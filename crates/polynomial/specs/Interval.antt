@@ -17,8 +17,8 @@ use Rattle.float.specs.Order.{maxOf, minOf}
 use Rattle.float.specs.Power.{powerOf}
 use Rattle.polynomial.specs.declared.piece.Piece.{Piece}
 use Rattle.polynomial.specs.declared.piece.Largest.{Largest}
-use Rattle.polynomial.specs.declared.interval.Outcome.{Outcome}
-use Rattle.polynomial.specs.declared.interval.Outcome.the-variants.{Done, NotAbove, NotFinite}
+use Rattle.polynomial.specs.declared.interval.AuditOutcome.{AuditOutcome}
+use Rattle.polynomial.specs.declared.interval.AuditOutcome.the-variants.{Done, NotAbove, NotFinite}
 use Rattle.polynomial.specs.declared.interval.Peak.{Peak}
 use Rattle.polynomial.specs.declared.interval.Ended.{Ended}
 use Rattle.polynomial.specs.Span.{advanced}
@@ -30,14 +30,14 @@ pub record Found : Type 0 where
   pub bounds : List Float
   pub peak : Float
   pub witness : Float
-  pub outcome : Outcome
+  pub outcome : AuditOutcome
 
 -- an audited interval: its bounds, an axis after the other, its witness, and the last segment that was used
 pub record Interval : Type 0 where
   pub bounds : List Float
   pub witness : Float
   pub span : ℕ
-  pub outcome : Outcome
+  pub outcome : AuditOutcome
 
 -- the two, where the bounds stand in a slice of their own
 abbrev pub found : List Float → Peak → Found
@@ -105,7 +105,7 @@ pub record Walk : Type 0 where
   pub found : Found
 
 -- the interval, where the walk ends
-unfoldable pub endedBy : Outcome → ℕ → Found → Interval
+unfoldable pub endedBy : AuditOutcome → ℕ → Found → Interval
 endedBy o span f = record { bounds = f .bounds; witness = f .witness; span = span; outcome = o }
 
 -- the next piece, from `left` on

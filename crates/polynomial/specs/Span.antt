@@ -14,8 +14,8 @@ abbrev pub segments : List Float → ℕ
 segments breaks = length breaks - 1
 
 -- the source's `Polynomial::span`: `breaks.partition_point(|v| *v <= x).saturating_sub(1).min(segments - 1)`
-abbrev pub spanOf : List Float → Float → ℕ
-spanOf breaks x = min (segments breaks - 1) (partitionPoint nan (λ v. le v x) breaks - 1)
+abbrev pub breakSpan : List Float → Float → ℕ
+breakSpan breaks x = min (segments breaks - 1) (partitionPoint nan (λ v. le v x) breaks - 1)
 
 -- `span + 1 < segments && breaks[span + 1] <= left`
 abbrev pub passed : List Float → Float → ℕ → Bool

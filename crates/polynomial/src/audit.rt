@@ -3,15 +3,15 @@ ghost use mathlib.Core.Path.{_≡_};
 ghost use Prim.Native.Nat.{_+_, _-_, _*_, _≤_, _<_};
 ghost use lib.ListN.{length, set};
 ghost use Rattle.window.specs.Cells.{at};
-ghost use Rattle.polynomial.specs.Span.{spanOf};
+ghost use Rattle.polynomial.specs.Span.{breakSpan};
 ghost use Rattle.polynomial.specs.Interval.{interval};
 ghost use Rattle.polynomial.specs.Audit.{boundsWith};
-ghost use Rattle.polynomial.specs.Placed.{Laid, breaksAt, parametersAt, boundsAt, witnessAt, intervalAt, auditAt, withBounds};
+ghost use Rattle.polynomial.specs.Placed.{PartsLaid, breaksAt, parametersAt, boundsAt, witnessAt, intervalAt, auditAt, withBounds};
+use crate::interval::AuditOutcome;
 use crate::interval::Ended;
-use crate::interval::Outcome;
 
 // Where a curve with `segments` segments of `axes` axes lies in a lent slice, its waypoints, of which
-// there are `count`, and for each interval between two of them `axes` bounds and a witness.
+// there are `samples`, and for each interval between two of them `axes` bounds and a witness.
 pub struct Parts {
     pub parameters: usize,
     pub points: usize,
@@ -20,20 +20,20 @@ pub struct Parts {
     pub breaks: usize,
     pub coefficients: usize,
     pub segments: usize,
-    pub count: usize,
+    pub samples: usize,
     pub axes: usize,
 }
 
 // How the audit ended, and how many intervals it checked.
 pub struct Audited {
-    pub outcome: Outcome,
+    pub outcome: AuditOutcome,
     pub checked: usize,
 }
 
 // The segment in which waypoint i of the curve at p lies.
 fn span_at(work: &[f64], p: Parts, i: usize) -> usize
-    requires { ⌜ Laid p (length (now work)) × (i < p .count) ⌝ }
-    ensures { λ r. ⌜ (r ≡ spanOf (breaksAt p (now (work .entry))) (at (parametersAt p (now (work .entry))) i)) × (r < p .segments) ⌝ }
+    requires { ⌜ PartsLaid p (length (now work)) × (i < p .samples) ⌝ }
+    ensures { λ r. ⌜ (r ≡ breakSpan (breaksAt p (now (work .entry))) (at (parametersAt p (now (work .entry))) i)) × (r < p .segments) ⌝ }
 {
     let b = p.breaks;
     let e = b + p.segments + 1;
@@ -42,7 +42,7 @@ fn span_at(work: &[f64], p: Parts, i: usize) -> usize
 }
 // Interval i of the curve at p, from segment `span` on; its bounds go to `bounds`.
 fn interval_at(bounds: &mut [f64], work: &[f64], p: Parts, i: usize, span: usize) -> Ended
-    requires { ⌜ (length (now bounds) ≡ p .axes) × Laid p (length (now work)) × (i + 1 < p .count) × (span < p .segments) ⌝ }
+    requires { ⌜ (length (now bounds) ≡ p .axes) × PartsLaid p (length (now work)) × (i + 1 < p .samples) × (span < p .segments) ⌝ }
     ensures { λ r. ⌜ (interval (now (bounds .exit)) r ≡ intervalAt p i span (now (work .entry))) × (r .span < p .segments) ⌝ }
 {
     let d = p.axes;
@@ -51,9 +51,9 @@ fn interval_at(bounds: &mut [f64], work: &[f64], p: Parts, i: usize, span: usize
     let c = p.coefficients;
     let c_end = c + p.segments * (6 * d);
     let s = p.parameters;
-    let s_end = s + p.count;
+    let s_end = s + p.samples;
     let y = p.points;
-    let y_end = y + p.count * d;
+    let y_end = y + p.samples * d;
     let w = p.witness;
     crate::interval::audit_interval(
         bounds,
@@ -90,23 +90,23 @@ fn put_witness(witness: &mut [f64], i: usize, x: f64)
 
 // The bounds and the witness of interval i.
 fn put(work: &mut [f64], p: Parts, i: usize, cells: &[f64], x: f64)
-    requires { ⌜ Laid p (length (now work)) × (i + 1 < p .count) × (p .axes ≤ length (now cells)) ⌝ }
+    requires { ⌜ PartsLaid p (length (now work)) × (i + 1 < p .samples) × (p .axes ≤ length (now cells)) ⌝ }
     ensures { λ _. ⌜ now (work .exit) ≡ withBounds p (boundsWith (i * p .axes) (p .axes) (now (cells .entry))
         (boundsAt p (now (work .entry))))
         (set (witnessAt p (now (work .entry))) i x) (now (work .entry)) ⌝ }
 {
     let d = p.axes;
     let b = p.bounds;
-    let e = b + (p.count - 1) * d;
+    let e = b + (p.samples - 1) * d;
     let w = p.witness;
-    let f = w + (p.count - 1);
+    let f = w + (p.samples - 1);
     put_bounds(&mut work[b..e], i * d, d, cells);
     put_witness(&mut work[w..f], i, x);
 }
 
 // The audit of the curve at p; an interval's bounds are collected in `cells`, one for each axis.
 fn audit_with(work: &mut [f64], p: Parts, first: usize, last: usize, cells: &mut [f64]) -> Audited
-    requires { ⌜ Laid p (length (now work)) × (first < p .count) × (last < p .count) × (length (now cells) ≡ p .axes) ⌝ }
+    requires { ⌜ PartsLaid p (length (now work)) × (first < p .samples) × (last < p .samples) × (length (now cells) ≡ p .axes) ⌝ }
     ensures { λ r. ⌜ (r .outcome ≡ auditAt p first last (now (work .entry)) .outcome)
         × (r .checked ≡ auditAt p first last (now (work .entry)) .checked)
         × (now (work .exit) ≡ withBounds p (auditAt p first last (now (work .entry)) .bounds)
@@ -127,7 +127,7 @@ fn audit_with(work: &mut [f64], p: Parts, first: usize, last: usize, cells: &mut
         i += 1;
     }
     Audited {
-        outcome: Outcome::Done,
+        outcome: AuditOutcome::Done,
         checked,
     }
 }
@@ -135,7 +135,7 @@ fn audit_with(work: &mut [f64], p: Parts, first: usize, last: usize, cells: &mut
 // The source's `audit` of the curve at p, over the intervals from `first` up to `last`. Their bounds
 // and witnesses are new, or those before the refused one; nothing else changes.
 pub fn audit(work: &mut [f64], p: Parts, first: usize, last: usize) -> Audited
-    requires { ⌜ Laid p (length (now work)) × (first < p .count) × (last < p .count) ⌝ }
+    requires { ⌜ PartsLaid p (length (now work)) × (first < p .samples) × (last < p .samples) ⌝ }
     ensures { λ r. ⌜ (r .outcome ≡ auditAt p first last (now (work .entry)) .outcome)
         × (r .checked ≡ auditAt p first last (now (work .entry)) .checked)
         × (now (work .exit) ≡ withBounds p (auditAt p first last (now (work .entry)) .bounds)

@@ -10,7 +10,7 @@ use crate::piece::Piece;
 
 // How an audit ends: it is done, the right end of a piece is not above the left (document 01's 12),
 // or a Bernstein coefficient is not finite (13).
-pub enum Outcome {
+pub enum AuditOutcome {
     Done,
     NotAbove,
     NotFinite,
@@ -21,24 +21,24 @@ pub enum Outcome {
 pub struct Peak {
     pub peak: f64,
     pub witness: f64,
-    pub outcome: Outcome,
+    pub outcome: AuditOutcome,
 }
 
 // How an interval ended: its witness, and the last segment that was used.
 pub struct Ended {
     pub witness: f64,
     pub span: usize,
-    pub outcome: Outcome,
+    pub outcome: AuditOutcome,
 }
 
 // Whether nothing was refused.
-pub(crate) fn is_done(o: Outcome) -> bool
+pub(crate) fn is_done(o: AuditOutcome) -> bool
     ensures { λ r. ⌜ r ≡ isDone o ⌝ }
 {
     match o {
-        Outcome::Done => true,
-        Outcome::NotAbove => false,
-        Outcome::NotFinite => false,
+        AuditOutcome::Done => true,
+        AuditOutcome::NotAbove => false,
+        AuditOutcome::NotFinite => false,
     }
 }
 
@@ -87,7 +87,7 @@ fn axes(
             return Peak {
                 peak,
                 witness,
-                outcome: Outcome::NotFinite,
+                outcome: AuditOutcome::NotFinite,
             };
         }
         let before = Largest {
@@ -135,7 +135,7 @@ pub(crate) fn audit_interval(
     let mut f = Peak {
         peak: -1.0,
         witness: before,
-        outcome: Outcome::Done,
+        outcome: AuditOutcome::Done,
     };
     while left < end {
         k = crate::span::advance(breaks, left, k);
@@ -144,7 +144,7 @@ pub(crate) fn audit_interval(
             return Ended {
                 witness: f.witness,
                 span: k,
-                outcome: Outcome::NotAbove,
+                outcome: AuditOutcome::NotAbove,
             };
         }
         let q = place(breaks, s, i, k, left, right);
@@ -162,6 +162,6 @@ pub(crate) fn audit_interval(
     Ended {
         witness: f.witness,
         span: k,
-        outcome: Outcome::Done,
+        outcome: AuditOutcome::Done,
     }
 }

@@ -2,12 +2,12 @@
 ghost use mathlib.Core.Path.{_≡_};
 ghost use Prim.Native.Nat.{_+_, _≤_, _<_};
 ghost use lib.ListN.{length};
-ghost use Rattle.polynomial.specs.Span.{spanOf, advanced};
+ghost use Rattle.polynomial.specs.Span.{breakSpan, advanced};
 
 // The segment of x among the breaks: the last whose left break is at or below x, the first where
 // there is none, and never past the last.
 pub fn span(breaks: &[f64], x: f64) -> usize
-    ensures { λ r. ⌜ r ≡ spanOf (now (breaks .entry)) x ⌝ }
+    ensures { λ r. ⌜ r ≡ breakSpan (now (breaks .entry)) x ⌝ }
 {
     let p = bspline::search::partition_point_le(breaks, x);
     let n = breaks.len();

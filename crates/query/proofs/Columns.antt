@@ -8,13 +8,13 @@ use lib.Ieee.{Float, binary64, sub, div}
 use Rattle.window.proofs.Joined.{join-ap, list-length}
 use Rattle.curve.specs.declared.Curve.{Curve}
 use Rattle.curve.specs.Form.{Slices}
-use Rattle.curve.specs.Places.{placeOf}
+use Rattle.curve.specs.Places.{axisPlace}
 use Rattle.query.specs.declared.segment.Derivatives.{Derivatives}
 use Rattle.query.specs.declared.segment.Local.{Local}
 use Rattle.query.specs.Segment.{axisAt, located}
 use Rattle.query.specs.Row.{Outputs, rowOf, filled}
 use Rattle.query.specs.Range.{rangedOf}
-use Rattle.query.specs.Query.{lengthOf, normalised, scaleOf, axisOf, columnOf, spanAt}
+use Rattle.query.specs.Query.{parameterLength, normalised, scaleOf, axisDerivatives, columnOf, spanAt}
 
 -- the axes at x, which stand at these places
 module _ (c : Curve) (s : Slices) (x : Float) (places : List ℕ) where
@@ -28,16 +28,16 @@ module _ (c : Curve) (s : Slices) (x : Float) (places : List ℕ) where
       axisAt (s .coefficients) (s .otherCoefficients) (c .k) (c .d - c .k) place (located (s .breaks) (normalised c x))
       (located (s .otherBreaks) (normalised c x)) (scaleOf c)
 
-  module _ (h : c .k ≤ c .d) (g : (a : ℕ) → a < c .d → getD places a 0 ≡ placeOf (c .axes) (c .k) a) where
+  module _ (h : c .k ≤ c .d) (g : (a : ℕ) → a < c .d → getD places a 0 ≡ axisPlace (c .axes) (c .k) a) where
     row-column : (part : Derivatives → Float) → row part ≡ columnOf part c s x
-    unfolding axisOf
+    unfolding axisDerivatives
     row-column part =
         let e : c .k + (c .d - c .k) ≡ c .d = omega arith in
-        rw e (join-ap (c .d) (λ a. part (axis (getD places a 0)) ∷ []) (λ a. part (axisOf c s x a) ∷ []) (λ a l. rw (g a l)))
+        rw e (join-ap (c .d) (λ a. part (axis (getD places a 0)) ∷ []) (λ a. part (axisDerivatives c s x a) ∷ []) (λ a l. rw (g a l)))
 
     -- the same of what the code has found and computed
     pub rows-columns : (order a : ℕ) (o o′ : Outputs) (here there : Local) (answered whole scale : Float) → answered ≡ x
-        → whole ≡ lengthOf c
+        → whole ≡ parameterLength c
         → scale ≡ scaleOf c → here ≡ located (s .breaks) (div binary64 (sub binary64 answered (c .start)) whole)
         → there ≡ located (s .otherBreaks) (div binary64 (sub binary64 answered (c .start)) whole)
         → o′ ≡ filled order a (λ part. rowOf part (s .coefficients) (s .otherCoefficients) (c .k) (c .d - c .k) places here there scale) o
@@ -47,9 +47,9 @@ module _ (c : Curve) (s : Slices) (x : Float) (places : List ℕ) where
 
 -- a column has d cells
 pub column-length : (part : Derivatives → Float) (c : Curve) (s : Slices) (x : Float) → length (columnOf part c s x) ≡ c .d
-column-length part c s x = list-length (c .d) (λ a. part (axisOf c s x a))
+column-length part c s x = list-length (c .d) (λ a. part (axisDerivatives c s x a))
 
 -- the segment that the code has found is the one in which the query is answered
 pub span-found : (c : Curve) (breaks : List Float) (here : Local) (x answered whole : Float) → answered ≡ rangedOf c x .at
-    → whole ≡ lengthOf c → here ≡ located breaks (div binary64 (sub binary64 answered (c .start)) whole) → here .span ≡ spanAt c breaks x
+    → whole ≡ parameterLength c → here ≡ located breaks (div binary64 (sub binary64 answered (c .start)) whole) → here .span ≡ spanAt c breaks x
 span-found c breaks here x answered whole a w e = rw (e, a, w)

@@ -12,11 +12,11 @@ use Rattle.window.specs.Cells.{+0, at}
 use Rattle.bspline.specs.Search.{partitionPoint}
 use Rattle.bspline.proofs.PartitionPoint.{all-before, none-from}
 use Rattle.arith.proofs.FloatOrder.{le-trans, lt-le, le-lt-trans, lt-le-trans}
-use Rattle.polynomial.specs.Span.{spanOf}
-use Rattle.query.specs.Search.{Rising, Found}
+use Rattle.polynomial.specs.Span.{breakSpan}
+use Rattle.query.specs.Search.{RisingBreaks, Found}
 use Rattle.curve.proofs.Order.{clash}
 
-module _ (breaks : List Float) (rising : Rising breaks) where
+module _ (breaks : List Float) (rising : RisingBreaks breaks) where
   -- no break is below 0
   pub at-least : (i : ℕ) → i < length breaks → le +0 (at breaks i) ≡ true
   at-least zero l = rising .0 l
@@ -71,13 +71,13 @@ module _ (breaks : List Float) (rising : Rising breaks) where
     low zero f = omega arith
     low (suc r) f = let p = passes (suc r) (omega (arith, f .0)) (f .1 (omega arith)) in omega arith
 
-    high : (r : ℕ) → Found breaks x r → spanOf breaks x ≤ r
+    high : (r : ℕ) → Found breaks x r → breakSpan breaks x ≤ r
     high r f = elim (decLt (r + 2) (length breaks)) [
       | yes g ↦ let p = fails (r + 1) (f .2 g) in omega arith
       | no g ↦ omega (arith, f .0)
     ]
 
-    pub found-span : (r : ℕ) → Found breaks x r → r ≡ spanOf breaks x
+    pub found-span : (r : ℕ) → Found breaks x r → r ≡ breakSpan breaks x
     found-span r f = omega (arith, low r f, high r f, f .0)
 
     -- what is not above 0 lies on the first segment
@@ -94,7 +94,7 @@ Passing breaks x base step j c =
     (c < j) × (1 ≤ c → le (at breaks (base + c * step)) x ≡ true) × (c + 1 < j → le (at breaks (base + (c + 1) * step)) x ≡ false)
 
 -- one more is tried
-module _ (breaks : List Float) (rising : Rising breaks) (x : Float) (base step j c : ℕ) (inside : base + j * step < length breaks)
+module _ (breaks : List Float) (rising : RisingBreaks breaks) (x : Float) (base step j c : ℕ) (inside : base + j * step < length breaks)
     (p : Passing breaks x base step j c) where
   pub passing-next : (r : ℕ) → r ≤ 1 → (r ≡ 1 → le (at breaks (base + j * step)) x ≡ true)
       → (r ≡ 0 → le (at breaks (base + j * step)) x ≡ false) → Passing breaks x base step (j + 1) (c + r)
@@ -129,7 +129,7 @@ Window breaks x base size =
     (1 ≤ size) × (base + size < length breaks) × (0 < base → le (at breaks base) x ≡ true)
     × (base + size + 1 < length breaks → le (at breaks (base + size)) x ≡ false)
 
-module _ (breaks : List Float) (rising : Rising breaks) (x : Float) (base size : ℕ) (w : Window breaks x base size) where
+module _ (breaks : List Float) (rising : RisingBreaks breaks) (x : Float) (base size : ℕ) (w : Window breaks x base size) where
   -- a quarter of it is left
   pub narrowed : (step c : ℕ) → 1 ≤ step → 4 * step ≤ size → Passing breaks x base step 4 c
       → Window breaks x (base + step * c) (size - 3 * step)

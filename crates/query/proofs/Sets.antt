@@ -12,12 +12,12 @@ use lib.Ieee.{Float, nan, inf, fin, binary64, up, down, below, ofBits, lt, le, e
 use Rattle.arith.proofs.Rows.{row-end}
 use Rattle.fraction.proofs.Value.{plus-zero}
 use Rattle.window.specs.Cells.{+0, at}
-use Rattle.polynomial.specs.Span.{spanOf}
-use Rattle.curve.specs.Form.{rises, setFormed, othersFormed}
+use Rattle.polynomial.specs.Span.{breakSpan}
+use Rattle.curve.specs.Form.{breaksRise, setFormed, othersFormed}
 use Rattle.curve.proofs.Order.{clash, and-parts}
 use Rattle.curve.proofs.Firsts.{every-at}
 use Rattle.curve.proofs.Formed.{set-sizes}
-use Rattle.query.specs.Search.{Rising}
+use Rattle.query.specs.Search.{RisingBreaks}
 use Rattle.query.specs.Segment.{located}
 
 tail : (p q : Bool) → (p || (true && (q || true))) ≡ true
@@ -37,21 +37,21 @@ zero-le (fin s m e) h =
     rw (eq-eqb b a (sym p), eq-eqb b 0 (omega arith)) (tail (below false b s a) (Bool·beq false s))
 
 -- the breaks of a set rise from 0
-pub set-rising : (m n : ℕ) (breaks coefficients : List Float) → setFormed m n breaks coefficients ≡ true → Rising breaks
+pub set-rising : (m n : ℕ) (breaks coefficients : List Float) → setFormed m n breaks coefficients ≡ true → RisingBreaks breaks
 unfolding setFormed
 set-rising m n b c h =
     let z = set-sizes m n b c h in
     let t3 = leb 1 n && leb n 20000 && eqb (length b) (n + 1) && eqb (length c) (6 * (n * m)) in
     let t4 = t3 && eq (at b 0) +0 in
-    let p5 = and-parts (t4 && rises b n) (eq (at b n) (ofBits binary64 0x3ff0_0000_0000_0000)) h in
-    let p4 = and-parts t4 (rises b n) (p5 .0) in
+    let p5 = and-parts (t4 && breaksRise b n) (eq (at b n) (ofBits binary64 0x3ff0_0000_0000_0000)) h in
+    let p4 = and-parts t4 (breaksRise b n) (p5 .0) in
     let p3 = and-parts t3 (eq (at b 0) +0) (p4 .0) in (
       λ l. subst (λ (o : Float). le o (at b 0) ≡ true) (sym (plus-zero binary64))
           (zero-le (at b 0) (subst (λ (o : Float). eq (at b 0) o ≡ true) (plus-zero binary64) (p3 .1))),
       λ i l. every-at (λ i. lt (at b i) (at b (i + 1))) n (p4 .1) i (omega (arith, z .breaks-length)),
     )
 
-pub others-rising : (m n : ℕ) (breaks coefficients : List Float) → othersFormed m n breaks coefficients ≡ true → Rising breaks
+pub others-rising : (m n : ℕ) (breaks coefficients : List Float) → othersFormed m n breaks coefficients ≡ true → RisingBreaks breaks
 unfolding othersFormed
 others-rising zero n b c h =
     let p = and-parts (eqb n 0 && eqb (length b) 0) (eqb (length c) 0) h in
@@ -71,7 +71,7 @@ unfolding located
 set-rows m n b c u h =
     let z = set-sizes m n b c h in
     let l : 2 ≤ length b = omega (arith, z .some, z .breaks-length) in
-    rw (le-ltb (length b) 2 l) (let r = row-end (spanOf b u) n m (n * m) (omega (arith, z .some, z .breaks-length)) (omega arith) in omega
+    rw (le-ltb (length b) 2 l) (let r = row-end (breakSpan b u) n m (n * m) (omega (arith, z .some, z .breaks-length)) (omega arith) in omega
     (arith, z .coefficients-length))
 
 pub other-rows : (m n : ℕ) (breaks coefficients : List Float) (u : Float) → othersFormed m n breaks coefficients ≡ true

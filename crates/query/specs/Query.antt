@@ -15,33 +15,33 @@ use Rattle.query.specs.declared.entry.Answer.the-variants.{Done, Malform
 use Rattle.query.specs.declared.entry.Answers.{Answers}
 use Rattle.query.specs.declared.entry.Answers.the-variants as many
 use Rattle.curve.specs.First.{firstOf}
-use Rattle.curve.specs.Places.{placeOf}
+use Rattle.curve.specs.Places.{axisPlace}
 use Rattle.curve.specs.Form.{Slices, wellFormed}
 use Rattle.query.specs.Segment.{located, axisAt}
 use Rattle.query.specs.Row.{Outputs, filled}
 use Rattle.query.specs.Range.{rangedOf}
 
 -- `end - start`
-abbrev pub lengthOf : Curve → Float
-lengthOf c = sub binary64 (c .end) (c .start)
+abbrev pub parameterLength : Curve → Float
+parameterLength c = sub binary64 (c .end) (c .start)
 
 -- `let u = (x - start) / (end - start)`
 abbrev pub normalised : Curve → Float → Float
-normalised c x = div binary64 (sub binary64 x (c .start)) (lengthOf c)
+normalised c x = div binary64 (sub binary64 x (c .start)) (parameterLength c)
 
 -- `let scale = 1. / (end - start)`
 abbrev pub scaleOf : Curve → Float
-scaleOf c = div binary64 (ofBits binary64 0x3ff0_0000_0000_0000) (lengthOf c)
+scaleOf c = div binary64 (ofBits binary64 0x3ff0_0000_0000_0000) (parameterLength c)
 
 -- axis a at x, from start to end: its value with its three derivatives
-unfoldable pub axisOf : Curve → Slices → Float → ℕ → Derivatives
-axisOf c s x a =
-    axisAt (s .coefficients) (s .otherCoefficients) (c .k) (c .d - c .k) (placeOf (c .axes) (c .k) a) (located (s .breaks) (normalised c x))
+unfoldable pub axisDerivatives : Curve → Slices → Float → ℕ → Derivatives
+axisDerivatives c s x a =
+    axisAt (s .coefficients) (s .otherCoefficients) (c .k) (c .d - c .k) (axisPlace (c .axes) (c .k) a) (located (s .breaks) (normalised c x))
     (located (s .otherBreaks) (normalised c x)) (scaleOf c)
 
 -- one order of every axis at x: d cells
 abbrev pub columnOf : (Derivatives → Float) → Curve → Slices → Float → List Float
-columnOf part c s x = listOf (c .d) (λ a. part (axisOf c s x a))
+columnOf part c s x = listOf (c .d) (λ a. part (axisDerivatives c s x a))
 
 -- a call's number, 0 for an answer; of many parameters the place of the first that is refused, otherwise 0; what the four slices hold
 -- after it

@@ -8,8 +8,8 @@ use lib.Ieee.{Float, lt, le}
 use Rattle.window.specs.Cells.{+0, at}
 
 -- "breaks rise strictly from 0": the first is not below 0, and each is below the next
-abbrev pub Rising : List Float → Type 0
-Rising breaks = (0 < length breaks → le +0 (at breaks 0) ≡ true)
+abbrev pub RisingBreaks : List Float → Type 0
+RisingBreaks breaks = (0 < length breaks → le +0 (at breaks 0) ≡ true)
     × ((i : ℕ) → i + 1 < length breaks → lt (at breaks i) (at breaks (i + 1)) ≡ true)
 
 -- segment r holds x: its left break is at or below x unless it is the first, and its right break is above unless it is the last

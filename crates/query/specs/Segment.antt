@@ -11,7 +11,7 @@ use Rattle.window.specs.Window.{window}
 use Rattle.window.specs.Cells.{+0, at}
 use Rattle.float.specs.Power.{powerOf}
 use Rattle.bspline.specs.Choose.{factorials}
-use Rattle.polynomial.specs.Span.{spanOf}
+use Rattle.polynomial.specs.Span.{breakSpan}
 use Rattle.query.specs.declared.segment.Derivatives.{Derivatives}
 use Rattle.query.specs.declared.segment.Local.{Local}
 
@@ -41,7 +41,7 @@ localOn breaks span x =
 -- where x lies among the breaks; a set without segments has nothing to find
 unfoldable pub located : List Float → Float → Local
 located breaks x =
-    cond (ltb (length breaks) 2) (record { span = 0; u = +0; width = +0 }) (localOn breaks (spanOf breaks x) x)
+    cond (ltb (length breaks) 2) (record { span = 0; u = +0; width = +0 }) (localOn breaks (breakSpan breaks x) x)
 
 -- the six coefficients in row i
 abbrev pub six : List Float → ℕ → List Float

@@ -4,11 +4,11 @@ ghost use mathlib.Core.Bool.{true};
 ghost use Prim.Native.Nat.{ℕ, _*_, _<_};
 ghost use lib.ListN.{length, getD};
 ghost use Rattle.curve.specs.Form.{slices, wellFormed};
-ghost use Rattle.curve.specs.Places.{placeOf};
+ghost use Rattle.curve.specs.Places.{axisPlace};
 ghost use Rattle.query.specs.Search.{Begins};
 ghost use Rattle.query.specs.Range.{Inside};
 ghost use Rattle.query.specs.Row.{outputs, Room, filled};
-ghost use Rattle.query.specs.Query.{lengthOf, scaleOf, columnsOf, firstRefused, shortOf, outcome, evaluateOf, evaluateAllOf};
+ghost use Rattle.query.specs.Query.{parameterLength, scaleOf, columnsOf, firstRefused, shortOf, outcome, evaluateOf, evaluateAllOf};
 ghost use Rattle.query.specs.Query.{numberOf, numberOfAll, refusedAt, keptOf, Last};
 use crate::places;
 use crate::range;
@@ -116,8 +116,8 @@ fn write_rows<'a>(
     dddq: &mut [f64],
 ) -> Spans
     requires { ⌜ wellFormed curve (slices (now breaks) (now coefficients) (now «other_breaks») (now «other_coefficients»)) ≡ true ⌝ }
-    requires { ⌜ ((a : ℕ) → a < curve .d → getD (now table) a 0 ≡ placeOf (curve .axes) (curve .k) a) ⌝ }
-    requires { ⌜ (whole ≡ lengthOf curve) × (scale ≡ scaleOf curve) ⌝ }
+    requires { ⌜ ((a : ℕ) → a < curve .d → getD (now table) a 0 ≡ axisPlace (curve .axes) (curve .k) a) ⌝ }
+    requires { ⌜ (whole ≡ parameterLength curve) × (scale ≡ scaleOf curve) ⌝ }
     requires { ⌜ (inside ≡ true → Inside curve (now xs)) ⌝ }
     requires { ⌜ Begins (now breaks) near × Begins (now «other_breaks») «other_near» ⌝ }
     requires { ⌜ Room order (length (now xs) * curve .d) (outputs (now q) (now dq) (now ddq) (now dddq)) ⌝ }

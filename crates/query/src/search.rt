@@ -5,8 +5,8 @@ ghost use Prim.Native.Nat.{_+_, _-_, _*_, _≤_, _<_};
 ghost use lib.ListN.{length};
 ghost use lib.Ieee.{lt, le};
 ghost use Rattle.window.specs.Cells.{+0, at};
-ghost use Rattle.polynomial.specs.Span.{spanOf};
-ghost use Rattle.query.specs.Search.{Rising, Found};
+ghost use Rattle.polynomial.specs.Span.{breakSpan};
+ghost use Rattle.query.specs.Search.{RisingBreaks, Found};
 
 // 1 where v is at or below x, and 0 where it is above: numbers above 0 are in the order of their bits.
 // A v of -0 gives 0.
@@ -20,7 +20,7 @@ fn at_or_below(v: f64, x: f64) -> usize
 
 // How many of the m - 1 breaks that follow the one at base, `step` apart, are at or below x.
 fn passed(breaks: &[f64], x: f64, base: usize, step: usize, m: usize) -> usize
-    requires { ⌜ Rising (now breaks) × (lt +0 x ≡ true) × (1 ≤ step) × (1 ≤ m)
+    requires { ⌜ RisingBreaks (now breaks) × (lt +0 x ≡ true) × (1 ≤ step) × (1 ≤ m)
         × (base + (m - 1) * step < length (now breaks)) ⌝ }
     ensures { λ c. ⌜ (c < m) × (1 ≤ c → le (at (now (breaks .entry)) (base + c * step)) x ≡ true)
         × (c + 1 < m → le (at (now (breaks .entry)) (base + (c + 1) * step)) x ≡ false) ⌝ }
@@ -36,7 +36,7 @@ fn passed(breaks: &[f64], x: f64, base: usize, step: usize, m: usize) -> usize
 
 // The segment of x, above 0: of those that are left a quarter is kept, until there are three or fewer.
 fn quarter(breaks: &[f64], x: f64) -> usize
-    requires { ⌜ Rising (now breaks) × (lt +0 x ≡ true) × (2 ≤ length (now breaks)) ⌝ }
+    requires { ⌜ RisingBreaks (now breaks) × (lt +0 x ≡ true) × (2 ≤ length (now breaks)) ⌝ }
     ensures { λ r. ⌜ Found (now (breaks .entry)) x r ⌝ }
 {
     let mut base = 0;
@@ -51,8 +51,8 @@ fn quarter(breaks: &[f64], x: f64) -> usize
 
 // The segment of x; `near` is tried first, since the next parameter often lies where the last one did.
 pub fn span(breaks: &[f64], x: f64, near: usize) -> usize
-    requires { ⌜ Rising (now breaks) × (near + 1 < length (now breaks)) ⌝ }
-    ensures { λ r. ⌜ r ≡ spanOf (now (breaks .entry)) x ⌝ }
+    requires { ⌜ RisingBreaks (now breaks) × (near + 1 < length (now breaks)) ⌝ }
+    ensures { λ r. ⌜ r ≡ breakSpan (now (breaks .entry)) x ⌝ }
 {
     if 0.0 < x {
         if at_or_below(breaks[near + 1], x) < at_or_below(breaks[near], x) {

@@ -2,7 +2,7 @@
 ghost use mathlib.Core.Path.{_≡_};
 ghost use Prim.Native.Nat.{_+_, _-_, _*_, _≤_, _<_};
 ghost use lib.ListN.{length};
-ghost use Rattle.query.specs.Search.{Rising, Begins};
+ghost use Rattle.query.specs.Search.{RisingBreaks, Begins};
 ghost use Rattle.query.specs.Segment.{hornerOf, atOf, localOn, located, coefficientsOf, scaledOf, axisAt};
 use crate::search;
 use bspline::choose::FACT;
@@ -83,7 +83,7 @@ fn on_span(breaks: &[f64], span: usize, x: f64) -> Local
 // Where x lies among the breaks, of which the segment `near` is tried first. A set without segments has
 // nothing to find.
 pub fn locate(breaks: &[f64], x: f64, near: usize) -> Local
-    requires { ⌜ Rising (now breaks) × Begins (now breaks) near ⌝ }
+    requires { ⌜ RisingBreaks (now breaks) × Begins (now breaks) near ⌝ }
     ensures { λ r. ⌜ r ≡ located (now (breaks .entry)) x ⌝ }
 {
     if breaks.len() < 2 {

@@ -15,7 +15,7 @@ use Rattle.refinement.specs.Refit.{auditOver}
 use Rattle.refinement.proofs.Memories.{products, lengths, bounds-written}
 
 module _ (p : Plan) (w : List Float) (r : Roomy p (length w)) where
-  pub audit-asks : audits.Laid (partsOf p) (length w)
+  pub audit-asks : audits.PartsLaid (partsOf p) (length w)
   audit-asks =
       let q = products p (length w) r in
       record {

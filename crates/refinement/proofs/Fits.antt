@@ -11,7 +11,7 @@ use Rattle.window.proofs.Windows.{length-window, length-splice, window-window}
 use Rattle.window.proofs.Seams.{same-window, front-written}
 use Rattle.normal.specs.System.{sizeOf}
 use Rattle.fitting_rows.specs.Arrays.{Arrays, arrays, arraysAt}
-use Rattle.fit.specs.Region.{Laid, before}
+use Rattle.fit.specs.Region.{WindowLaid, before}
 use Rattle.fit.specs.Fit.{Fit, Answer, fitOf, cellsOf, cellsAfter}
 use Rattle.smoothing.specs.State.{fitIn}
 use Rattle.fit.proofs.Bounds.{fit-length}
@@ -42,7 +42,7 @@ module _ (p : Plan) (w : List Float) (r : Roomy p (length w)) (a z : ℕ) (az : 
   part-length : length (window 0 end w) ≡ end
   part-length = length-window 0 end w (omega arith) fit-fits ∙ omega arith
 
-  pub fit-asks : Laid (placeOf p) a z (length (window 0 end w))
+  pub fit-asks : WindowLaid (placeOf p) a z (length (window 0 end w))
   fit-asks =
       let q = products p (length w) r in
       let n = part-length in

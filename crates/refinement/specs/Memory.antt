@@ -78,7 +78,7 @@ partsOf p =
       breaks = breaksPlace p;
       coefficients = coefficientsPlace p;
       segments = p .count - 5;
-      count = p .samples;
+      samples = p .samples;
       axes = p .axes;
     }
 

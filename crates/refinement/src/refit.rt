@@ -20,7 +20,7 @@ use fit::Fitted;
 use fitting_rows::Place;
 use polynomial::audit::Audited;
 use polynomial::audit::Parts;
-use polynomial::interval::Outcome;
+use polynomial::interval::AuditOutcome;
 use running_report::Report;
 
 // How a refit ended: document 01's number of the refusal, or 0, and the report then.
@@ -49,13 +49,13 @@ fn down(a: usize, b: usize) -> usize
 }
 
 // Document 01's number of how an audit ended.
-pub fn number_of(o: Outcome) -> usize
+pub fn number_of(o: AuditOutcome) -> usize
     ensures { λ r. ⌜ r ≡ numberOf o ⌝ }
 {
     match o {
-        Outcome::Done => 0,
-        Outcome::NotAbove => 12,
-        Outcome::NotFinite => 13,
+        AuditOutcome::Done => 0,
+        AuditOutcome::NotAbove => 12,
+        AuditOutcome::NotFinite => 13,
     }
 }
 
@@ -121,7 +121,7 @@ pub fn audit_in(work: &mut [f64], p: Plan, first: usize, last: usize) -> Audited
         breaks: 13 * e + 4 * b,
         coefficients: 14 * e + 4 * b,
         segments: p.count - 5,
-        count: p.samples,
+        samples: p.samples,
         axes: p.axes,
     };
     polynomial::audit::audit(work, parts, first, last)

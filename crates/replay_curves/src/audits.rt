@@ -1,19 +1,19 @@
 // Cases of crate `polynomial`.
 ghost use mathlib.Core.Path.{_≡_};
 ghost use Prim.Native.Nat.{_+_, _*_, _≤_, _<_};
-ghost use Rattle.polynomial.specs.Placed.{Laid};
+ghost use Rattle.polynomial.specs.Placed.{PartsLaid};
 ghost use mathlib.Core.Bool.{true};
 ghost use Rattle.listing.specs.Lines.{Unanswered};
 use listing::list::Head;
 use listing::output;
 use listing::output::Line;
 use polynomial::audit::Parts;
-use polynomial::interval::Outcome;
+use polynomial::interval::AuditOutcome;
 
 // The parts of a case with d axes, n waypoints and m segments, in the order of `Parts`.
 fn layout(d: usize, n: usize, m: usize) -> Parts
     requires { ⌜ (d ≤ 16) × (0 < n) × (n ≤ 65536) × (0 < m) × (m ≤ 65536) ⌝ }
-    ensures { λ r. ⌜ Laid r (r .coefficients + m * (6 * d)) × (r .count ≡ n) × (r .segments ≡ m) × (r .axes ≡ d)
+    ensures { λ r. ⌜ PartsLaid r (r .coefficients + m * (6 * d)) × (r .samples ≡ n) × (r .segments ≡ m) × (r .axes ≡ d)
         × (r .coefficients ≤ 4000000) × (m * (6 * d) ≤ 8000000) ⌝ }
 {
     let bounds = n + n * d;
@@ -27,7 +27,7 @@ fn layout(d: usize, n: usize, m: usize) -> Parts
         breaks,
         coefficients: breaks + m + 1,
         segments: m,
-        count: n,
+        samples: n,
         axes: d,
     }
 }
@@ -47,15 +47,15 @@ fn arrange(cells: &[f64], work: &mut [f64], curve: usize) -> bool {
 }
 
 // The line of an audit: the bounds and the witnesses, which lie one after the other, or the number.
-fn line(outcome: Outcome, list: &[f64], out: &mut [u8], at: usize) -> Line
+fn line(outcome: AuditOutcome, list: &[f64], out: &mut [u8], at: usize) -> Line
     ensures { λ r. ⌜ r .good ≡ true ⌝ }
 {
     let next = output::text(out, at, b"audit");
-    if let Outcome::Done = outcome {
+    if let AuditOutcome::Done = outcome {
         let next = output::cells(out, next, list, list.len());
         return output::end(out, next);
     }
-    if let Outcome::NotAbove = outcome {
+    if let AuditOutcome::NotAbove = outcome {
         return output::refused(out, next, 12);
     }
     output::refused(out, next, 13)

@@ -2,7 +2,7 @@
 ghost use mathlib.Core.Path.{_≡_};
 ghost use Prim.Native.Nat.{_+_, _-_, _*_, _≤_, _<_};
 ghost use Rattle.normal.specs.System.{sizeOf};
-ghost use Rattle.fit.specs.Region.{Laid};
+ghost use Rattle.fit.specs.Region.{WindowLaid};
 ghost use mathlib.Core.Bool.{true};
 ghost use Rattle.listing.specs.Lines.{Unanswered};
 use fit::Fitted;
@@ -15,7 +15,7 @@ use listing::output::Line;
 // controls from a up to z after them.
 fn layout(d: usize, n: usize, m: usize, a: usize, z: usize) -> Place
     requires { ⌜ (d ≤ 16) × (2 ≤ n) × (n ≤ 65536) × (6 ≤ m) × (m ≤ 65536) × (a ≤ z) × (z ≤ m) ⌝ }
-    ensures { λ r. ⌜ Laid r a z (r .system + sizeOf (z - a) d) × (r .axes ≡ d) × (r .controls ≤ 4000000)
+    ensures { λ r. ⌜ WindowLaid r a z (r .system + sizeOf (z - a) d) × (r .axes ≡ d) × (r .controls ≤ 4000000)
         × (m * d ≤ 4000000) × (r .system ≤ 8000000) × (sizeOf (z - a) d ≤ 8000000) ⌝ }
 {
     let controls = m + 6;

@@ -12,7 +12,7 @@ use lib.ListN.{length, drop, drop-of-length-le}
 use lib.Seq.{drop-cons}
 use lib.Ieee.{Float, nan}
 use Rattle.window.specs.Cells.{at}
-use Rattle.seed.specs.Regions.{Range, range, rangeOf, joined, regionsOf}
+use Rattle.seed.specs.Regions.{Range, range, rangeOf, merged, regionsOf}
 
 pub leb-down : (a z : ℕ) → leb (a - 5) z ≡ leb a (z + 5)
 leb-down a z = elim (decLt (z + 5) a) [
@@ -30,25 +30,25 @@ module _ (last less over k : ℕ) (p : less ≡ last - 6) (q : over ≡ less - k
 
 module _ (t : List Float) (m : ℕ) (x : List Float) (i : ℕ) where
   -- the first location's controls
-  pub region-opens : (r : Range) → i < length x → r ≡ rangeOf t m (at x i) → joined t m r (drop (i + 1) x) ≡ regionsOf t m (drop i x)
+  pub region-opens : (r : Range) → i < length x → r ≡ rangeOf t m (at x i) → merged t m r (drop (i + 1) x) ≡ regionsOf t m (drop i x)
   unfolding regionsOf
   region-opens r h e = rw (drop-cons x i nan h, e, add-one i)
 
   -- a location whose controls join
   pub region-grows : (a z : ℕ) (r : Range) → i < length x → r ≡ rangeOf t m (at x i) → leb (r .a) (z + 5) ≡ true
-      → joined t m (range a z) (drop i x) ≡ joined t m (range a (max z (r .z))) (drop (i + 1) x)
-  unfolding joined
+      → merged t m (range a z) (drop i x) ≡ merged t m (range a (max z (r .z))) (drop (i + 1) x)
+  unfolding merged
   region-grows a z r h e f = rw (drop-cons x i nan h, ← e, f, add-one i)
 
   -- a location whose controls do not
   pub region-parts : (a z : ℕ) (r : Range) → i < length x → r ≡ rangeOf t m (at x i) → leb (r .a) (z + 5) ≡ false
-      → joined t m (range a z) (drop i x) ≡ range a z ∷ regionsOf t m (drop i x)
-  unfolding joined regionsOf
+      → merged t m (range a z) (drop i x) ≡ range a z ∷ regionsOf t m (drop i x)
+  unfolding merged regionsOf
   region-parts a z r h e f = rw (drop-cons x i nan h, ← e, f)
 
   -- no location is left
-  pub region-ends : (a z : ℕ) → length x ≤ i → joined t m (range a z) (drop i x) ≡ range a z ∷ regionsOf t m (drop i x)
-  unfolding joined regionsOf
+  pub region-ends : (a z : ℕ) → length x ≤ i → merged t m (range a z) (drop i x) ≡ range a z ∷ regionsOf t m (drop i x)
+  unfolding merged regionsOf
   region-ends a z h = rw (drop-of-length-le x h)
 
 -- ---- what holds of a region of m controls: it lies strictly between the first control and the last, and is not empty
@@ -72,8 +72,8 @@ abbrev Head : (Range → Type 0) → List Range → Type 0
 Head P [] = Unit {0}
 Head P (r ∷ rest) = P r
 
-joined-inside : (t : List Float) (m : ℕ) (last : Range) (x : List Float) → 2 < m → Inside m last → Head (Inside m) (joined t m last x)
-unfolding joined
+joined-inside : (t : List Float) (m : ℕ) (last : Range) (x : List Float) → 2 < m → Inside m last → Head (Inside m) (merged t m last x)
+unfolding merged
 joined-inside t m last [] h p = p
 joined-inside t m last (v ∷ x) h p =
     go (leb (rangeOf t m v .a) (last .z + 5)) (joined-inside t m (range (last .a) (max (last .z) (rangeOf t m v .z))) x h grown)
@@ -89,8 +89,8 @@ joined-inside t m last (v ∷ x) h p =
           (arith, p .before-last, q .before-last);
     }
 
-    go : (b : Bool) → Head (Inside m) (joined t m (range (last .a) (max (last .z) (rangeOf t m v .z))) x)
-        → Head (Inside m) (cond b (joined t m (range (last .a) (max (last .z) (rangeOf t m v .z))) x) (last ∷ joined t m (rangeOf t m v) x))
+    go : (b : Bool) → Head (Inside m) (merged t m (range (last .a) (max (last .z) (rangeOf t m v .z))) x)
+        → Head (Inside m) (cond b (merged t m (range (last .a) (max (last .z) (rangeOf t m v .z))) x) (last ∷ merged t m (rangeOf t m v) x))
     go true g = g
     go false g = p
 

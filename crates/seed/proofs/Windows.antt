@@ -6,15 +6,15 @@ use native.Mathlib.Omega.{arith}
 use lib.Dec.{leb}
 use lib.ListN.{length}
 use lib.Ieee.{Float}
-use Rattle.seed.specs.Regions.{Range, range, rangeOf, joined, regionsOf}
+use Rattle.seed.specs.Regions.{Range, range, rangeOf, merged, regionsOf}
 
-joined-few : (t : List Float) (m : ℕ) (last : Range) (x : List Float) → length (joined t m last x) ≤ length x + 1
-unfolding joined
+joined-few : (t : List Float) (m : ℕ) (last : Range) (x : List Float) → length (merged t m last x) ≤ length x + 1
+unfolding merged
 joined-few t m last [] = omega arith
 joined-few t m last (x ∷ rest) =
     let r = rangeOf t m x in
     let wider = range (last .a) (max (last .z) (r .z)) in
-    go (joined t m wider rest) (joined t m r rest) (leb (r .a) (last .z + 5)) (joined-few t m wider rest) (joined-few t m r rest)
+    go (merged t m wider rest) (merged t m r rest) (leb (r .a) (last .z + 5)) (joined-few t m wider rest) (joined-few t m r rest)
   where
     go : (p q : List Range) (b : Bool) → length p ≤ length rest + 1 → length q ≤ length rest + 1
         → length (cond b p (last ∷ q)) ≤ length (x ∷ rest) + 1
@@ -34,8 +34,8 @@ abbrev pub Inners : ℕ → List Range → Type 0
 Inners m [] = Unit {0}
 Inners m (r ∷ l) = Inner m r × Inners m l
 
-joined-inner : (t : List Float) (m : ℕ) (last : Range) (x : List Float) → Inner m last → Inners m (joined t m last x)
-unfolding joined rangeOf
+joined-inner : (t : List Float) (m : ℕ) (last : Range) (x : List Float) → Inner m last → Inners m (merged t m last x)
+unfolding merged rangeOf
 joined-inner t m last [] h = (h, tt)
 joined-inner t m last (x ∷ rest) h =
     let r = rangeOf t m x in
@@ -46,9 +46,9 @@ joined-inner t m last (x ∷ rest) h =
     wider : (a b c : ℕ) → a ≤ c → b ≤ c → max a b ≤ c
     wider a b c h k = omega arith
 
-    go : (b : Bool) → Inners m (joined t m (range (last .a) (max (last .z) (rangeOf t m x .z))) rest)
-        → Inners m (joined t m (rangeOf t m x) rest)
-        → Inners m (cond b (joined t m (range (last .a) (max (last .z) (rangeOf t m x .z))) rest) (last ∷ joined t m (rangeOf t m x) rest))
+    go : (b : Bool) → Inners m (merged t m (range (last .a) (max (last .z) (rangeOf t m x .z))) rest)
+        → Inners m (merged t m (rangeOf t m x) rest)
+        → Inners m (cond b (merged t m (range (last .a) (max (last .z) (rangeOf t m x .z))) rest) (last ∷ merged t m (rangeOf t m x) rest))
     go true p n = p
     go false p n = (h, n)
 

@@ -12,8 +12,8 @@ use Rattle.window.specs.Rows.{written}
 use Rattle.window.proofs.Written.{written-none, set-next}
 use Rattle.seed.specs.declared.Waypoints.{Waypoints}
 use Rattle.seed.specs.Anchors.{anchorsOf, nextAnchor}
-use Rattle.seed.specs.Knots.{around, knotsAt, rawKnots}
-use Rattle.seed.specs.Placed.{Laid, parametersAt, pointsAt}
+use Rattle.seed.specs.Knots.{around, anchorKnots, rawKnots}
+use Rattle.seed.specs.Placed.{WaypointsLaid, parametersAt, pointsAt}
 use Rattle.seed.proofs.Scanning.{after, after-more, after-none, anchors-are, next-between}
 
 -- three cells more of a list that is written from a on, after the k that v has
@@ -43,20 +43,20 @@ write-three a v l k x y z h g =
 module _ (s y : List Float) (d : ℕ) where
   -- the knots of the anchors a, b and those after b
   abbrev knotsFrom : ℕ → ℕ → ℕ → List Float
-  knotsFrom left a b = knotsAt s y d (a ∷ (b ∷ after s y d left b))
+  knotsFrom left a b = anchorKnots s y d (a ∷ (b ∷ after s y d left b))
 
   from-more : (left a b : ℕ) → b + 1 < length s → knotsFrom (suc left) a b ≡ around s y d a b (nextAnchor s y d
       b) ++ knotsFrom left b (nextAnchor s y d b)
-  unfolding knotsAt
+  unfolding anchorKnots
   from-more left a b h = rw (after-more s y d left b h)
 
   from-none : (left a b : ℕ) → length s ≤ b + 1 → knotsFrom left a b ≡ []
-  unfolding knotsAt
+  unfolding anchorKnots
   from-none left a b h = rw (after-none s y d left b h)
 
   raw-from : 0 < length s → rawKnots s y d ≡ knotsFrom (length s) 0 (nextAnchor s y d 0)
   unfolding rawKnots
-  raw-from h = ap (knotsAt s y d) (anchors-are s y d h)
+  raw-from h = ap (anchorKnots s y d) (anchors-are s y d h)
 
   -- no inner waypoint, no knots
   pub raw-empty : length s < 2 → rawKnots s y d ≡ []
@@ -66,7 +66,7 @@ module _ (s y : List Float) (d : ℕ) where
   ]
     where
       nothing : length s ≡ 0 → rawKnots s y d ≡ []
-      nothing e = unfold rawKnots anchorsOf knotsAt whilst in rw e
+      nothing e = unfold rawKnots anchorsOf anchorKnots whilst in rw e
 
   -- ---- what holds before each triple: the cells written and the knots to come are the raw knots
   pub record Begun (from : ℕ) (work₀ work : List Float) (a b k : ℕ) : Type 0 where
@@ -140,7 +140,7 @@ module _ (s y : List Float) (d : ℕ) where
   around-three a b c l = omega arith
 
   from-count : (left a b : ℕ) → b < length s → length (knotsFrom left a b) + 3 * b ≤ 3 * (length s - 1)
-  from-count zero a b h = unfold after knotsAt in omega arith
+  from-count zero a b h = unfold after anchorKnots in omega arith
   from-count (suc left) a b h = go (λ (k : ℕ). from-count left b k)
     where
       go : ((k : ℕ) → k < length s → length (knotsFrom left b k) + 3 * k ≤ 3 * (length s - 1)) → length (knotsFrom (suc left) a b) + 3 * b
@@ -161,7 +161,7 @@ module _ (s y : List Float) (d : ℕ) where
   ))
 
 -- ---- in one slice
-module _ (p : Waypoints) (w : List Float) (laid : Laid p (length w)) where
+module _ (p : Waypoints) (w : List Float) (laid : WaypointsLaid p (length w)) where
   pub parameters-length : length (parametersAt p w) ≡ p .samples
   parameters-length = length-window (p .parameters) (p .parameters + p .samples) w (omega arith) (omega arith) ∙ omega arith
 

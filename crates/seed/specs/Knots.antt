@@ -37,15 +37,15 @@ around s y d a b c =
     floats .minus (at s b) width ∷ (at s b ∷ (floats .plus (at s b) width ∷ []))
 
 -- `for triple in indices.windows(3)`
-unfoldable pub knotsAt : List Float → List Float → ℕ → List ℕ → List Float
-knotsAt s y d [] = []
-knotsAt s y d (a ∷ []) = []
-knotsAt s y d (a ∷ (b ∷ [])) = []
-knotsAt s y d (a ∷ (b ∷ (c ∷ rest))) = around s y d a b c ++ knotsAt s y d (b ∷ (c ∷ rest))
+unfoldable pub anchorKnots : List Float → List Float → ℕ → List ℕ → List Float
+anchorKnots s y d [] = []
+anchorKnots s y d (a ∷ []) = []
+anchorKnots s y d (a ∷ (b ∷ [])) = []
+anchorKnots s y d (a ∷ (b ∷ (c ∷ rest))) = around s y d a b c ++ anchorKnots s y d (b ∷ (c ∷ rest))
 
 -- `knots` before it is sorted
 unfoldable pub rawKnots : List Float → List Float → ℕ → List Float
-rawKnots s y d = knotsAt s y d (anchorsOf s y d)
+rawKnots s y d = anchorKnots s y d (anchorsOf s y d)
 
 -- `seed`: the parameters s, the coordinates y of d axes, waypoint after waypoint
 unfoldable pub seedOf : List Float → List Float → ℕ → List Float

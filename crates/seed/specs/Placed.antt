@@ -9,8 +9,8 @@ use Rattle.seed.specs.declared.Waypoints.{Waypoints}
 use Rattle.seed.specs.Knots.{rawKnots, seedOf}
 
 -- the waypoints lie before the knots, and those within n cells
-abbrev pub Laid : Waypoints → ℕ → Type 0
-Laid p n = (p .axes ≤ 16) × (p .parameters + p .samples ≤ p .knots) × (p .points + p .samples * p .axes ≤ p .knots) × (p .knots ≤ n)
+abbrev pub WaypointsLaid : Waypoints → ℕ → Type 0
+WaypointsLaid p n = (p .axes ≤ 16) × (p .parameters + p .samples ≤ p .knots) × (p .points + p .samples * p .axes ≤ p .knots) × (p .knots ≤ n)
 
 -- `s` and `y` of the source's `seed`
 abbrev pub parametersAt : Waypoints → List Float → List Float

@@ -21,15 +21,15 @@ rangeOf t m x =
     let k = spanOf floats t m x in range (max (k - 10) 1) (min (k + 6) (m - 1))
 
 -- `last` and what follows it: a range that starts at most 5 controls after the last one ends is joined to it
-unfoldable pub joined : List Float → ℕ → Range → List Float → List Range
-joined t m last [] = last ∷ []
-joined t m last (x ∷ rest) =
+unfoldable pub merged : List Float → ℕ → Range → List Float → List Range
+merged t m last [] = last ∷ []
+merged t m last (x ∷ rest) =
     let r = rangeOf t m x in
-    let grown = joined t m (range (last .a) (max (last .z) (r .z))) rest in
-    let parted = last ∷ joined t m r rest in
+    let grown = merged t m (range (last .a) (max (last .z) (r .z))) rest in
+    let parted = last ∷ merged t m r rest in
     cond (leb (r .a) (last .z + 5)) grown parted
 
 -- `regions`: of a spline with knots t and m controls, for the locations x
 unfoldable pub regionsOf : List Float → ℕ → List Float → List Range
 regionsOf t m [] = []
-regionsOf t m (x ∷ rest) = joined t m (rangeOf t m x) rest
+regionsOf t m (x ∷ rest) = merged t m (rangeOf t m x) rest

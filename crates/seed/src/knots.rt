@@ -8,7 +8,7 @@ ghost use Rattle.sorting.specs.Thin.{keptOf};
 ghost use Rattle.window.specs.Rows.{written};
 ghost use Rattle.seed.specs.Anchors.{nextAnchor};
 ghost use Rattle.seed.specs.Knots.{jumpOf, widthOf, around, rawKnots, seedOf};
-ghost use Rattle.seed.specs.Placed.{Laid, parametersAt, pointsAt, seededCells};
+ghost use Rattle.seed.specs.Placed.{WaypointsLaid, parametersAt, pointsAt, seededCells};
 use crate::Waypoints;
 use crate::corridor::next_anchor;
 use crate::corridor::slope;
@@ -64,7 +64,7 @@ fn knots_around(s: &[f64], y: &[f64], d: usize, a: usize, b: usize, c: usize) ->
 
 // The anchor after the waypoint `anchor`.
 fn anchor_after(work: &[f64], p: Waypoints, anchor: usize) -> usize
-    requires { ⌜ Laid p (length (now work)) × (anchor < p .samples) ⌝ }
+    requires { ⌜ WaypointsLaid p (length (now work)) × (anchor < p .samples) ⌝ }
     ensures { λ r. ⌜ r ≡ nextAnchor (parametersAt p (now (work .entry))) (pointsAt p (now (work .entry))) (p .axes) anchor ⌝ }
 {
     let s = p.parameters;
@@ -76,7 +76,7 @@ fn anchor_after(work: &[f64], p: Waypoints, anchor: usize) -> usize
 
 // The three knots around the anchor b, between the anchors a and c.
 fn knots_at(work: &[f64], p: Waypoints, a: usize, b: usize, c: usize) -> Three
-    requires { ⌜ Laid p (length (now work)) × (a < p .samples) × (b < p .samples) × (c < p .samples) ⌝ }
+    requires { ⌜ WaypointsLaid p (length (now work)) × (a < p .samples) × (b < p .samples) × (c < p .samples) ⌝ }
     ensures { λ r. ⌜ (r .left ∷ (r .middle ∷ (r .right ∷ []))) ≡ around (parametersAt p (now (work .entry)))
         (pointsAt p (now (work .entry))) (p .axes) a b c ⌝ }
 {
@@ -89,7 +89,7 @@ fn knots_at(work: &[f64], p: Waypoints, a: usize, b: usize, c: usize) -> Three
 
 // The knots around all inner anchors, and how many; all other cells are unchanged.
 fn raw_knots(work: &mut [f64], p: Waypoints) -> usize
-    requires { ⌜ Laid p (length (now work)) × (2 ≤ p .samples) × (p .knots + 3 * p .samples ≤ length (now work) + 6) ⌝ }
+    requires { ⌜ WaypointsLaid p (length (now work)) × (2 ≤ p .samples) × (p .knots + 3 * p .samples ≤ length (now work) + 6) ⌝ }
     ensures { λ r. ⌜ r ≡ length (rawKnots (parametersAt p (now (work .entry))) (pointsAt p (now (work .entry))) (p .axes)) ⌝ }
     ensures { λ _. ⌜ now (work .exit) ≡ written (p .knots) (rawKnots (parametersAt p (now (work .entry))) (pointsAt p (now (work .entry)))
         (p .axes)) (now (work .entry)) ⌝ }

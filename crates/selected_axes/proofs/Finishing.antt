@@ -12,7 +12,7 @@ use Rattle.window.specs.Window.{window}
 use Rattle.window.specs.Cells.{at}
 use Rattle.window.specs.Rows.{listOf, table}
 use Rattle.window.proofs.Joined.{table-ap}
-use Rattle.polynomial.specs.declared.interval.Outcome.{Outcome}
+use Rattle.polynomial.specs.declared.interval.AuditOutcome.{AuditOutcome}
 use Rattle.polynomial.specs.Outcome as audits
 use Rattle.polynomial.specs.Audit.{Audit}
 use Rattle.smoothing.specs.Answer.{Answer, andThen, unless}
@@ -71,7 +71,7 @@ errors-are p w errors b r e h =
 
 -- ---- the answer
 -- x₁ is in physical units, and x₂ is audited
-pub record Audited (p : Plan) (u : Units) (x x₁ x₂ : Memory) (errors : List Float) (number checked : ℕ) (o : Outcome) : Type 0 where
+pub record Audited (p : Plan) (u : Units) (x x₁ x₂ : Memory) (errors : List Float) (number checked : ℕ) (o : AuditOutcome) : Type 0 where
   pub physical : x₁ ≡ physicalIn p u x
   pub number-of : number ≡ audits.numberOf o
   pub outcome : o ≡ auditOver p 0 (p .samples - 1) x₁ .outcome
@@ -79,7 +79,7 @@ pub record Audited (p : Plan) (u : Units) (x x₁ x₂ : Memory) (errors : List 
   pub after : x₂ ≡ withBounds (auditOver p 0 (p .samples - 1) x₁ .bounds) (auditOver p 0 (p .samples - 1) x₁ .witness) x₁
   pub errors-is : take (p .axes) errors ≡ errorsOf (taskIn p x₂) (x₂ .bounds)
 
-module _ {p : Plan} {u : Units} {x x₁ x₂ : Memory} {errors : List Float} {number checked : ℕ} {o : Outcome}
+module _ {p : Plan} {u : Units} {x x₁ x₂ : Memory} {errors : List Float} {number checked : ℕ} {o : AuditOutcome}
     (h : Audited p u x x₁ x₂ errors number checked o) (report : Counts) where
   abbrev A : Audit
   A = auditOver p 0 (p .samples - 1) (physicalIn p u x)

@@ -16,7 +16,7 @@ use Rattle.window.proofs.Parts.{read-seam}
 use Rattle.window.specs.Rows.{written}
 use Rattle.window.proofs.Written.{written-plain}
 use Rattle.fit.specs.Fit.{Fit, Answer}
-use Rattle.polynomial.specs.declared.interval.Outcome.{Outcome}
+use Rattle.polynomial.specs.declared.interval.AuditOutcome.{AuditOutcome}
 use Rattle.polynomial.specs.Outcome as audits
 use Rattle.seed.specs.Knots.{seedOf}
 use Rattle.request.specs.Parameters.{Doubles}
@@ -144,7 +144,7 @@ module _ (p : Plan) (x : Memory) where
   controls-changed x₁ c e = e ∙ ap (λ (l : List Float). withControls l x) (sym (ap (λ (y : Memory). y .c) e))
 
   -- ---- the first audit
-  pub audit-made : (x₁ x₂ : Memory) (number checked : ℕ) (o : Outcome) (report : Counts)
+  pub audit-made : (x₁ x₂ : Memory) (number checked : ℕ) (o : AuditOutcome) (report : Counts)
       → x₁ ≡ withPolynomial (polynomialIn (p .axes) (splineIn p x)) x → number ≡ audits.numberOf o
       → (o ≡ auditOver p 0 (p .samples - 1) x₁ .outcome) × (checked ≡ auditOver p 0 (p .samples - 1) x₁ .checked)
       → x₂ ≡ withBounds (auditOver p 0 (p .samples - 1) x₁ .bounds) (auditOver p 0 (p .samples - 1) x₁ .witness) x₁

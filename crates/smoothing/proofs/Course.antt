@@ -6,8 +6,8 @@ use Prim.Native.Nat.{ℕ, zero, suc, _-_, _≤_, min}
 use native.Mathlib.Omega.{arith}
 use lib.Dec.{ltb, eqb}
 use lib.Ieee.{Float}
-use Rattle.polynomial.specs.declared.interval.Outcome.{Outcome}
-use Rattle.polynomial.specs.declared.interval.Outcome.the-variants.{Done, NotAbove, NotFinite}
+use Rattle.polynomial.specs.declared.interval.AuditOutcome.{AuditOutcome}
+use Rattle.polynomial.specs.declared.interval.AuditOutcome.the-variants.{Done, NotAbove, NotFinite}
 use Rattle.polynomial.specs.Outcome as audits
 use Rattle.polynomial.specs.Audit.{Audit, auditOf}
 use Rattle.fitting_rows.specs.Arrays.{arrays}
@@ -112,7 +112,7 @@ module _ {P : ℕ → Type 0} {E : Type 0} (g : ℕ) (q : Task) (I : ℕ → Sta
       (gives-unless {I = λ s. Unit {0}} (audits.numberOf (a .outcome)) _ (λ e. tt)
       (number (a .outcome) (rest .twelve left from to st (h .0))))
     where
-      number : (o : Outcome) → (audits.numberOf o ≡ 12 → P 12) → eqb (audits.numberOf o) 0 ≡ false → P (audits.numberOf o)
+      number : (o : AuditOutcome) → (audits.numberOf o ≡ 12 → P 12) → eqb (audits.numberOf o) 0 ≡ false → P (audits.numberOf o)
       number Done t e = absurd (true≢false e)
       number NotAbove t e = t refl
       number NotFinite t e = rest .thirteen

@@ -20,7 +20,7 @@ use Rattle.bspline.proofs.InsertPlaced.{span-within}
 use Rattle.sorting.specs.Sort.{placed, sortOf}
 use Rattle.sorting.specs.Thin.{thinned, dedupOf, keptOf}
 use Rattle.request.specs.Parameters.{Doubles}
-use Rattle.seed.specs.Knots.{around, knotsAt, rawKnots, seedOf}
+use Rattle.seed.specs.Knots.{around, anchorKnots, rawKnots, seedOf}
 use Rattle.seed.specs.Anchors.{anchorsOf}
 use Rattle.smoothing.specs.Rows.{Task}
 use Rattle.smoothing.specs.State.{Spline, State}
@@ -70,13 +70,13 @@ module _ (P : Float → Type 0) where
 abbrev pub Held : Float → Type 0
 Held x = T (fits binary64 x)
 
-knots-held : (s y : List Float) (d : ℕ) → Doubles s → (indices : List ℕ) → All Held (knotsAt s y d indices)
-unfolding knotsAt around
+knots-held : (s y : List Float) (d : ℕ) → Doubles s → (indices : List ℕ) → All Held (anchorKnots s y d indices)
+unfolding anchorKnots around
 knots-held s y d D [] = tt
 knots-held s y d D (a ∷ []) = tt
 knots-held s y d D (a ∷ (b ∷ [])) = tt
 knots-held s y d D (a ∷ (b ∷ (c ∷ rest))) =
-    append-all Held (around s y d a b c) (knotsAt s y d (b ∷ (c ∷ rest))) (sub-fits binary64 _ _, (D b, (add-fits binary64 _ _, tt)))
+    append-all Held (around s y d a b c) (anchorKnots s y d (b ∷ (c ∷ rest))) (sub-fits binary64 _ _, (D b, (add-fits binary64 _ _, tt)))
     (knots-held s y d D (b ∷ (c ∷ rest)))
 
 pub seed-held : (s y : List Float) (d : ℕ) → Doubles s → (i : ℕ) → i < length (seedOf s y d) → Held (at (seedOf s y d) i)

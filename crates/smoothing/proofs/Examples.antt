@@ -19,20 +19,20 @@ use Rattle.bspline.specs.Values.{innerTurn, innerLoop, outerTurn, valuesOf}
 use Rattle.normal.specs.Add.{termOf, valueOf, differenceOf, rowOf, active, productOf, productsOf, addBandOf, shareOf, sharesOf, addRightOf, addOf}
 use Rattle.normal.specs.Solve.{unfitOf, anyUnfitOf, rootOf, rootsOf, scaleCellOf, scaleRowOf, divideOf, divideRowOf, scaleBothOf, scaleOf, reduceOf, reducedOf, eliminateOf, eliminatedOf, pivotOf, factorOf, forwardTermOf, forwardValueOf, forwardCellOf, forwardRowOf, forwardOf, backTermOf, backValueOf, backCellOf, backRowOf, backwardOf, unscaleOf, finishOf, solveScaledOf, solveOf}
 use Rattle.fitting_rows.specs.Penalty.{thirdOf, penaltyRowOf, leftOut}
-use Rattle.fitting_rows.specs.Pieces.{intervalOf, lineTurn, lineOf, rowAt, nodeRowOf, passedOver, meshSpan, pieceStart, pieceEnd}
+use Rattle.fitting_rows.specs.Pieces.{waypointInterval, lineTurn, lineOf, rowAt, nodeRowOf, passedOver, meshSpan, pieceStart, pieceEnd}
 use Rattle.fitting_rows.specs.Samples.{denseOf, weightOf, pointOf, sampleRowOf}
 use Rattle.fit.specs.Assembly.{counted, sampleTurn, samplesOf, pieceOf, meshTurn, meshOf, sparseTurn, sparseOf, nodesOf, penaltyTurn, penaltiesOf, assembledOf}
 use Rattle.fit.specs.Fit.{addTurn as addTurn₂, addedTo, solvedOf, fitOf}
 use Rattle.polynomial.specs.Audit.{boundsWith, auditTurn, auditOf}
-use Rattle.polynomial.specs.Interval.{pieceAt, allFinite, largestTurn, axisTurn, axesOf, endedBy, walkTurn, intervalOf as intervalOf₂}
+use Rattle.polynomial.specs.Interval.{pieceAt, allFinite, largestTurn, axisTurn, axesOf, endedBy, walkTurn, intervalOf}
 use Rattle.polynomial.specs.Piece.{addTerm, piecePower, errorOf, addShare, bernsteinOf, bernsteinCoefficients, pieceFrom, errorForm}
 use Rattle.polynomial.specs.Span.{advanced}
 use Rattle.sorting.specs.Sort.{placed, sortOf}
 use Rattle.sorting.specs.Thin.{thinned, distinct, gap, inside, apart, testOf, dedupOf, keptOf}
 use Rattle.seed.specs.Anchors.{fits, scanTurn, anchorsOf}
 use Rattle.seed.specs.Corridor.{axisTurn as axisTurn₂, narrowed}
-use Rattle.seed.specs.Knots.{jumpTurn, jumpOf, widthOf, around, knotsAt, rawKnots, seedOf}
-use Rattle.seed.specs.Regions.{rangeOf, joined, regionsOf}
+use Rattle.seed.specs.Knots.{jumpTurn, jumpOf, widthOf, around, anchorKnots, rawKnots, seedOf}
+use Rattle.seed.specs.Regions.{rangeOf, merged, regionsOf}
 use Rattle.request.specs.Any.{any}
 use Rattle.request.specs.Parameters.{parameterOf, miscounted, lengthOf, normalisedOf, misplaced, unreliable}
 use Rattle.request.specs.Points.{unfit}
@@ -72,13 +72,13 @@ unfolding isNan ofBits toBits add sub mul div le lt eq ne round ofInt neg turns 
     rootsOf scaleCellOf scaleRowOf divideOf divideRowOf scaleBothOf scaleOf reduceOf reducedOf eliminateOf eliminatedOf pivotOf factorOf
     forwardTermOf forwardValueOf forwardCellOf forwardRowOf forwardOf backTermOf backValueOf backCellOf backRowOf backwardOf unscaleOf
     finishOf solveScaledOf solveOf
-    thirdOf penaltyRowOf leftOut intervalOf lineTurn lineOf rowAt nodeRowOf passedOver meshSpan pieceStart pieceEnd denseOf weightOf
+    thirdOf penaltyRowOf leftOut waypointInterval lineTurn lineOf rowAt nodeRowOf passedOver meshSpan pieceStart pieceEnd denseOf weightOf
     pointOf sampleRowOf
     counted sampleTurn samplesOf pieceOf meshTurn meshOf sparseTurn sparseOf nodesOf penaltyTurn penaltiesOf assembledOf addTurn₂ addedTo
     solvedOf fitOf
-    boundsWith auditTurn auditOf pieceAt pieceFrom errorForm allFinite largestTurn axisTurn axesOf endedBy walkTurn intervalOf₂ addTerm piecePower
+    boundsWith auditTurn auditOf pieceAt pieceFrom errorForm allFinite largestTurn axisTurn axesOf endedBy walkTurn intervalOf addTerm piecePower
     errorOf addShare bernsteinOf bernsteinCoefficients advanced placed sortOf thinned distinct gap inside apart testOf dedupOf keptOf
-    fits scanTurn anchorsOf axisTurn₂ narrowed jumpTurn jumpOf widthOf around knotsAt rawKnots seedOf rangeOf joined regionsOf
+    fits scanTurn anchorsOf axisTurn₂ narrowed jumpTurn jumpOf widthOf around anchorKnots rawKnots seedOf rangeOf merged regionsOf
     any parameterOf miscounted lengthOf normalisedOf misplaced unreliable unfit firstOf axesFormed andThen unless numberOf
     selectedOf otherOf resultOf smoothedOf checkedOf answerOf buildOf
     wideLane wideLimits miscountedPoints noAxes badAxes badTolerance overflows refusalOf

@@ -203,27 +203,27 @@ chord-rising q D = go (curved q)
         (seed-rises (q .s) (q .y) (q .k))
     go false = open-rising [] (λ i h. absurd (omega arith)) (λ i h. absurd (omega arith)) (λ i h. absurd (omega arith))
 
-abbrev pub Rises : State → Type 0
-Rises st = Rising (st .b .t) (st .b .m)
+abbrev pub KnotsRising : State → Type 0
+KnotsRising st = Rising (st .b .t) (st .b .m)
 
 -- a fit and an audit keep the knots
-pub keeps-rising : (g : ℕ) (q : Task) → Keeps g q (λ left st. Rises st)
+pub keeps-rising : (g : ℕ) (q : Task) → Keeps g q (λ left st. KnotsRising st)
 unfolding fitted auditIn audited
 keeps-rising g q =
     record {
       fit =
-          λ left a z strength st st′ l r h e. subst (λ (s : State). Rises s)
+          λ left a z strength st st′ l r h e. subst (λ (s : State). KnotsRising s)
           (unless-done (fitIn q a z strength (st .b) .answered .number) _ st′ e .1) h;
       audit =
-          λ left from to st st′ l h e. subst (λ (s : State). Rises s)
+          λ left from to st st′ l h e. subst (λ (s : State). KnotsRising s)
           (unless-done (audits.numberOf (auditAt q from to st .outcome)) _ st′ e .1) h;
       insert = λ left st b t h e. insert-all-rising (q .k) (locationsOf q st) (st .b) b (locations-numbers q st h) h e;
     }
 
 -- after any number of rounds
-pub course-rising : (g left : ℕ) (q : Task) (st : State) → Doubles (q .s) → andThen (startOf g q) (refineOf g left q) ≡ done st → Rises st
+pub course-rising : (g left : ℕ) (q : Task) (st : State) → Doubles (q .s) → andThen (startOf g q) (refineOf g left q) ≡ done st → KnotsRising st
 unfolding chordState
-course-rising g left q st D e = course-keeps g q (λ left st. Rises st) (keeps-rising g q) left st (λ t. chord-rising q D) e .1
+course-rising g left q st D e = course-keeps g q (λ left st. KnotsRising st) (keeps-rising g q) left st (λ t. chord-rising q D) e .1
 
 -- ---- the other axes: a knot at each inner waypoint
 module _ (spacing : Spacing) (list : List Float) (n : ℕ) (two : 2 ≤ n) (doubles : Doubles list) (placed : misplaced spacing list n ≡ false)

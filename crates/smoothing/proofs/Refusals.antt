@@ -12,8 +12,8 @@ use lib.Ieee.Fits.{and-l, and-r}
 use Rattle.request.specs.Parameters.{Doubles, misplaced, unreliable}
 use Rattle.request.specs.Points.{unfit}
 use Rattle.bspline.specs.Segments.{Polynomial, polynomialOf}
-use Rattle.polynomial.specs.declared.interval.Outcome.{Outcome as Ending}
-use Rattle.polynomial.specs.declared.interval.Outcome.the-variants.{Done, NotAbove, NotFinite}
+use Rattle.polynomial.specs.declared.interval.AuditOutcome.{AuditOutcome as Ending}
+use Rattle.polynomial.specs.declared.interval.AuditOutcome.the-variants.{Done, NotAbove, NotFinite}
 use Rattle.polynomial.specs.Outcome as audits
 use Rattle.polynomial.specs.Audit.{Audit, auditOf}
 use Rattle.polynomial.specs.Span.{segments}
@@ -22,7 +22,7 @@ use Rattle.arith.specs.Operations.{floats}
 use Rattle.window.specs.Cells.{at}
 use Rattle.smoothing.specs.Rising.{Rising}
 use Rattle.smoothing.proofs.SegmentsRise.{breaks-count, break-at}
-use Rattle.smoothing.proofs.KnotsRise.{Rises, chord-rising, keeps-rising}
+use Rattle.smoothing.proofs.KnotsRise.{KnotsRising, chord-rising, keeps-rising}
 use Rattle.smoothing.proofs.Passed.{parameters-held, parameters-below}
 use Rattle.normal.specs.Solve.{solveOf}
 use Rattle.normal.proofs.Outcomes.{solve-number}
@@ -202,12 +202,12 @@ module _ (q : Task) (below : (i : ℕ) → lt (floats .one) (at (q .s) i) ≡ fa
   unfolding selectedOf chordState finalPolynomial
   selected-not-12 m u D =
       gives-then (andThen (startOf (m .segments) q) (refineOf (m .segments) (m .refinements) q)) (finishOf q u)
-      (course-gives (m .segments) q (λ left st. Rises st) (keeps-rising (m .segments) q) rests (m .refinements) (λ t. chord-rising q D))
+      (course-gives (m .segments) q (λ left st. KnotsRising st) (keeps-rising (m .segments) q) rests (m .refinements) (λ t. chord-rising q D))
       (λ st h. finish-gives (λ n. n ≡ 12 → ⊥) Unit q u st
       (λ e. absurd (spline-not-12 (st .b) (physicalOf u (q .k) (st .b)) (u .rows) 0 (q .n - 1) (st .bounds) (st .witness) (h .1) e))
       (λ e. omega arith) (λ e. omega arith))
     where
-      rests : Refuses q (λ left st. Rises st) (λ n. n ≡ 12 → ⊥) Unit
+      rests : Refuses q (λ left st. KnotsRising st) (λ n. n ≡ 12 → ⊥) Unit
       rests =
           record {
             eight = λ e. omega arith;

@@ -20,7 +20,7 @@ use Rattle.bspline.specs.Segments.{Polynomial, spanWidth, polynomialOf}
 use Rattle.bspline.proofs.Breaks.{breakTurn, breaks-are, polynomial-room}
 use Rattle.window.proofs.Joined.{list-at, list-length}
 use Rattle.request.proofs.Difference.{difference-above}
-use Rattle.curve.specs.Form.{rises, setFormed}
+use Rattle.curve.specs.Form.{breaksRise, setFormed}
 use Rattle.curve.proofs.Firsts.{first-all, every-all}
 use Rattle.smoothing.specs.Rising.{Rising}
 
@@ -75,7 +75,7 @@ module _ (t : List Float) (m : ℕ) (r : Rising t m) where
           ∙ sym (r .last) ∙ ap (λ (n : ℕ). at t n) l
     ]
 
-    breaks-rise : rises (p .breaks) (m - 5) ≡ true
+    breaks-rise : breaksRise (p .breaks) (m - 5) ≡ true
     breaks-rise =
         every-all (λ i. lt (at (p .breaks) i) (at (p .breaks) (i + 1))) (m - 5)
         (first-all (λ i. not (lt (at (p .breaks) i) (at (p .breaks) (i + 1)))) (m - 5)

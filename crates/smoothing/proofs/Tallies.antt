@@ -15,8 +15,8 @@ use Rattle.seed.proofs.Windows.{regions-few}
 use Rattle.fitting_rows.specs.Arrays.{arrays}
 use Rattle.fit.specs.Fit.{rowsMost}
 use Rattle.fit.proofs.RowCounts.{fit-rows}
-use Rattle.polynomial.specs.declared.interval.Outcome.{Outcome}
-use Rattle.polynomial.specs.declared.interval.Outcome.the-variants.{Done, NotAbove, NotFinite}
+use Rattle.polynomial.specs.declared.interval.AuditOutcome.{AuditOutcome}
+use Rattle.polynomial.specs.declared.interval.AuditOutcome.the-variants.{Done, NotAbove, NotFinite}
 use Rattle.polynomial.specs.Outcome as audits
 use Rattle.polynomial.specs.Audit.{Audit}
 use Rattle.polynomial.proofs.Counts.{audit-counts}
@@ -48,7 +48,7 @@ adds-nothing {r} {i} {st} {st′} e =
     let p : Adds r i st st =
     record { rows = omega arith; intervals = omega arith; same-count = refl } in subst (λ (z : State). Adds r i st z) (done-same e) p
 
-is-done : (o : Outcome) → audits.numberOf o ≡ 0 → o ≡ Done
+is-done : (o : AuditOutcome) → audits.numberOf o ≡ 0 → o ≡ Done
 is-done Done e = refl
 is-done NotAbove e = absurd (omega arith)
 is-done NotFinite e = absurd (omega arith)

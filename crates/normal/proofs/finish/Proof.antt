@@ -2,7 +2,7 @@
 use mathlib.Core.Path.{_≡_, sym, ap, _∙_}
 use borrow.Author.Needs.{needs}
 use Rattle.normal.specs.System.{systemOf}
-use Rattle.normal.specs.Solve.{Outcome, forwardOf, backwardOf, unscaleOf}
+use Rattle.normal.specs.Solve.{SolveOutcome, forwardOf, backwardOf, unscaleOf}
 use Rattle.normal.proofs.Outcomes.{bad-solution, solution}
 use Rattle.normal.proofs.finish.Statement.{statement}
 use Rattle.normal.proofs.finish.Tie as tie
@@ -25,7 +25,7 @@ returns c =
     .before .before .args in
     let f = bad-solution (a .n) (a .d) (systemOf (a .n) (a .d) (a .sys .now)) _ (substituted (c .before))
     (sym (c .before .any-unfit .ensures) ∙ c .if1 .taken) in
-    (sym (ap (λ (o : Outcome). o .number) f), sym (ap (λ (o : Outcome). o .system) f))
+    (sym (ap (λ (o : SolveOutcome). o .number) f), sym (ap (λ (o : SolveOutcome). o .system) f))
 
 returns-2 : tie.Need-returns-2
 returns-2 c =
@@ -33,7 +33,7 @@ returns-2 c =
     .before .before .args in
     let f = solution (a .n) (a .d) (systemOf (a .n) (a .d) (a .sys .now)) _ (substituted (c .before))
     (sym (c .before .any-unfit .ensures) ∙ c .if1 .left) in
-    (sym (ap (λ (o : Outcome). o .number) f), sym (ap (λ (o : Outcome). o .system) f))
+    (sym (ap (λ (o : SolveOutcome). o .number) f), sym (ap (λ (o : SolveOutcome). o .system) f))
 
 pub finish-spec : {M : Type 1} → statement M
 finish-spec =

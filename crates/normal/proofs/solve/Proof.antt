@@ -6,7 +6,7 @@ use borrow.Author.Tests.{not-true, not-false}
 use borrow.Author.Needs.{needs}
 use Rattle.window.specs.Window.{splice}
 use Rattle.normal.specs.System.{systemOf, withBand}
-use Rattle.normal.specs.Solve.{Outcome, solveScaledOf, finishOf, solveOf}
+use Rattle.normal.specs.Solve.{SolveOutcome, solveScaledOf, finishOf, solveOf}
 use Rattle.normal.proofs.Region.{lend-band}
 use Rattle.normal.proofs.Outcomes.{bad-diagonal, diagonal, bad-pivot, pivots}
 use Rattle.normal.proofs.solve.Statement.{statement}
@@ -39,14 +39,14 @@ returns c =
     let a = c .before .before .before .before .before .before .before .before .before .args in
     let f = bad-diagonal (a .n) (a .d) (systemOf (a .n) (a .d) (a .sys .now)) _
     (c .before .before .before .before .before .before .roots .ensures) (sym (c .before .any-unfit .ensures) ∙ c .if1 .taken) in
-    (sym (ap (λ (o : Outcome). o .number) f), sym (ap (λ (o : Outcome). o .system) f))
+    (sym (ap (λ (o : SolveOutcome). o .number) f), sym (ap (λ (o : SolveOutcome). o .system) f))
 
 returns-2 : tie.Need-returns-2
 returns-2 c =
     let k = c .before .before .before in
     let p = k .factor in
     let f = scaled k ∙ bad-pivot _ _ _ _ _ (p .ensures .0) (p .ensures .1) (not-true _ (c .if2 .taken)) in
-    (sym (ap (λ (o : Outcome). o .number) f), factored k ∙ sym (ap (λ (o : Outcome). o .system) f))
+    (sym (ap (λ (o : SolveOutcome). o .number) f), factored k ∙ sym (ap (λ (o : SolveOutcome). o .system) f))
 
 returns-3 : tie.Need-returns-3
 returns-3 c =
@@ -57,7 +57,7 @@ returns-3 c =
     let f = scaled k ∙ pivots _ _ _ _ _ (p .ensures .0) (p .ensures .1) (not-false _ (c .before .before .before .before .if2 .left))
     ∙ ap (finishOf (a .n) (a .d)) (sym (factored k)) in
     let e = c .before .before .finish .ensures in
-    (e .0 ∙ sym (ap (λ (o : Outcome). o .number) f), e .1 ∙ sym (ap (λ (o : Outcome). o .system) f))
+    (e .0 ∙ sym (ap (λ (o : SolveOutcome). o .number) f), e .1 ∙ sym (ap (λ (o : SolveOutcome). o .system) f))
 
 pub solve-spec : {M : Type 1} → statement M
 solve-spec =

@@ -18,7 +18,7 @@ use Rattle.checks.specs.Request.{limitsOf, laneOf}
 use Rattle.building.specs.declared.entry.Run.{Run}
 use Rattle.building.specs.Outcome.{reported, curveAfter, Results, results, resultsAfter}
 use Rattle.building.specs.Computed.{Both, both, selectedAt, otherAt}
-use Rattle.building.specs.Answered.{checkedBoth, planOf, Placed}
+use Rattle.building.specs.Answered.{checkedBoth, planOf, BothPlaced}
 use Rattle.building.proofs.Computing.{ended-done, ended-refused, ended-exhausted}
 use Rattle.building.proofs.Passing.{work-fits}
 use Rattle.building.proofs.Finished.{both-done, both-refused, both-exhausted, both-known, x, report-is, curve-is, results-are}
@@ -66,7 +66,7 @@ module _ (c : tie.After-enum-told) where
   abbrev most : ℕ
   most = max (begun .args .n) (begun .args .limits .segments) + 16
 
-  places : Placed l m r (length after)
+  places : BothPlaced l m r (length after)
   places = run .checked .ensures .places (c .enum-told .given .1)
 
   long : length after ≡ length (begun .args .work .now)

@@ -1,20 +1,20 @@
 -- `pieces::interval` meets its contract: its tests are those of the minimum.
 use native.Mathlib.Omega.{arith}
 use borrow.Author.Needs.{needs}
-use Rattle.fitting_rows.specs.Pieces.{intervalOf}
+use Rattle.fitting_rows.specs.Pieces.{waypointInterval}
 use Rattle.fitting_rows.proofs.pieces.interval.Statement.{statement}
 use Rattle.fitting_rows.proofs.pieces.interval.Tie as tie
 
 returns : tie.Need-returns
-unfolding intervalOf
+unfolding waypointInterval
 returns c = omega arith
 
 returns-2 : tie.Need-returns-2
-unfolding intervalOf
+unfolding waypointInterval
 returns-2 c = omega arith
 
 returns-3 : tie.Need-returns-3
-unfolding intervalOf
+unfolding waypointInterval
 returns-3 c = omega arith
 
 pub interval-spec : {M : Type 1} → statement M

@@ -10,7 +10,7 @@ use lib.Ieee.{Float}
 use Rattle.arith.specs.Loop.{till}
 use Rattle.arith.proofs.Loops.{till-done, till-next, till-stop}
 use Rattle.window.proofs.Windows.{length-window}
-use Rattle.polynomial.specs.declared.interval.Outcome.the-variants.{Done}
+use Rattle.polynomial.specs.declared.interval.AuditOutcome.the-variants.{Done}
 use Rattle.polynomial.specs.Audit.{boundsWith, auditTurn, auditOf}
 use Rattle.polynomial.specs.Placed.{breaksAt, coefficientsAt, parametersAt, pointsAt, boundsAt, witnessAt, auditAt, withBounds}
 use Rattle.polynomial.proofs.Counts.{goes-on, stops}
@@ -26,8 +26,8 @@ Inv-loop work₀ p first last cells₀ k₀ checked₀ i₀ work cells k checked
     × (length cells ≡ length cells₀)
     × ((x : List Float)
     × (z : List Float)
-    × (length x ≡ (p .count - 1) * p .axes)
-    × (length z ≡ p .count - 1)
+    × (length x ≡ (p .samples - 1) * p .axes)
+    × (length z ≡ p .samples - 1)
     × (work ≡ withBounds p x z work₀)
     × (till (auditTurn (breaksAt p work₀) (coefficientsAt p work₀) (parametersAt p work₀) (pointsAt p work₀) (p .axes)) (λ a. a) i last
     (record { bounds = x; witness = z; span = k; checked = checked; outcome = Done })
@@ -47,8 +47,8 @@ loop-holds c =
     let a = c .before .before .before .before .args in
     let p = a .p in
     let w = a .work .now in
-    let x = length-window (p .bounds) (p .bounds + (p .count - 1) * p .axes) w (omega arith) (omega arith) in
-    let z = length-window (p .witness) (p .witness + (p .count - 1)) w (omega arith) (omega arith) in (
+    let x = length-window (p .bounds) (p .bounds + (p .samples - 1) * p .axes) w (omega arith) (omega arith) in
+    let z = length-window (p .witness) (p .witness + (p .samples - 1)) w (omega arith) (omega arith) in (
       omega arith,
       omega arith,
       refl,
@@ -116,8 +116,8 @@ loop-again c =
     ∙ not-false _ (c .before .before .before .before .before .if1 .left) in
     let g : List Float → List Float = λ b. boundsWith (l .i * p .axes) (p .axes) found b in
     let h : List Float → List Float = λ b. set b (l .i) (r .result .witness) in
-    let n : length (g (v .0)) ≡ (p .count - 1) * p .axes = bounds-length (l .i * p .axes) (p .axes) found (v .0) ∙ v .2 in
-    let m : length (h (v .1)) ≡ p .count - 1 = simp length-set (v .3) in
+    let n : length (g (v .0)) ≡ (p .samples - 1) * p .axes = bounds-length (l .i * p .axes) (p .axes) found (v .0) ∙ v .2 in
+    let m : length (h (v .1)) ≡ p .samples - 1 = simp length-set (v .3) in
     let w = bounds-next p (a .work .now) (v .0) (v .1) laid (v .2) (v .3) g h n (v .4) (c .before .before .put .ensures) in (
       omega arith,
       omega arith,

@@ -18,10 +18,10 @@ audit-interval-requires c κs =
     let n = length-window (p .breaks) (p .breaks + p .segments + 1) w (omega arith) (omega arith) in
     let b : length (breaksAt p w) - 1 ≡ p .segments = omega arith in
     let k = length-window (p .coefficients) (p .coefficients + p .segments * (6 * p .axes)) w (omega arith) (omega arith) in
-    let s = length-window (p .parameters) (p .parameters + p .count) w (omega arith) (omega arith) in
-    let y = length-window (p .points) (p .points + p .count * p .axes) w (omega arith) (omega arith) in
+    let s = length-window (p .parameters) (p .parameters + p .samples) w (omega arith) (omega arith) in
+    let y = length-window (p .points) (p .points + p .samples * p .axes) w (omega arith) (omega arith) in
     let e : (length (breaksAt p w) - 1) * (6 * p .axes) ≡ p .segments * (6 * p .axes) = ap (λ (n : ℕ). n * (6 * p .axes)) b in
-    let r = row-end (a .i + 1) (p .count) (p .axes) (p .count * p .axes) (omega arith) (omega arith) in
+    let r = row-end (a .i + 1) (p .samples) (p .axes) (p .samples * p .axes) (omega arith) (omega arith) in
     (omega arith, omega arith, omega arith, omega arith, omega arith)
 
 returns : tie.Need-returns
@@ -31,7 +31,7 @@ returns c =
     let p = a .p in
     let w = a .work .now in
     let n = length-window (p .breaks) (p .breaks + p .segments + 1) w (omega arith) (omega arith) in
-    let cell = window-cell (p .witness) (p .witness + (p .count - 1)) w (a .i) nan (omega arith) in
+    let cell = window-cell (p .witness) (p .witness + (p .samples - 1)) w (a .i) nan (omega arith) in
     (rw cell (c .before .before .audit-interval .ensures .0), omega arith)
 
 pub interval-at-spec : {M : Type 1} → statement M

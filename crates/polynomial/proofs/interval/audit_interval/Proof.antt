@@ -15,7 +15,7 @@ use Rattle.arith.proofs.Rows.{row-end}
 use Rattle.window.specs.Cells.{at, zeros}
 use Rattle.float.specs.Order.{minOf}
 use Rattle.polynomial.specs.declared.piece.Piece.{Piece}
-use Rattle.polynomial.specs.declared.interval.Outcome.the-variants.{Done, NotAbove}
+use Rattle.polynomial.specs.declared.interval.AuditOutcome.the-variants.{Done, NotAbove}
 use Rattle.polynomial.specs.Span.{advanced}
 use Rattle.polynomial.specs.Outcome.{isDone}
 use Rattle.polynomial.specs.Interval.{Found, Interval, found, pieceAt, axesOf, Walk, endedBy, walkTurn, intervalOf}

@@ -14,7 +14,7 @@ use Rattle.window.specs.Cells.{at}
 use Rattle.window.proofs.Windows.{length-window}
 use Rattle.polynomial.specs.declared.piece.Piece.{Piece}
 use Rattle.polynomial.specs.declared.piece.Largest.{Largest}
-use Rattle.polynomial.specs.declared.interval.Outcome.the-variants.{NotFinite}
+use Rattle.polynomial.specs.declared.interval.AuditOutcome.the-variants.{NotFinite}
 use Rattle.polynomial.specs.Interval.{Found, errorsOn, allFinite, largestTurn, powersAt, axisTurn, axesOf}
 use Rattle.polynomial.proofs.interval.axes.Statement.{statement}
 use Rattle.polynomial.proofs.interval.axes.Tie as tie

@@ -4,14 +4,14 @@ use mathlib.Core.Path.{_≡_, refl, sym, ap, _∙_}
 use Prim.Native.Nat.{ℕ, _+_, _-_, _≤_, _<_}
 use native.Mathlib.Omega.{arith}
 use lib.ListN.{length-set, length, getD}
-use Rattle.curve.specs.Places.{positionOf, othersBelow, placeOf}
+use Rattle.curve.specs.Places.{positionOf, othersBelow, axisPlace}
 use Rattle.curve.proofs.Placing.{listed-place, listed-next, other-place, other-next, place-next}
 use Rattle.query.proofs.places.find_places.Statement.{statement}
 use Rattle.query.proofs.places.find_places.Tie as tie
 
 abbrev Inv-loop : tie.InvT-loop
 Inv-loop axes k d at₀ others₀ a₀ at others a = (a ≤ d) × (length at ≡ 16) × (others ≡ othersBelow axes k a) × (others ≤ a)
-    × ((b : ℕ) → b < a → getD at b 0 ≡ placeOf axes k b)
+    × ((b : ℕ) → b < a → getD at b 0 ≡ axisPlace axes k b)
 
 abbrev μ-loop : tie.MeasureT-loop
 μ-loop axes k d at₀ others₀ a₀ at others a = d - a

@@ -4,14 +4,14 @@ use mathlib.Core.Path.{_≡_, sym, _∙_}
 use Prim.Native.Nat.{_-_, _≤_, _<_}
 use native.Mathlib.Omega.{arith}
 use lib.ListN.{length, drop}
-use Rattle.seed.specs.Regions.{range, joined, regionsOf}
+use Rattle.seed.specs.Regions.{range, merged, regionsOf}
 use Rattle.seed.proofs.Joining.{region-opens, region-grows, region-parts, region-ends}
 use Rattle.seed.proofs.regions.next_region.Statement.{statement}
 use Rattle.seed.proofs.regions.next_region.Tie as tie
 
 abbrev Inv-loop : tie.InvT-loop
 Inv-loop t m x from a z₀ i₀ z i =
-    (from < i) × (i ≤ length x) × (joined t m (range a z) (drop i x) ≡ regionsOf t m (drop from x))
+    (from < i) × (i ≤ length x) × (merged t m (range a z) (drop i x) ≡ regionsOf t m (drop from x))
 
 abbrev μ-loop : tie.MeasureT-loop
 μ-loop t m x from a z₀ i₀ z i = length x - i
