@@ -39,11 +39,8 @@ impl Lane {
         if let SmoothingTolerance::PerAxis(list) = &tolerance
             && list.len() != smoothed
         {
-            return Err(format!(
-                "--tolerance has {} numbers for {}",
-                list.len(),
-                crate::counted(smoothed, "smoothed axis").replace("axiss", "axes")
-            ));
+            let (count, axes) = (list.len(), crate::axes(smoothed));
+            return Err(format!("--tolerance has {count} numbers for {axes}"));
         }
         let at = |cells: &[f64], c: usize| cells.get(c).copied().unwrap_or(f64::NAN);
         let points = table.rows.iter();

@@ -126,3 +126,11 @@ fn counted(count: usize, word: &str) -> String {
     let plural = if count == 1 { "" } else { "s" };
     format!("{count} {word}{plural}")
 }
+
+/// A count of axes.
+fn axes(count: usize) -> String {
+    match count {
+        1 => "1 axis".to_string(),
+        count => format!("{count} axes"),
+    }
+}

@@ -62,10 +62,7 @@ impl Margin {
 
 /// The first line: what was read.
 fn input(lane: &Lane) -> String {
-    let axes = match lane.d() {
-        1 => "1 axis".to_string(),
-        d => format!("{d} axes"),
-    };
+    let axes = crate::axes(lane.d());
     let parameters = match &lane.listed {
         Some((name, _)) => format!("parameters from {name}"),
         None => "even parameters".to_string(),
