@@ -1,7 +1,7 @@
 #!/usr/bin/env bash
-# All tests: the layout, the unchanged Rust with the stored lists of its answers, the toolchain's gate, and
-# the examples through the program `lane` that the gate built. The gate's last line, `N passed, 0 failed`,
-# is the last line here too.
+# All tests: the layout, the documents, the unchanged Rust with the stored lists of its answers, the toolchain's
+# gate, the examples through the program `lane` that the gate built, and the library through a program in C and
+# the crate for Rust. The gate's last line, `N passed, 0 failed`, is the last line here too.
 set -euo pipefail
 cd "$(dirname "$0")"
 
@@ -18,6 +18,13 @@ command -v rt > /dev/null || fail "rt, the command of the Rattle toolchain, is n
 
 echo "== layout of the files"
 rt fmt --check || fail "a file is not in the layout: run 'rt fmt'"
+
+echo "== documents: every name that they cite, the layers, the counts"
+docs/check-trace.sh || fail "a document cites what is not there"
+docs/generate.sh --check || fail "a document is not up to date: run docs/generate.sh"
+if command -v python3 > /dev/null; then
+    docs/reached.py --check || fail "the reading order of docs/REVIEW.md is not what the contracts reach"
+fi
 
 echo "== the unchanged Rust, and the stored lists of its answers"
 source=${SMOOTHING_RS:-../shared/docs/src/path/smoothing.rs}
