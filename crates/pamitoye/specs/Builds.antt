@@ -1,8 +1,10 @@
 -- The request that the numbers and slices of a caller in C make, and what a call writes.
-use Prim.Native.Nat.{ℕ}
-use mathlib.Core.Bool.{Bool, cond}
+use Prim.Native.Nat.{ℕ, _+_, _-_, _*_}
+use mathlib.Core.Path.{_≡_}
+use mathlib.Core.Bool.{Bool, true, cond}
 use mathlib.Core.List.{List, [], _∷_}
-use lib.Dec.{eqb}
+use lib.Dec.{eqb, ltb}
+use lib.ListN.{getD, take}
 use lib.Ieee.{Float}
 use Rattle.smoothing.specs.Answer.{Answer, numberOf}
 use Rattle.smoothing.specs.Answer.Answer.{done, refused, exhausted}
@@ -10,10 +12,11 @@ use Rattle.smoothing.specs.Build.{Result}
 use Rattle.checks.specs.Request.{laneOf}
 use Rattle.curve.specs.declared.Curve.{Curve}
 use Rattle.curve.specs.declared.Mode.{Mode}
+use Rattle.curve.specs.Form.{Slices, slices, wellFormed}
 use Rattle.building.specs.declared.Report.{Report}
 use Rattle.building.specs.Outcome.{reported, Results, resultsAfter, workAfter, curveAfter}
 use Rattle.building.specs.Answered.{answerTo}
-use Rattle.pamitoye.specs.Choices.{axesOf, toleranceOf, spacingOf}
+use Rattle.pamitoye.specs.Choices.{axesOf, toleranceOf, spacingOf, curveOf}
 
 -- the request that the numbers and slices make, answered
 abbrev pub requested : ℕ → ℕ → Bool → List ℕ → Bool → Float → List Float → Bool → List Float → List Float → ℕ → ℕ → List Float → Results
@@ -69,3 +72,17 @@ writtenAfter mode d z w =
     written (workAfter z (w .work)) (resultsAfter z (w .results)) (countsAfter (reported z) (w .counts))
     (ratioAfter (reported z) (w .ratio))
     (outlineAfter (numberOf (reported z)) (curveAfter mode d z) (w .curve))
+
+-- the used cells of the results: d axes, of which k are selected, n segments of these and m of the others
+abbrev pub usedCells : ℕ → ℕ → ℕ → ℕ → Results → Slices
+usedCells d k n m s =
+    slices (take (n + 1) (s .breaks)) (take (6 * (n * k)) (s .coefficients)) (take (cond (ltb k d) (m + 1) 0) (s .otherBreaks))
+    (take (6 * (m * (d - k))) (s .otherCoefficients))
+
+-- the curve that a call has written is well formed, in slices of exactly its used cells
+abbrev pub FormedCurve : ℕ → Bool → Written → Type 0
+FormedCurve d clamp w =
+    let c = w .curve in
+    let n = getD (w .counts) 0 0 in
+    let m = getD (w .counts) 1 0 in
+    wellFormed (curveOf d (c .k) (c .axes) (c .start) (c .end) clamp n m) (usedCells d (c .k) n m (w .results)) ≡ true

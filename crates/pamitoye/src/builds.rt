@@ -4,7 +4,7 @@ ghost use mathlib.Core.Path.{_≡_};
 ghost use Rattle.smoothing.specs.Answer.{numberOf};
 ghost use Rattle.building.specs.Outcome.{outcomeOf, reported, results};
 ghost use Rattle.pamitoye.specs.Choices.{modeOf};
-ghost use Rattle.pamitoye.specs.Builds.{requested, countsOf, countsAfter, ratioAfter, outline, outlineAfter, written, writtenAfter};
+ghost use Rattle.pamitoye.specs.Builds.{requested, countsOf, countsAfter, ratioAfter, outline, outlineAfter, written, writtenAfter, FormedCurve};
 use crate::choices;
 use building::Answer;
 use building::Limits;
@@ -59,7 +59,7 @@ fn put_curve(
     }
 }
 
-// The request, built: `building::build`.
+// The request, built: `building::build`. An accepted one's curve is well formed in its used cells.
 #[no_mangle]
 pub extern "C" fn pamitoye_build(
     points: &[f64],
@@ -102,6 +102,9 @@ pub extern "C" fn pamitoye_build(
         (written (now (work .entry)) (results (now (breaks .entry)) (now (coefficients .entry)) (now («other_breaks» .entry))
         (now («other_coefficients» .entry)) (now (errors .entry))) (now (counts .entry)) (now (ratio .entry))
         (outline (now (k .entry)) (now (axes .entry)) (now (start .entry)) (now (end .entry)))) ⌝ }
+    ensures { λ r. ⌜ (r ≡ 0 → FormedCurve d clamp (written (now (work .exit)) (results (now (breaks .exit)) (now (coefficients .exit))
+        (now («other_breaks» .exit)) (now («other_coefficients» .exit)) (now (errors .exit))) (now (counts .exit)) (now (ratio .exit))
+        (outline (now (k .exit)) (now (axes .exit)) (now (start .exit)) (now (end .exit))))) ⌝ }
 {
     let limits = Limits {
         refinements: max_refinements,

@@ -5,14 +5,16 @@ use borrow.Author.Needs.{needs}
 use lib.Ieee.{Float}
 use Rattle.request.specs.declared.parameters.Spacing.{Spacing}
 use Rattle.smoothing.specs.Answer.{Answer, numberOf}
+use Rattle.smoothing.specs.Request.{Lane, Limits}
 use Rattle.smoothing.specs.Build.{Result}
 use Rattle.checks.specs.declared.Axes.{Axes}
 use Rattle.checks.specs.declared.Tolerance.{Tolerance}
 use Rattle.checks.specs.Request.{laneOf}
-use Rattle.building.specs.Outcome.{outcomeOf, reported, Results, results}
+use Rattle.building.specs.Outcome.{outcomeOf, reported, Results, results, lengthsOf}
 use Rattle.building.specs.Answered.{answerTo}
 use Rattle.pamitoye.specs.Choices.{axesOf, toleranceOf, spacingOf}
 use Rattle.pamitoye.specs.Builds.{outline, Written, written, writtenAfter}
+use Rattle.pamitoye.proofs.UsedCells.{formed-curve}
 use Rattle.pamitoye.proofs.Writing.{all-written}
 use Rattle.pamitoye.proofs.builds.pamitoye_build.Statement.{statement}
 use Rattle.pamitoye.proofs.builds.pamitoye_build.Tie as tie
@@ -29,12 +31,20 @@ old s =
     written (a .work .now) (lent s) (a .counts .now) (a .ratio .now)
     (outline (a .k .now) (a .axes .now) (a .start .now) (a .end .now))
 
-abbrev answered : tie.Start → Axes → Tolerance → Spacing → Answer Result
-answered s axes tolerance spacing =
+abbrev limits : tie.Start → Limits
+limits s = record { refinements = s .args .max-refinements; segments = s .args .max-segments }
+
+abbrev asked : tie.Start → Axes → Tolerance → Spacing → Lane
+asked s axes tolerance spacing =
     let a = s .args in
-    answerTo (laneOf (a .d) (a .n) axes (a .axis-list .now) tolerance (a .tolerance-list .now) spacing (a .parameters .now)
-    (a .points .now))
-    (record { refinements = a .max-refinements; segments = a .max-segments }) (a .work .now) (lent s)
+    laneOf (a .d) (a .n) axes (a .axis-list .now) tolerance (a .tolerance-list .now) spacing (a .parameters .now) (a .points .now)
+
+abbrev lane : tie.Start → Lane
+lane s =
+    let a = s .args in asked s (axesOf (a .all)) (toleranceOf (a .uniform) (a .tolerance)) (spacingOf (a .even))
+
+abbrev answered : tie.Start → Axes → Tolerance → Spacing → Answer Result
+answered s axes tolerance spacing = answerTo (asked s axes tolerance spacing) (limits s) (s .args .work .now) (lent s)
 
 returns : tie.Need-returns
 returns c =
@@ -51,13 +61,19 @@ returns c =
     let n = h .number in
     let e : answered s (x .axes-of .result) (t .tolerance-of .result) (p .spacing-of .result)
     ≡ answered s (axesOf (a .all)) (toleranceOf (a .uniform) (a .tolerance)) (spacingOf (a .even)) =
-    λ i. answered s (x .axes-of .ensures i) (t .tolerance-of .ensures i) (p .spacing-of .ensures i) in (
-      n .ensures ∙ ap numberOf (b .ensures .0) ∙ ap (λ (z : Answer Result). numberOf (reported z)) e,
-      all-written (m .mode-of .result) (a .d) _ (outcomeOf (b .result .answer)) (b .result .curve) (n .result) (b .ensures .0)
-          (b .ensures .1 .0)
-          (n .ensures) (old s) (b .ensures .1 .1 .0) (b .ensures .1 .1 .1) (v .put-answer .ensures .0) (v .put-answer .ensures .1)
-          (c .put-curve .ensures)
-          ∙ (λ i. writtenAfter (m .mode-of .ensures i) (a .d) (e i) (old s)),
+    λ i. answered s (x .axes-of .ensures i) (t .tolerance-of .ensures i) (p .spacing-of .ensures i) in
+    let number = n .ensures ∙ ap numberOf (b .ensures .0) ∙ ap (λ (z : Answer Result). numberOf (reported z)) e in
+    let all = all-written (m .mode-of .result) (a .d) _ (outcomeOf (b .result .answer)) (b .result .curve) (n .result) (b .ensures .0)
+    (b .ensures .1 .0)
+    (n .ensures) (old s) (b .ensures .1 .1 .0) (b .ensures .1 .1 .1) (v .put-answer .ensures .0) (v .put-answer .ensures .1)
+    (c .put-curve .ensures)
+    ∙ (λ i. writtenAfter (m .mode-of .ensures i) (a .d) (e i) (old s)) in (
+      number,
+      (
+        all,
+        formed-curve (lane s) (limits s) (x .before .before .before .before .before .before .before .shared-slice-known4 .given)
+            (a .clamp) (lengthsOf (a .work .now) (lent s)) (old s) number all,
+      ),
     )
 
 pub pamitoye-build-spec : {M : Type 1} → statement M
