@@ -442,7 +442,8 @@ pub fn run() {
     let mut random = Random::new(2);
     compare(&mut random);
     println!(
-        "d k segments + others | many, random: ns a query of the port, of the source, ratio | many, rising | single, random | single, formed"
+        "d k segments + others | many, random: ns a query of the port, of the source, ratio | many, rising \
+         | single, random | single, formed"
     );
     for row in ROWS {
         measure(&mut random, row, rounds);
