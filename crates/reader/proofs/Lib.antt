@@ -1,1 +1,4 @@
+-- Laws that the proofs cite.
+
 pub mod Kept
+mod Held

@@ -167,3 +167,44 @@ pub fn ask<'s, 'a>(
     reader.other_span = found.other_span;
     found.answer
 }
+
+// One question to a reader of this curve that keeps these two segments, and the segments that it keeps
+// afterwards: for callers that can't hold a reader. The curve is tested at each call.
+pub fn ask_from<'a>(
+    curve: Curve,
+    breaks: &'a [f64],
+    coefficients: &'a [f64],
+    other_breaks: &'a [f64],
+    other_coefficients: &'a [f64],
+    span: usize,
+    other_span: usize,
+    x: f64,
+    order: usize,
+    q: &mut [f64],
+    dq: &mut [f64],
+    ddq: &mut [f64],
+    dddq: &mut [f64],
+) -> Found
+    ensures { λ r. ⌜ (outcome (numberOf (r .answer)) 0 (outputs (now (q .exit)) (now (dq .exit)) (now (ddq .exit)) (now (dddq .exit)))
+        ≡ evaluateOf curve (slices (now (breaks .entry)) (now (coefficients .entry)) (now («other_breaks» .entry))
+        (now («other_coefficients» .entry))) x order (outputs (now (q .entry)) (now (dq .entry)) (now (ddq .entry))
+        (now (dddq .entry))))
+        × (r .span ≡ keptOf (numberOf (r .answer)) curve (now (breaks .entry)) x span)
+        × (r .«other_span» ≡ keptOf (numberOf (r .answer)) curve (now («other_breaks» .entry)) x «other_span») ⌝ }
+{
+    let mut reader = new(
+        curve,
+        breaks,
+        coefficients,
+        other_breaks,
+        other_coefficients,
+    );
+    reader.span = span;
+    reader.other_span = other_span;
+    let given = ask(&mut reader, x, order, q, dq, ddq, dddq);
+    Found {
+        answer: given,
+        span: reader.span,
+        other_span: reader.other_span,
+    }
+}

@@ -21,31 +21,7 @@ use ghost.Atoms.{Atoms, sem}
 use contract.Lifetimes.{Lfts, Shares, AllOutlive}
 use contract.Monad.{Fun, fact}
 use contract.Running.{givenOf, tables, tablesOf}
-use types.Kit.{
-  Given,
-  Item,
-  ‵,
-  raw,
-  given,
-  some,
-  later,
-  _⊛_,
-  ⋆,
-  _$_,
-  _∵_,
-  !,
-  qed,
-  by,
-  move,
-  keep,
-  drop,
-  use1,
-  use2,
-  use3,
-  split,
-  join,
-  pick,
-}
+use types.Kit.{Given, Item, ‵, raw, given, some, later, _⊛_, ⋆, _$_, _∵_, !, qed, by, move, drop, use1, use3, split, join, pick}
 use types.Kit.{learn, rewrite, fsplit, fsplit3, fjoin, fjoin3, feqL, feqI, suffices, frame, await, done}
 use types.Part.{agg, whole, sub, look-in, store-in}
 use types.Run.{look, init, forget, stop, hop, fld, from, load, addr, of-opd, and-then, no-more, assigns, land, returns, enter, alloc1}
@@ -55,20 +31,19 @@ use sound.WpLaws.{FmC, fmOf, WpFn-mono}
 use denote.RattleType.{RattleType, owns}
 use denote.Memory.{mem, cellAt}
 use denote.Laws.{Is, shows}
-use denote.Plain.{uint-makes, uint-vals, uint-tells}
+use denote.Plain.{uint-vals, uint-tells}
 use denote.Floats.{float-vals, float-tells, float-lawful}
 use denote.Builtin.{f64, usize}
 use denote.Ref.{RefT, NamedLft, MutRef, ptr-vals, mut-tells}
 use denote.Signature.{Slot, plain, namedLft}
 use denote.Slice.{sliceVal, MutSlice, finally, slice-vals, mut-slice-tells, mut-slice-lawful}
-use denote.Steps.{only, opens, closes, owned, peeks, heard, nothing}
+use denote.Steps.{only, opens, closes, peeks, heard, nothing}
 use denote.Enum.Laws as EL
 use denote.Struct.At.{spelled}
 use denote.Struct.Declared.{Declared}
 use denote.Struct.Laws as LL
-use denote.Struct.Rest.{all-own, own-open, own-put}
+use denote.Struct.Rest.{all-own, own-open}
 use denote.Struct.Steps.{spelt}
-use denote.Struct.Values.{Values}
 use denote.Triple.Call.{calls-at}
 use denote.Triple.Clauses.{Lasts, ensured, lasts}
 use denote.Triple.Entry.{Args, Vals, onEntry}
@@ -92,6 +67,7 @@ use Rattle.reader.specs.declared.Reader.{Reader}
 use Rattle.reader.specs.Reading.{Knows, lent}
 use Rattle.reader.proofs.Reader as T
 use Rattle.reader.proofs.Reader.Laws as T′
+use Rattle.reader.proofs.Held.{moved, values, reader-of, again}
 use Rattle.reader.proofs.answer as answer
 use Rattle.reader.proofs.answer.Symbol as answer-def
 use Rattle.reader.proofs.answer.Symbol.{name as #reader·answer}
@@ -174,32 +150,7 @@ module _ {M : Type 1} (𝓤 : URA M) (H : Heap 𝓤) (A : Atoms 𝓤) (W : Given
   abbrev B : RattleType
   B = T.the-row α
 
-  abbrev values : Reader → Values (D .parts)
-  values d = (
-    d .curve,
-    (
-      d .breaks,
-      (d .coefficients, (d .«other_breaks», (d .«other_coefficients», (d .formed, (d .span, (d .«other_span», tt)))))),
-    ),
-  )
-
-  -- the reader with other segments
-  abbrev moved : ℕ → ℕ → Reader
-  moved s t = record {
-    curve = h .curve;
-    breaks = h .breaks;
-    coefficients = h .coefficients;
-    «other_breaks» = h .«other_breaks»;
-    «other_coefficients» = h .«other_coefficients»;
-    formed = h .formed;
-    span = s;
-    «other_span» = t;
-  }
-
   -- machine values
-  abbrev reader-of : Reader → Val
-  reader-of d = LL.val D L d
-
   abbrev slice-of : RefT (List Float) → Val
   slice-of s = sliceVal (s .ptr) (length (s .now))
 
@@ -263,7 +214,7 @@ module _ {M : Type 1} (𝓤 : URA M) (H : Heap 𝓤) (A : Atoms 𝓤) (W : Given
 
   -- what the reader owns, field by field, and what the other parameters own
   abbrev Fields : Fml
-  Fields = all-own (D .parts) L (values h)
+  Fields = all-own (D .parts) L (values α h)
 
   abbrev Others : Fml
   Others = owns (f64 ∷ usize ∷ MutSlice (named 2) κq f64 ∷ MutSlice (named 3) κdq f64
@@ -302,33 +253,23 @@ module _ {M : Type 1} (𝓤 : URA M) (H : Heap 𝓤) (A : Atoms 𝓤) (W : Given
       × (r .span ≡ keptOf (numberOf (r .answer)) (h .curve) (h .breaks .now) x (h .span))
       × (r .«other_span» ≡ keptOf (numberOf (r .answer)) (h .curve) (h .«other_breaks» .now) x (h .«other_span»))
 
-  -- the reader owns the same with other segments
-  again : (s t : ℕ) → s < 2 ^ 64 → t < 2 ^ 64
-      → ent 𝓤 (sem 𝓤 H A (B .own h (reader-of h ∷ []))) (sem 𝓤 H A (B .own (moved s t) (reader-of (moved s t) ∷ [])))
-  again s t fs ft =
-      qed W (‵ (B .own h (reader-of h ∷ [])) ∷ []) ∵ owned ! usize (Is usize) (uint-makes 𝓤 H A W w64) s _ (refl, fs) $
-      move ! (1 ∷ 0 ∷ []) $
-      use2 W (‵ (B .own (moved s (h .«other_span»)) (reader-of (moved s (h .«other_span»)) ∷ []))) (own-put 𝓤 H A W D L 6 (values h) s
-      (reader-of h)) $ owned ! usize (Is usize) (uint-makes 𝓤 H A W w64) t _ (refl, ft) $ move ! (1 ∷ 0 ∷ []) $
-      by ! (own-put 𝓤 H A W D L 7 (values (moved s (h .«other_span»))) t (reader-of (moved s (h .«other_span»))))
-
   exits : (r : Found) (zs : Last) → Said r zs → length (last-q zs) ≡ length (q .now) → length (last-dq zs) ≡ length (dq .now)
       → length (last-ddq zs) ≡ length (ddq .now) → length (last-dddq zs) ≡ length (dddq .now) → ent 𝓤 (⋆ 𝓤 H A (‵ (fobs γ (B .coded .code
-      (moved (r .span)
+      (moved h (r .span)
       (r .«other_span»)))) ∷ ‵ (fbor (κs .0) (Body (mem B) b o γ)) ∷ ‵ (flft (κs .0) (qs .0))
       ∷ ‵ (E.the-row .own (r .answer) (answer-of (r .answer) ∷ [])) ∷ tokens ∷ ‵ (finally f64 (dddq .name) (last-dddq zs)) ∷ ‵
       (finally f64 (ddq .name) (last-ddq zs))
       ∷ ‵ (finally f64 (dq .name) (last-dq zs)) ∷ ‵ (finally f64 (q .name) (last-q zs)) ∷ [])) (Post (answer-of (r .answer)))
   exits r zs e l2 l3 l4 l5 =
-      qed W (‵ (fobs γ (B .coded .code (moved (r .span) (r .«other_span»)))) ∷ ‵ (fbor (κs .0) (Body (mem B) b o γ))
+      qed W (‵ (fobs γ (B .coded .code (moved h (r .span) (r .«other_span»)))) ∷ ‵ (fbor (κs .0) (Body (mem B) b o γ))
       ∷ ‵ (flft (κs .0) (qs .0)) ∷ ‵ (E.the-row .own (r .answer) (answer-of (r .answer) ∷ [])) ∷ tokens ∷ ‵ (finally f64 (dddq .name)
       (last-dddq zs))
       ∷ ‵ (finally f64 (ddq .name) (last-ddq zs)) ∷ ‵ (finally f64 (dq .name) (last-dq zs)) ∷ ‵ (finally f64 (q .name)
       (last-q zs)) ∷ []) ∵
       suffices ! _ (ends-at 𝓤 H A ask.ended stayed (ask.clauses 𝓤 H A at-mem run) W ((κs, qs, bounds, a, vals), tt) (answer-of
       (r .answer))
-      (r .answer) (moved (r .span) (r .«other_span»), (tt, (tt, (last-q zs, (last-dq zs, (last-ddq zs, (last-dddq zs, tt)))))))
-      (tt, (tt, (tt, (l2, (l3, (l4, (l5, tt)))))))) $ says ! (e .0, λ i. moved (e .1 i) (e .2 i)) $
+      (r .answer) (moved h (r .span) (r .«other_span»), (tt, (tt, (last-q zs, (last-dq zs, (last-ddq zs, (last-dddq zs, tt)))))))
+      (tt, (tt, (tt, (l2, (l3, (l4, (l5, tt)))))))) $ says ! (e .0, λ i. moved h (e .1 i) (e .2 i)) $
       move ! (2 ∷ 4 ∷ []) $ join ! $ frame ! $
       -- [obs; the loan; the answer; the last lists of dddq, ddq, dq and q]
       feqI ! (List Val) (vptr b o ∷ []) (vptr b o ∷ []) refl $ fjoin3 ! $ nothing ! $ move ! (3 ∷ 0 ∷ []) $ fjoin ! $
@@ -336,10 +277,10 @@ module _ {M : Type 1} (𝓤 : URA M) (H : Heap 𝓤) (A : Atoms 𝓤) (W : Given
       fjoin ! $ move ! (1 ∷ 0 ∷ []) $ fjoin ! $ frame ! $ done !
 
   -- what whoever holds the reader knows of it: that its fields are of their types
-  typed : Is B h (reader-of h ∷ []) → Holds (hasTy (T′.mir erased) (reader-of h)) × WT (reader-of h)
+  typed : Is B h (reader-of α h ∷ []) → Holds (hasTy (T′.mir erased) (reader-of α h)) × WT (reader-of α h)
   typed g = LL.lawful (T.the-type αᵉ) (T′.the-laws αᵉ) 𝓤 H A W .typed h _ g .0
 
-  typed-curve : Is B h (reader-of h ∷ []) → Holds (hasTy Cu′.mir (LL.val Cu.the-type Cu′.the-laws (h .curve)))
+  typed-curve : Is B h (reader-of α h ∷ []) → Holds (hasTy Cu′.mir (LL.val Cu.the-type Cu′.the-laws (h .curve)))
       × WT (LL.val Cu.the-type Cu′.the-laws (h .curve))
   typed-curve g = LL.lawful Cu.the-type Cu′.the-laws 𝓤 H A W .typed (h .curve) _ (LL.owed D L h _ g .0) .0
 
@@ -374,8 +315,8 @@ module _ {M : Type 1} (𝓤 : URA M) (H : Heap 𝓤) (A : Atoms 𝓤) (W : Given
         -- the loan of the reader is opened
         move ! (51 ∷ []) $ fsplit ! $ fsplit3 ! $ drop ! $ move ! (53 ∷ []) $ split ! $ move ! (2 ∷ 3 ∷ 0 ∷ []) $
         opens ! tt B {h = h} b o (λ vs. spelt ! B (Is B) (shows 𝓤 H A B) (LL.vals D L) (LL.tells D L) fullShare h vs b o $
-        use1 W (‵ (fat fullShare (T′.mir erased) b o (reader-of h))) (W .laws .raw-at fullShare (T′.mir erased) b o (reader-of h)) $
-        move ! (1 ∷ []) $ peeks ! B (Is B) (shows 𝓤 H A B) h (reader-of h ∷ []) (λ g. move ! (1 ∷ 0 ∷ []) $
+        use1 W (‵ (fat fullShare (T′.mir erased) b o (reader-of α h))) (W .laws .raw-at fullShare (T′.mir erased) b o (reader-of α h)) $
+        move ! (1 ∷ []) $ peeks ! B (Is B) (shows 𝓤 H A B) h (reader-of α h ∷ []) (λ g. move ! (1 ∷ 0 ∷ []) $
         -- [the reader's cell; what it owns; the open loan; obs; auth; the tokens; what the others own; _24; …; _1; …; room for _0; …]
         assigns ! (of-opd ! (load ! (from ! (hop ! (look ! 53 refl) (fld ! refl (stop !)))) (look-in ! 0 (sub ! 0 refl (whole !)))))
         (from ! (stop !)) (init ! 37 refl (typed-curve g)) $
@@ -426,9 +367,10 @@ module _ {M : Type 1} (𝓤 : URA M) (H : Heap 𝓤) (A : Atoms 𝓤) (W : Given
               (named 5) κdddq f64 .typed dddq _ kdddq .0 .1,
         )) $
         -- what the reader owns is had twice, and one copy goes to `answer`
-        move ! (1 ∷ []) $ use1 W (‵ (B .own h (reader-of h ∷ [])) ⊛ ‵ (B .own h (reader-of h ∷ [])))
-        (LL.copy D (T′.the-copy α) 𝓤 H A W .twice h (reader-of h ∷ [])) $ split ! $
-        use1 W (given (reader-of h ∷ [] ≡ reader-of h ∷ []) (‵ Fields)) (own-open 𝓤 H A W D L (values h) (reader-of h)) $ learn ! (λ _.
+        move ! (1 ∷ []) $ use1 W (‵ (B .own h (reader-of α h ∷ [])) ⊛ ‵ (B .own h (reader-of α h ∷ [])))
+        (LL.copy D (T′.the-copy α) 𝓤 H A W .twice h (reader-of α h ∷ [])) $ split ! $
+        use1 W (given (reader-of α h ∷ [] ≡ reader-of α h ∷ []) (‵ Fields)) (own-open 𝓤 H A W D L (values α h) (reader-of α h)) $
+        learn ! (λ _.
         move ! (0 ∷ 7 ∷ 6 ∷ []) $ use3 W (raw (Callee 𝓤 H A at-mem run .pre to)) goes $
         -- [what `answer` asks; what the reader owns; its cell; the open loan; obs; auth; _24; …; _1; …; room for _0; …]
         calls-at ! fm (Callee 𝓤 H A at-mem run) known to (and-then ! (load ! (from ! (stop !)) (look ! 36 refl)) (and-then ! (load !
@@ -469,12 +411,13 @@ module _ {M : Type 1} (𝓤 : URA M) (H : Heap 𝓤) (A : Atoms 𝓤) (W : Given
         (init ! 59 refl (EL.lawful E.the-type E′.the-laws 𝓤 H A W tt .typed (r .answer) _
         (LL.owed F.the-type F′.the-laws r _ is .0) .0)) $
         -- the loan is closed at the reader with the segments found
-        move ! (6 ∷ []) $ use1 W (‵ (B .own (moved (r .span) (r .«other_span»)) (reader-of (moved (r .span) (r .«other_span»)) ∷ [])))
-        (again (r .span) (r .«other_span») (LL.owed F.the-type F′.the-laws r _ is .1 .0 .1)
+        move ! (6 ∷ []) $ use1 W (‵ (B .own (moved h (r .span) (r .«other_span»)) (reader-of α (moved h (r .span)
+        (r .«other_span»)) ∷ [])))
+        (again 𝓤 H A W α h (r .span) (r .«other_span») (LL.owed F.the-type F′.the-laws r _ is .1 .0 .1)
         (LL.owed F.the-type F′.the-laws r _ is .1 .1 .0 .1)) $
-        move ! (7 ∷ []) $ use1 W (‵ (cellAt fullShare (B .mir) (reader-of (moved (r .span) (r .«other_span»)) ∷ []) b o))
-        (W .laws .at-raw fullShare (T′.mir erased) b o (reader-of (moved (r .span) (r .«other_span»)))) $
-        move ! (0 ∷ 1 ∷ 8 ∷ 9 ∷ 10 ∷ []) $ closes ! tt B (moved (r .span) (r .«other_span»)) (reader-of (moved (r .span)
+        move ! (7 ∷ []) $ use1 W (‵ (cellAt fullShare (B .mir) (reader-of α (moved h (r .span) (r .«other_span»)) ∷ []) b o))
+        (W .laws .at-raw fullShare (T′.mir erased) b o (reader-of α (moved h (r .span) (r .«other_span»)))) $
+        move ! (0 ∷ 1 ∷ 8 ∷ 9 ∷ 10 ∷ []) $ closes ! tt B (moved h (r .span) (r .«other_span»)) (reader-of α (moved h (r .span)
         (r .«other_span»)) ∷ []) b o $
         returns ! (look ! 57 refl) $
         forget ! 9 refl $ forget ! 11 refl $ forget ! 13 refl $ forget ! 15 refl $ forget ! 17 refl $ forget ! 19 refl $
