@@ -491,7 +491,8 @@ module _ {M : Type 1} (𝓤 : URA M) (H : Heap 𝓤) (A : Atoms 𝓤) (W : Given
         -- the lifetime that was made is ended, and the reader comes back
         move ! (1 ∷ []) $ split ! $ use1 W (‵ (flft (ν ∷ []) (PosShare·right share)) ⊛ ‵ (flft κ (PosShare·right share)))
         (W .lfts .lft-unmeet (ν ∷ []) κ
-        (PosShare·right share)) $ split ! $ move ! (0 ∷ 10 ∷ []) $ use2 W (‵ (flft (ν ∷ []) fullShare)) (apply∗ 𝓤 _ _) $ lft-end ! tt $
+        (PosShare·right share)) $ split ! $ move ! (0 ∷ 10 ∷ []) $ use2 W (‵ (flft (ν ∷ []) fullShare)) (apply∗ 𝓤 (A .lft (ν ∷ [])
+        (PosShare·right share)) (A .lft (ν ∷ []) fullShare)) $ lft-end ! tt $
         use1 W (‵ (fdead (ν ∷ κ))) (W .lfts .dead-incl (ν ∷ κ) (ν ∷ []) (meet-⊑-left (ν ∷ []) κ)) $
         move ! (0 ∷ 9 ∷ 8 ∷ []) $ use3 W (later (‵ (mem B .lies (zs .0) l₁₄ 0))) (ref-back 𝓤 H A W B (ν ∷ κ) γ (zs .0) l₁₄ 0) $
         await ! tt $
