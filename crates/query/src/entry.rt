@@ -218,9 +218,9 @@ fn write_all<'a>(
     )
 }
 
-// The query at x of a curve that is well formed, as `evaluate` has it, with two segments that are tried
-// first, one of each set: whatever numbers they are, the answer is the same. Handed back are the segments
-// of the answer; a refusal hands back the two numbers.
+// The query at x of a curve that is well formed, which is required as by `evaluate_formed`, with two
+// segments that are tried first, one of each set: whatever numbers they are, the answer is the same. Handed
+// back are the segments of the answer; a refusal hands back the two numbers.
 pub fn evaluate_near<'a>(
     curve: Curve,
     breaks: &[f64],
@@ -291,9 +291,9 @@ pub fn evaluate_near<'a>(
     }
 }
 
-// The query at x of a curve that is known to be well formed, as the one of an accepted build is
-// (`accepted-well-formed`): the curve is not tested, so that a query does not take longer the more breaks
-// there are. Hence the `requires`. The answer is that of `evaluate`, and never 24.
+// The query at x of a curve that is known to be well formed, as that of an accepted build is
+// (`accepted-well-formed` in smoothing/proofs/WellFormed). Hence the `requires`: the curve is not tested, so
+// that a query does not take longer the more breaks there are. The answer is that of `evaluate`, never 24.
 pub fn evaluate_formed<'a>(
     curve: Curve,
     breaks: &[f64],

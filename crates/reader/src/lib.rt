@@ -2,9 +2,6 @@
 // last answer, and answers as a single query does. The struct holds references, so the functions over it
 // are thin, and each is proved by a walk of its MIR; the work is done in functions over plain parameters.
 ghost use mathlib.Core.Path.{_≡_};
-ghost use mathlib.Core.Bool.{Bool};
-ghost use Prim.Native.Nat.{ℕ};
-ghost use lib.Ieee.{Float};
 ghost use Rattle.curve.specs.Form.{slices, wellFormed};
 ghost use Rattle.query.specs.Row.{outputs};
 ghost use Rattle.query.specs.Query.{outcome, evaluateOf, numberOf, keptOf};
