@@ -404,8 +404,8 @@ module _ {M : Type 1} (𝓤 : URA M) (H : Heap 𝓤) (A : Atoms 𝓤) (W : Given
         move ! (1 ∷ 2 ∷ []) $ drop ! $ drop ! $ nothing ! $ move ! (2 ∷ 0 ∷ []) $ fjoin ! $ move ! (2 ∷ 0 ∷ []) $ fjoin ! $
         move ! (2 ∷ 0 ∷ []) $ fjoin ! $ move ! (2 ∷ 0 ∷ []) $ fjoin ! $ move ! (2 ∷ 0 ∷ []) $ fjoin ! $
         move ! (58 ∷ []) $ split ! $ move ! (0 ∷ 2 ∷ []) $ use2 W (raw (New 𝓤 H A at-mem run .pre to-new)) goes-new $
-        calls-at ! fm (New 𝓤 H A at-mem run) known-new to-new (and-then ! (load ! (from ! (stop !)) (look ! 55 refl)) (and-then ! (load !
-        (from ! (stop !)) (look ! 53 refl)) (
+        calls-at ! fm (New 𝓤 H A at-mem run) known-new to-new
+        (and-then ! (load ! (from ! (stop !)) (look ! 55 refl)) (and-then ! (load ! (from ! (stop !)) (look ! 53 refl)) (
         and-then ! (load ! (from ! (stop !)) (look ! 51 refl)) (and-then ! (load ! (from ! (stop !)) (look ! 49 refl)) (
         and-then ! (load ! (from ! (stop !)) (look ! 47 refl)) (no-more !)))))) (λ u.
         use1 W (later (some (λ (r : Reader). ((‵ (flft κ share) ⊛ ‵ ftrue) ⊛ ‵ (B .own r (u ∷ [])))
@@ -468,8 +468,8 @@ module _ {M : Type 1} (𝓤 : URA M) (H : Heap 𝓤) (A : Atoms 𝓤) (W : Given
         ⊛ ‵ (flent (ν ∷ κ) (Body (mem B) l₁₄ 0 γ))))) (lends-ref 𝓤 H A W B (named 0) (ν ∷ κ) h₁ l₁₄ 0) $ await ! tt $ pick ! (λ γ.
         split ! $ move ! (4 ∷ 6 ∷ []) $ join ! $ move ! (3 ∷ 0 ∷ []) $ join ! $ move ! (0 ∷ 1 ∷ 5 ∷ []) $
         use3 W (raw (Ask 𝓤 H A at-mem run .pre (to-ask ν l₁₄ γ))) (goes-ask ν l₁₄ γ) $
-        calls-at ! fm (Ask 𝓤 H A at-mem run) known-ask (to-ask ν l₁₄ γ) (and-then ! (load ! (from ! (stop !)) (look ! 24 refl))
-        (and-then ! (load ! (from ! (stop !)) (look ! 41 refl)) (
+        calls-at ! fm (Ask 𝓤 H A at-mem run) known-ask (to-ask ν l₁₄ γ)
+        (and-then ! (load ! (from ! (stop !)) (look ! 24 refl)) (and-then ! (load ! (from ! (stop !)) (look ! 41 refl)) (
         and-then ! (load ! (from ! (stop !)) (look ! 39 refl)) (and-then ! (load ! (from ! (stop !)) (look ! 20 refl)) (
         and-then ! (load ! (from ! (stop !)) (look ! 16 refl)) (and-then ! (load ! (from ! (stop !)) (look ! 12 refl)) (
         and-then ! (load ! (from ! (stop !)) (look ! 8 refl)) (no-more !)))))))) (λ v.
@@ -490,14 +490,14 @@ module _ {M : Type 1} (𝓤 : URA M) (H : Heap 𝓤) (A : Atoms 𝓤) (W : Given
         rewrite ! 0 (λ (vs : List Val). ‵ (E.the-row .own e vs)) (EL.tells E.the-type E′.the-laws e _ is) refl $
         -- the lifetime that was made is ended, and the reader comes back
         move ! (1 ∷ []) $ split ! $ use1 W (‵ (flft (ν ∷ []) (PosShare·right share)) ⊛ ‵ (flft κ (PosShare·right share)))
-        (W .lfts .lft-unmeet (ν ∷ []) κ
-        (PosShare·right share)) $ split ! $ move ! (0 ∷ 10 ∷ []) $ use2 W (‵ (flft (ν ∷ []) fullShare)) (apply∗ 𝓤 (A .lft (ν ∷ [])
-        (PosShare·right share)) (A .lft (ν ∷ []) fullShare)) $ lft-end ! tt $
+        (W .lfts .lft-unmeet (ν ∷ []) κ (PosShare·right share)) $
+        split ! $ move ! (0 ∷ 10 ∷ []) $ use2 W (‵ (flft (ν ∷ []) fullShare))
+        (apply∗ 𝓤 (A .lft (ν ∷ []) (PosShare·right share)) (A .lft (ν ∷ []) fullShare)) $ lft-end ! tt $
         use1 W (‵ (fdead (ν ∷ κ))) (W .lfts .dead-incl (ν ∷ κ) (ν ∷ []) (meet-⊑-left (ν ∷ []) κ)) $
         move ! (0 ∷ 9 ∷ 8 ∷ []) $ use3 W (later (‵ (mem B .lies (zs .0) l₁₄ 0))) (ref-back 𝓤 H A W B (ν ∷ κ) γ (zs .0) l₁₄ 0) $
         await ! tt $
-        use1 W (‵ (fat fullShare (T′.mir erased) l₁₄ 0 (reader-of α (zs .0))) ⊛ ‵ (B .own (zs .0) (reader-of α (zs .0) ∷ []))) (lies-out
-        (zs .0) l₁₄) $ split ! $
+        use1 W (‵ (fat fullShare (T′.mir erased) l₁₄ 0 (reader-of α (zs .0))) ⊛ ‵ (B .own (zs .0) (reader-of α (zs .0) ∷ [])))
+        (lies-out (zs .0) l₁₄) $ split ! $
         move ! (1 ∷ []) $ peeks ! B (Is B) (shows 𝓤 H A B) (zs .0) (reader-of α (zs .0) ∷ []) (λ g.
         drop ! $ move ! (2 ∷ []) $ split ! $ move ! (0 ∷ 3 ∷ []) $ use2 W (‵ (flft κ share)) (W .lfts .lft-join κ share) $
         assigns ! (of-opd ! (load ! (from ! (fld ! refl (stop !))) (look-in ! 2 (sub ! 6 refl (whole !))))) (from ! (stop !))
@@ -513,21 +513,16 @@ module _ {M : Type 1} (𝓤 : URA M) (H : Heap 𝓤) (A : Atoms 𝓤) (W : Given
         forget ! 33 refl $ forget ! 2 refl $ forget ! 36 refl $ forget ! 38 refl $ forget ! 40 refl $ forget ! 42 refl $
         forget ! 44 refl $ forget ! 46 refl $ forget ! 48 refl $ forget ! 50 refl $ forget ! 52 refl $ forget ! 54 refl $
         forget ! 56 refl $ forget ! 58 refl $ forget ! 60 refl $ forget ! 62 refl $
-        move ! (62 ∷ 63 ∷ []) $ free1 ! $ move ! (60 ∷ 61 ∷ []) $ free1 ! $ move ! (58 ∷ 59 ∷ []) $ free1 ! $ move ! (56 ∷ 57 ∷ []) $
-        free1 ! $
-        move ! (54 ∷ 55 ∷ []) $ free1 ! $ move ! (52 ∷ 53 ∷ []) $ free1 ! $ move ! (50 ∷ 51 ∷ []) $ free1 ! $ move ! (48 ∷ 49 ∷ []) $
-        free1 ! $
-        move ! (46 ∷ 47 ∷ []) $ free1 ! $ move ! (44 ∷ 45 ∷ []) $ free1 ! $ move ! (42 ∷ 43 ∷ []) $ free1 ! $ move ! (40 ∷ 41 ∷ []) $
-        free1 ! $
-        move ! (38 ∷ 39 ∷ []) $ free1 ! $ move ! (36 ∷ 37 ∷ []) $ free1 ! $ move ! (2 ∷ 35 ∷ []) $ free1 ! $ move ! (32 ∷ 33 ∷ []) $
-        free1 ! $
-        move ! (30 ∷ 31 ∷ []) $ free1 ! $ move ! (28 ∷ 29 ∷ []) $ free1 ! $ move ! (26 ∷ 27 ∷ []) $ free1 ! $ move ! (24 ∷ 25 ∷ []) $
-        free1 ! $
-        move ! (22 ∷ 23 ∷ []) $ free1 ! $ move ! (20 ∷ 21 ∷ []) $ free1 ! $ move ! (18 ∷ 19 ∷ []) $ free1 ! $ move ! (16 ∷ 17 ∷ []) $
-        free1 ! $
-        move ! (14 ∷ 15 ∷ []) $ free1 ! $ move ! (12 ∷ 13 ∷ []) $ free1 ! $ move ! (10 ∷ 11 ∷ []) $ free1 ! $ move ! (8 ∷ 9 ∷ []) $
-        free1 ! $
-        free0 ! $
+        move ! (62 ∷ 63 ∷ []) $ free1 ! $ move ! (60 ∷ 61 ∷ []) $ free1 ! $ move ! (58 ∷ 59 ∷ []) $ free1 ! $
+        move ! (56 ∷ 57 ∷ []) $ free1 ! $ move ! (54 ∷ 55 ∷ []) $ free1 ! $ move ! (52 ∷ 53 ∷ []) $ free1 ! $
+        move ! (50 ∷ 51 ∷ []) $ free1 ! $ move ! (48 ∷ 49 ∷ []) $ free1 ! $ move ! (46 ∷ 47 ∷ []) $ free1 ! $
+        move ! (44 ∷ 45 ∷ []) $ free1 ! $ move ! (42 ∷ 43 ∷ []) $ free1 ! $ move ! (40 ∷ 41 ∷ []) $ free1 ! $
+        move ! (38 ∷ 39 ∷ []) $ free1 ! $ move ! (36 ∷ 37 ∷ []) $ free1 ! $ move ! (2 ∷ 35 ∷ []) $ free1 ! $
+        move ! (32 ∷ 33 ∷ []) $ free1 ! $ move ! (30 ∷ 31 ∷ []) $ free1 ! $ move ! (28 ∷ 29 ∷ []) $ free1 ! $
+        move ! (26 ∷ 27 ∷ []) $ free1 ! $ move ! (24 ∷ 25 ∷ []) $ free1 ! $ move ! (22 ∷ 23 ∷ []) $ free1 ! $
+        move ! (20 ∷ 21 ∷ []) $ free1 ! $ move ! (18 ∷ 19 ∷ []) $ free1 ! $ move ! (16 ∷ 17 ∷ []) $ free1 ! $
+        move ! (14 ∷ 15 ∷ []) $ free1 ! $ move ! (12 ∷ 13 ∷ []) $ free1 ! $ move ! (10 ∷ 11 ∷ []) $ free1 ! $
+        move ! (8 ∷ 9 ∷ []) $ free1 ! $ free0 ! $
         keep ! (0 ∷ 1 ∷ 2 ∷ 3 ∷ 4 ∷ 5 ∷ 6 ∷ []) $ by ! (exits ν l₁₄ γ e zs f l′ l′′ l′′′ l′′′′ (found-fits (zs .0) g .0) (found-fits
         (zs .0) g .1))))))))))))))))))))))))))))))))))))))))))))))
 
