@@ -1,9 +1,9 @@
 /* Pamitoye: smooths waypoints into a curve, answers queries of it, and certifies how far it strays.
  *
- * The functions are proved: each does what its comment says, for every input, and ends. Their code
- * is crates/pamitoye; the contracts there say the same as equations. `rt staticlib pamitoye` writes
- * the archive target/staticlib/libpamitoye.a, for x86-64 Linux; it needs no other library.
- * examples/c/lane95.c is a whole program.
+ * The functions are proved: each ends, and does what its comment says, for every input that keeps
+ * to what is asked of a caller below. Their code is crates/pamitoye, whose contracts say the same
+ * as equations. `rt staticlib pamitoye` proves it and writes target/staticlib/libpamitoye.a, for
+ * x86-64 Linux, which needs the C library alone. examples/c/lane95.c is a whole program.
  *
  * Answers. A function returns a number: 0, PAMITOYE_DONE, where nothing is refused, otherwise the
  * reason, a case of `enum pamitoye_number`. A refusal leaves no state behind.
@@ -18,7 +18,8 @@
  *   one), and each has been written before, also those lent for work and results (calloc does it).
  *   A bool holds 0 or 1.
  * - What is not const overlaps nothing else that the call is passed; const slices may overlap each
- *   other. During the call no other thread writes a lent cell, or reads one that is not const.
+ *   other, and a slice of length 0 overlaps nothing. During the call no other thread writes a lent
+ *   cell, or reads one that is not const.
  * - The floating-point environment is C's default: rounding to nearest, subnormal numbers kept.
  * - For the two functions whose names end in `_formed`, the curve is well formed.
  * All else may be anything: wrong counts, short slices and NaNs get a number as their answer.
