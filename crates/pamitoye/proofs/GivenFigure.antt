@@ -13,13 +13,13 @@ use Rattle.pamitoye.specs.Certificates.{givenAfter, figureAfter}
 
 -- the number n, what is given, g, and the figure z, where b and x stood before
 pub given-figure : (k : ℕ) (f : Figure) (b : Bool) (x : Float) {n : ℕ} {g : Bool} {z : Float} → n ≡ k
-    → g ≡ givenAfter (outcome k f) b → z ≡ figureAfter (outcome k f) x → n ≡ 0 → g ≡ true → outcome k f ≡ outcome 0 (figure z)
+    → g ≡ givenAfter k f b → z ≡ figureAfter f x → n ≡ 0 → g ≡ true → outcome k f ≡ outcome 0 (figure z)
 given-figure k (figure y) b x number given told fine there = λ i. outcome ((sym number ∙ fine) i) (figure (sym told i))
 given-figure k noFigure b x {n} {g} number given told fine there =
     let e : g ≡ false = rw (eq-eqb k 0 (sym number ∙ fine)) at given in absurd (true≢false (sym there ∙ e))
 
 -- a refusal leaves it as it was
-pub given-kept : (r : Refusal) (b : Bool) → b ≡ givenAfter (outcome (refusalNumber r) noFigure) b
+pub given-kept : (r : Refusal) (b : Bool) → b ≡ givenAfter (refusalNumber r) noFigure b
 given-kept AboveDomain b = refl
 given-kept PointCells b = refl
 given-kept BadPoints b = refl

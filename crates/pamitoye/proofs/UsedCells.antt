@@ -23,8 +23,8 @@ use Rattle.smoothing.proofs.Refusals.{build-in-refused}
 use Rattle.smoothing.proofs.WellFormed.{accepted-well-formed}
 use Rattle.work_slice.specs.Rows.{onto}
 use Rattle.building.specs.Outcome.{reported, Results, resultsAfter, curveAfter}
-use Rattle.pamitoye.specs.Choices.{modeOf}
-use Rattle.pamitoye.specs.Builds.{Written, writtenAfter, usedCells, FormedCurve}
+use Rattle.pamitoye.specs.Choices.{chosenMode}
+use Rattle.pamitoye.specs.Builds.{BuildOutputs, buildOutputsAfter, usedCells, FormedCurve}
 
 -- how many cells the other axes use
 others-used : (d k m : ℕ) (breaks coefficients : List Float) → othersFormed (d - k) m breaks coefficients ≡ true
@@ -65,33 +65,34 @@ front : (v l : List Float) {n : ℕ} → length v ≡ n → take n (onto v l) �
 front v l {n} e = take-at v (drop (length v) l) n e
 
 -- the first cells of the results are the curve's
-used-cells : (clamp : Bool) (d : ℕ) (x : Result) (s : Results) → wellFormed (curveOf (modeOf clamp) d x) (slicesOf x) ≡ true
+used-cells : (clamp : Bool) (d : ℕ) (x : Result) (s : Results) → wellFormed (curveOf (chosenMode clamp) d x) (slicesOf x) ≡ true
     → usedCells d (length (x .axes)) (x .report .segments) (x .report .interpolated) (resultsAfter (done x) s) ≡ slicesOf x
 unfolding curveOf resultsAfter
 used-cells clamp d x s h =
-    let f = formed (curveOf (modeOf clamp) d x) (slicesOf x) h in
+    let f = formed (curveOf (chosenMode clamp) d x) (slicesOf x) h in
     let a = set-sizes (length (x .axes)) (x .report .segments) (x .selected .breaks) (x .selected .coefficients) (f .set-formed) in
     let o = others-used d (length (x .axes)) (x .report .interpolated) (x .other .breaks) (x .other .coefficients) (f .others-formed) in
     λ i. slices (front (x .selected .breaks) (s .breaks) (a .breaks-length) i)
     (front (x .selected .coefficients) (s .coefficients) (a .coefficients-length) i)
     (front (x .other .breaks) (s .otherBreaks) (o .0) i) (front (x .other .coefficients) (s .otherCoefficients) (o .1) i)
 
-module _ (l : Lane) (m : Limits) (doubles : Doubles (l .parameters)) (clamp : Bool) (room : Room) (w : Written) where
+module _ (l : Lane) (m : Limits) (doubles : Doubles (l .parameters)) (clamp : Bool) (room : Room) (w : BuildOutputs) where
   abbrev answer : Answer Result
   answer = buildIn room (record { lane = l; limits = m })
 
   accepted-formed : (y : Answer Result) → answer ≡ y → numberOf (reported y) ≡ 0
-      → FormedCurve (l .d) clamp (writtenAfter (modeOf clamp) (l .d) y w)
+      → FormedCurve (l .d) clamp (buildOutputsAfter (chosenMode clamp) (l .d) y w)
   unfolding reported numberOf curveAfter curveOf
   accepted-formed (done x) e h =
-      let f = accepted-well-formed l m x (modeOf clamp) doubles (accepted-in room (record { lane = l; limits = m }) x e) in
-      ap (λ (s : Slices). wellFormed (curveOf (modeOf clamp) (l .d) x) s) (used-cells clamp (l .d) x (w .results) f) ∙ f
+      let f = accepted-well-formed l m x (chosenMode clamp) doubles (accepted-in room (record { lane = l; limits = m }) x e) in
+      ap (λ (s : Slices). wellFormed (curveOf (chosenMode clamp) (l .d) x) s) (used-cells clamp (l .d) x (w .results) f) ∙ f
   accepted-formed (refused n) e h =
       absurd (omega (arith, h, build-in-refused room (record { lane = l; limits = m }) n e .0))
   accepted-formed (exhausted q) e h = absurd (omega (arith, h))
 
   -- the number n, and all that was written, v
-  pub formed-curve : {n : ℕ} {v : Written} → n ≡ numberOf (reported answer) → v ≡ writtenAfter (modeOf clamp) (l .d) answer w → n ≡ 0
+  pub formed-curve : {n : ℕ} {v : BuildOutputs} → n ≡ numberOf (reported answer)
+      → v ≡ buildOutputsAfter (chosenMode clamp) (l .d) answer w → n ≡ 0
       → FormedCurve (l .d) clamp v
-  formed-curve {n} {v} number written fine =
-      subst (λ (z : Written). FormedCurve (l .d) clamp z) (sym written) (accepted-formed answer refl (sym number ∙ fine))
+  formed-curve {n} {v} number told fine =
+      subst (λ (z : BuildOutputs). FormedCurve (l .d) clamp z) (sym told) (accepted-formed answer refl (sym number ∙ fine))

@@ -16,22 +16,22 @@ use Rattle.curve.specs.Form.{Slices, slices, wellFormed}
 use Rattle.building.specs.declared.Report.{Report}
 use Rattle.building.specs.Outcome.{reported, Results, resultsAfter, workAfter, curveAfter}
 use Rattle.building.specs.Answered.{answerTo}
-use Rattle.pamitoye.specs.Choices.{axesOf, toleranceOf, spacingOf, curveOf}
+use Rattle.pamitoye.specs.Choices.{chosenAxes, chosenTolerance, chosenSpacing, passedCurve}
 
 -- the request that the numbers and slices make, answered
 abbrev pub requested : ℕ → ℕ → Bool → List ℕ → Bool → Float → List Float → Bool → List Float → List Float → ℕ → ℕ → List Float → Results
     → Answer Result
 requested d n all axes uniform tolerance tolerances even parameters points refinements segments work s =
-    answerTo (laneOf d n (axesOf all) axes (toleranceOf uniform tolerance) tolerances (spacingOf even) parameters points)
+    answerTo (laneOf d n (chosenAxes all) axes (chosenTolerance uniform tolerance) tolerances (chosenSpacing even) parameters points)
     (record { refinements = refinements; segments = segments }) work s
 
 -- the report's counts
-abbrev pub countsOf : Report → List ℕ
-countsOf r = r .segments ∷ r .«interpolated_segments» ∷ r .refinements ∷ r .«fitting_rows» ∷ r .«checked_intervals» ∷ []
+abbrev pub reportCounts : Report → List ℕ
+reportCounts r = r .segments ∷ r .«interpolated_segments» ∷ r .refinements ∷ r .«fitting_rows» ∷ r .«checked_intervals» ∷ []
 
 -- they are written where the request is accepted
 abbrev pub countsAfter : Answer Report → List ℕ → List ℕ
-countsAfter (done r) old = countsOf r
+countsAfter (done r) old = reportCounts r
 countsAfter (refused n) old = old
 countsAfter (exhausted x) old = old
 
@@ -56,20 +56,20 @@ abbrev pub outlineAfter : ℕ → Curve → Outline → Outline
 outlineAfter number c old = cond (eqb number 0) (outline (c .k) (c .axes) (c .start) (c .end)) old
 
 -- all that a call writes
-pub record Written : Type 0 where
+pub record BuildOutputs : Type 0 where
   pub work : List Float
   pub results : Results
   pub counts : List ℕ
   pub ratio : Float
   pub curve : Outline
 
-abbrev pub written : List Float → Results → List ℕ → Float → Outline → Written
-written work results counts ratio curve =
+abbrev pub buildOutputs : List Float → Results → List ℕ → Float → Outline → BuildOutputs
+buildOutputs work results counts ratio curve =
     record { work = work; results = results; counts = counts; ratio = ratio; curve = curve }
 
-abbrev pub writtenAfter : Mode → ℕ → Answer Result → Written → Written
-writtenAfter mode d z w =
-    written (workAfter z (w .work)) (resultsAfter z (w .results)) (countsAfter (reported z) (w .counts))
+abbrev pub buildOutputsAfter : Mode → ℕ → Answer Result → BuildOutputs → BuildOutputs
+buildOutputsAfter mode d z w =
+    buildOutputs (workAfter z (w .work)) (resultsAfter z (w .results)) (countsAfter (reported z) (w .counts))
     (ratioAfter (reported z) (w .ratio))
     (outlineAfter (numberOf (reported z)) (curveAfter mode d z) (w .curve))
 
@@ -80,9 +80,9 @@ usedCells d k n m s =
     (take (6 * (m * (d - k))) (s .otherCoefficients))
 
 -- the curve that a call has written is well formed, in slices of exactly its used cells
-abbrev pub FormedCurve : ℕ → Bool → Written → Type 0
+abbrev pub FormedCurve : ℕ → Bool → BuildOutputs → Type 0
 FormedCurve d clamp w =
     let c = w .curve in
     let n = getD (w .counts) 0 0 in
     let m = getD (w .counts) 1 0 in
-    wellFormed (curveOf d (c .k) (c .axes) (c .start) (c .end) clamp n m) (usedCells d (c .k) n m (w .results)) ≡ true
+    wellFormed (passedCurve d (c .k) (c .axes) (c .start) (c .end) clamp n m) (usedCells d (c .k) n m (w .results)) ≡ true

@@ -14,19 +14,19 @@ use Rattle.curve.specs.declared.Mode.{Mode}
 use Rattle.curve.specs.declared.Mode.the-variants.{Error, Clamp}
 
 -- all axes, or those listed; one tolerance, or those listed; even parameters, or those listed
-abbrev pub axesOf : Bool → Axes
-axesOf all = cond all All ListedAxes
+abbrev pub chosenAxes : Bool → Axes
+chosenAxes all = cond all All ListedAxes
 
-abbrev pub toleranceOf : Bool → Float → Tolerance
-toleranceOf uniform x = cond uniform (Uniform x) PerAxis
+abbrev pub chosenTolerance : Bool → Float → Tolerance
+chosenTolerance uniform x = cond uniform (Uniform x) PerAxis
 
-abbrev pub spacingOf : Bool → Spacing
-spacingOf even = cond even Even Listed
+abbrev pub chosenSpacing : Bool → Spacing
+chosenSpacing even = cond even Even Listed
 
 -- mode Clamp, or mode Error
-abbrev pub modeOf : Bool → Mode
-modeOf clamp = cond clamp Clamp Error
+abbrev pub chosenMode : Bool → Mode
+chosenMode clamp = cond clamp Clamp Error
 
-abbrev pub curveOf : ℕ → ℕ → List ℕ → Float → Float → Bool → ℕ → ℕ → Curve
-curveOf d k axes start end clamp segments others =
-    record { d = d; k = k; axes = axes; start = start; end = end; mode = modeOf clamp; segments = segments; «other_segments» = others }
+abbrev pub passedCurve : ℕ → ℕ → List ℕ → Float → Float → Bool → ℕ → ℕ → Curve
+passedCurve d k axes start end clamp segments others =
+    record { d = d; k = k; axes = axes; start = start; end = end; mode = chosenMode clamp; segments = segments; «other_segments» = others }

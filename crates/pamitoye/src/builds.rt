@@ -3,8 +3,9 @@
 ghost use mathlib.Core.Path.{_≡_};
 ghost use Rattle.smoothing.specs.Answer.{numberOf};
 ghost use Rattle.building.specs.Outcome.{outcomeOf, reported, results};
-ghost use Rattle.pamitoye.specs.Choices.{modeOf};
-ghost use Rattle.pamitoye.specs.Builds.{requested, countsOf, countsAfter, ratioAfter, outline, outlineAfter, written, writtenAfter, FormedCurve};
+ghost use Rattle.pamitoye.specs.Choices.{chosenMode};
+ghost use Rattle.pamitoye.specs.Builds.{requested, reportCounts, countsAfter, ratioAfter, outline, outlineAfter};
+ghost use Rattle.pamitoye.specs.Builds.{buildOutputs, buildOutputsAfter, FormedCurve};
 use crate::choices;
 use building::Answer;
 use building::Limits;
@@ -13,7 +14,7 @@ use curve::Curve;
 
 // The report's counts.
 fn put_counts(report: Report, counts: &mut [usize; 5])
-    ensures { λ _. ⌜ now (counts .exit) ≡ countsOf report ⌝ }
+    ensures { λ _. ⌜ now (counts .exit) ≡ reportCounts report ⌝ }
 {
     *counts = [
         report.segments,
@@ -92,17 +93,17 @@ pub extern "C" fn pamitoye_build(
         (now («tolerance_list» .entry)) even (now (parameters .entry)) (now (points .entry)) «max_refinements» «max_segments»
         (now (work .entry)) (results (now (breaks .entry)) (now (coefficients .entry)) (now («other_breaks» .entry))
         (now («other_coefficients» .entry)) (now (errors .entry))))) ⌝ }
-    ensures { λ _. ⌜ written (now (work .exit)) (results (now (breaks .exit)) (now (coefficients .exit)) (now («other_breaks» .exit))
-        (now («other_coefficients» .exit)) (now (errors .exit))) (now (counts .exit)) (now (ratio .exit))
+    ensures { λ _. ⌜ buildOutputs (now (work .exit)) (results (now (breaks .exit)) (now (coefficients .exit))
+        (now («other_breaks» .exit)) (now («other_coefficients» .exit)) (now (errors .exit))) (now (counts .exit)) (now (ratio .exit))
         (outline (now (k .exit)) (now (axes .exit)) (now (start .exit)) (now (end .exit)))
-        ≡ writtenAfter (modeOf clamp) d (requested d n all (now («axis_list» .entry)) uniform tolerance (now («tolerance_list» .entry))
-        even (now (parameters .entry)) (now (points .entry)) «max_refinements» «max_segments» (now (work .entry))
-        (results (now (breaks .entry)) (now (coefficients .entry)) (now («other_breaks» .entry)) (now («other_coefficients» .entry))
-        (now (errors .entry))))
-        (written (now (work .entry)) (results (now (breaks .entry)) (now (coefficients .entry)) (now («other_breaks» .entry))
+        ≡ buildOutputsAfter (chosenMode clamp) d (requested d n all (now («axis_list» .entry)) uniform tolerance
+        (now («tolerance_list» .entry)) even (now (parameters .entry)) (now (points .entry)) «max_refinements» «max_segments»
+        (now (work .entry)) (results (now (breaks .entry)) (now (coefficients .entry)) (now («other_breaks» .entry))
+        (now («other_coefficients» .entry)) (now (errors .entry))))
+        (buildOutputs (now (work .entry)) (results (now (breaks .entry)) (now (coefficients .entry)) (now («other_breaks» .entry))
         (now («other_coefficients» .entry)) (now (errors .entry))) (now (counts .entry)) (now (ratio .entry))
         (outline (now (k .entry)) (now (axes .entry)) (now (start .entry)) (now (end .entry)))) ⌝ }
-    ensures { λ r. ⌜ (r ≡ 0 → FormedCurve d clamp (written (now (work .exit)) (results (now (breaks .exit)) (now (coefficients .exit))
+    ensures { λ r. ⌜ (r ≡ 0 → FormedCurve d clamp (buildOutputs (now (work .exit)) (results (now (breaks .exit)) (now (coefficients .exit))
         (now («other_breaks» .exit)) (now («other_coefficients» .exit)) (now (errors .exit))) (now (counts .exit)) (now (ratio .exit))
         (outline (now (k .exit)) (now (axes .exit)) (now (start .exit)) (now (end .exit))))) ⌝ }
 {

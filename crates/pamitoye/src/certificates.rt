@@ -4,7 +4,7 @@ ghost use mathlib.Core.Bool.{true};
 ghost use Rattle.curve.specs.Form.{slices};
 ghost use Rattle.figure.specs.Certify.{Certified, certifyOf};
 ghost use Rattle.certificate.specs.Outcome.{outcomeOf, refusalNumber};
-ghost use Rattle.pamitoye.specs.Choices.{curveOf, spacingOf};
+ghost use Rattle.pamitoye.specs.Choices.{passedCurve, chosenSpacing};
 ghost use Rattle.pamitoye.specs.Certificates.{givenAfter, figureAfter};
 use crate::choices;
 use crate::curves;
@@ -29,8 +29,8 @@ fn number(refusal: Refusal) -> u64
 // The number of an answer; whether there is a figure, and the figure.
 fn put_figure(answer: Certificate, given: &mut bool, figure: &mut f64) -> u64
     ensures { λ r. ⌜ r ≡ outcomeOf answer .number ⌝ }
-    ensures { λ _. ⌜ now (given .exit) ≡ givenAfter (outcomeOf answer) (now (given .entry)) ⌝ }
-    ensures { λ _. ⌜ now (figure .exit) ≡ figureAfter (outcomeOf answer) (now (figure .entry)) ⌝ }
+    ensures { λ _. ⌜ now (given .exit) ≡ givenAfter (outcomeOf answer .number) (outcomeOf answer .certified) (now (given .entry)) ⌝ }
+    ensures { λ _. ⌜ now (figure .exit) ≡ figureAfter (outcomeOf answer .certified) (now (figure .entry)) ⌝ }
 {
     match answer {
         Certificate::Figure(x) => {
@@ -70,20 +70,20 @@ pub extern "C" fn pamitoye_certify(
     given: &mut bool,
     figure: &mut f64,
 ) -> u64
-    ensures { λ r. ⌜ r ≡ certifyOf (curveOf d k (now (axes .entry)) start end clamp segments «other_segments») (slices
+    ensures { λ r. ⌜ r ≡ certifyOf (passedCurve d k (now (axes .entry)) start end clamp segments «other_segments») (slices
         (now (breaks .entry)) (now (coefficients .entry)) (now («other_breaks» .entry)) (now («other_coefficients» .entry)))
-        (now (points .entry)) n (spacingOf even) (now (parameters .entry)) axis .number ⌝ }
-    ensures { λ _. ⌜ now (given .exit) ≡ givenAfter (certifyOf (curveOf d k (now (axes .entry)) start end clamp segments
+        (now (points .entry)) n (chosenSpacing even) (now (parameters .entry)) axis .number ⌝ }
+    ensures { λ r. ⌜ now (given .exit) ≡ givenAfter r (certifyOf (passedCurve d k (now (axes .entry)) start end clamp segments
         «other_segments») (slices (now (breaks .entry)) (now (coefficients .entry)) (now («other_breaks» .entry))
-        (now («other_coefficients» .entry))) (now (points .entry)) n (spacingOf even) (now (parameters .entry)) axis)
+        (now («other_coefficients» .entry))) (now (points .entry)) n (chosenSpacing even) (now (parameters .entry)) axis .certified)
         (now (given .entry)) ⌝ }
-    ensures { λ _. ⌜ now (figure .exit) ≡ figureAfter (certifyOf (curveOf d k (now (axes .entry)) start end clamp segments
+    ensures { λ _. ⌜ now (figure .exit) ≡ figureAfter (certifyOf (passedCurve d k (now (axes .entry)) start end clamp segments
         «other_segments») (slices (now (breaks .entry)) (now (coefficients .entry)) (now («other_breaks» .entry))
-        (now («other_coefficients» .entry))) (now (points .entry)) n (spacingOf even) (now (parameters .entry)) axis)
+        (now («other_coefficients» .entry))) (now (points .entry)) n (chosenSpacing even) (now (parameters .entry)) axis .certified)
         (now (figure .entry)) ⌝ }
-    ensures { λ r. ⌜ (r ≡ 0 → now (given .exit) ≡ true → Certified (curveOf d k (now (axes .entry)) start end clamp segments
+    ensures { λ r. ⌜ (r ≡ 0 → now (given .exit) ≡ true → Certified (passedCurve d k (now (axes .entry)) start end clamp segments
         «other_segments») (slices (now (breaks .entry)) (now (coefficients .entry)) (now («other_breaks» .entry))
-        (now («other_coefficients» .entry))) (now (points .entry)) n (spacingOf even) (now (parameters .entry)) axis
+        (now («other_coefficients» .entry))) (now (points .entry)) n (chosenSpacing even) (now (parameters .entry)) axis
         (now (figure .exit))) ⌝ }
 {
     let answer = certificate::certify::certify(

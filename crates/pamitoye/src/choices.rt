@@ -1,6 +1,6 @@
 // What a request or a curve chooses: each comes as a bool.
 ghost use mathlib.Core.Path.{_≡_};
-ghost use Rattle.pamitoye.specs.Choices.{axesOf, toleranceOf, spacingOf, modeOf};
+ghost use Rattle.pamitoye.specs.Choices.{chosenAxes, chosenTolerance, chosenSpacing, chosenMode};
 use checks::Axes;
 use checks::Tolerance;
 use curve::Mode;
@@ -8,7 +8,7 @@ use request::parameters::Spacing;
 
 // All axes, or those of a list.
 pub(crate) fn axes_of(all: bool) -> Axes
-    ensures { λ r. ⌜ r ≡ axesOf all ⌝ }
+    ensures { λ r. ⌜ r ≡ chosenAxes all ⌝ }
 {
     if all {
         return Axes::All;
@@ -18,7 +18,7 @@ pub(crate) fn axes_of(all: bool) -> Axes
 
 // One tolerance, or those of a list.
 pub(crate) fn tolerance_of(uniform: bool, x: f64) -> Tolerance
-    ensures { λ r. ⌜ r ≡ toleranceOf uniform x ⌝ }
+    ensures { λ r. ⌜ r ≡ chosenTolerance uniform x ⌝ }
 {
     if uniform {
         return Tolerance::Uniform(x);
@@ -28,7 +28,7 @@ pub(crate) fn tolerance_of(uniform: bool, x: f64) -> Tolerance
 
 // Even parameters, or those of a list.
 pub(crate) fn spacing_of(even: bool) -> Spacing
-    ensures { λ r. ⌜ r ≡ spacingOf even ⌝ }
+    ensures { λ r. ⌜ r ≡ chosenSpacing even ⌝ }
 {
     if even {
         return Spacing::Even;
@@ -38,7 +38,7 @@ pub(crate) fn spacing_of(even: bool) -> Spacing
 
 // What a parameter outside start to end gets.
 pub(crate) fn mode_of(clamp: bool) -> Mode
-    ensures { λ r. ⌜ r ≡ modeOf clamp ⌝ }
+    ensures { λ r. ⌜ r ≡ chosenMode clamp ⌝ }
 {
     if clamp {
         return Mode::Clamp;

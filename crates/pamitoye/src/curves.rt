@@ -1,7 +1,7 @@
 // A curve from the numbers that a caller passes, and whether it is well formed.
 ghost use mathlib.Core.Path.{_≡_};
 ghost use Rattle.curve.specs.Form.{slices, wellFormed};
-ghost use Rattle.pamitoye.specs.Choices.{curveOf};
+ghost use Rattle.pamitoye.specs.Choices.{passedCurve};
 use crate::choices;
 use curve::Curve;
 
@@ -16,7 +16,7 @@ pub(crate) fn curve(
     segments: usize,
     other_segments: usize,
 ) -> Curve
-    ensures { λ r. ⌜ r ≡ curveOf d k (now (axes .entry)) start end clamp segments «other_segments» ⌝ }
+    ensures { λ r. ⌜ r ≡ passedCurve d k (now (axes .entry)) start end clamp segments «other_segments» ⌝ }
 {
     let listed = *axes;
     let mode = choices::mode_of(clamp);
@@ -48,7 +48,7 @@ pub extern "C" fn pamitoye_well_formed(
     other_breaks: &[f64],
     other_coefficients: &[f64],
 ) -> bool
-    ensures { λ r. ⌜ r ≡ wellFormed (curveOf d k (now (axes .entry)) start end clamp segments «other_segments») (slices
+    ensures { λ r. ⌜ r ≡ wellFormed (passedCurve d k (now (axes .entry)) start end clamp segments «other_segments») (slices
         (now (breaks .entry)) (now (coefficients .entry)) (now («other_breaks» .entry)) (now («other_coefficients» .entry))) ⌝ }
 {
     curve::form::well_formed(

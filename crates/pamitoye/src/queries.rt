@@ -4,7 +4,7 @@ ghost use mathlib.Core.Bool.{true};
 ghost use Rattle.curve.specs.Form.{slices, wellFormed};
 ghost use Rattle.query.specs.Row.{outputs};
 ghost use Rattle.query.specs.Query.{evaluateOf, evaluateAllOf, numberOf, numberOfAll, refusedAt};
-ghost use Rattle.pamitoye.specs.Choices.{curveOf};
+ghost use Rattle.pamitoye.specs.Choices.{passedCurve};
 ghost use Rattle.pamitoye.specs.Queries.{placeAfter};
 use crate::curves;
 use query::Answer;
@@ -62,11 +62,11 @@ pub extern "C" fn pamitoye_evaluate<'a>(
     ddq: &mut [f64],
     dddq: &mut [f64],
 ) -> u64
-    ensures { λ r. ⌜ r ≡ evaluateOf (curveOf d k (now (axes .entry)) start end clamp segments «other_segments») (slices
+    ensures { λ r. ⌜ r ≡ evaluateOf (passedCurve d k (now (axes .entry)) start end clamp segments «other_segments») (slices
         (now (breaks .entry)) (now (coefficients .entry)) (now («other_breaks» .entry))
         (now («other_coefficients» .entry))) x order (outputs (now (q .entry)) (now (dq .entry)) (now (ddq .entry))
         (now (dddq .entry))) .number ⌝ }
-    ensures { λ _. ⌜ outputs (now (q .exit)) (now (dq .exit)) (now (ddq .exit)) (now (dddq .exit)) ≡ evaluateOf (curveOf d k
+    ensures { λ _. ⌜ outputs (now (q .exit)) (now (dq .exit)) (now (ddq .exit)) (now (dddq .exit)) ≡ evaluateOf (passedCurve d k
         (now (axes .entry)) start end clamp segments «other_segments») (slices (now (breaks .entry)) (now (coefficients .entry))
         (now («other_breaks» .entry)) (now («other_coefficients» .entry))) x order (outputs (now (q .entry)) (now (dq .entry))
         (now (ddq .entry)) (now (dddq .entry))) .after ⌝ }
@@ -110,14 +110,14 @@ pub extern "C" fn pamitoye_evaluate_all<'a>(
     dddq: &mut [f64],
     refused_at: &mut usize,
 ) -> u64
-    ensures { λ r. ⌜ r ≡ evaluateAllOf (curveOf d k (now (axes .entry)) start end clamp segments «other_segments») (slices
+    ensures { λ r. ⌜ r ≡ evaluateAllOf (passedCurve d k (now (axes .entry)) start end clamp segments «other_segments») (slices
         (now (breaks .entry)) (now (coefficients .entry)) (now («other_breaks» .entry)) (now («other_coefficients» .entry)))
         (now (xs .entry)) order (outputs (now (q .entry)) (now (dq .entry)) (now (ddq .entry)) (now (dddq .entry))) .number ⌝ }
-    ensures { λ _. ⌜ outputs (now (q .exit)) (now (dq .exit)) (now (ddq .exit)) (now (dddq .exit)) ≡ evaluateAllOf (curveOf d k
+    ensures { λ _. ⌜ outputs (now (q .exit)) (now (dq .exit)) (now (ddq .exit)) (now (dddq .exit)) ≡ evaluateAllOf (passedCurve d k
         (now (axes .entry)) start end clamp segments «other_segments») (slices (now (breaks .entry)) (now (coefficients .entry))
         (now («other_breaks» .entry)) (now («other_coefficients» .entry))) (now (xs .entry)) order (outputs (now (q .entry))
         (now (dq .entry)) (now (ddq .entry)) (now (dddq .entry))) .after ⌝ }
-    ensures { λ r. ⌜ now («refused_at» .exit) ≡ placeAfter r (evaluateAllOf (curveOf d k
+    ensures { λ r. ⌜ now («refused_at» .exit) ≡ placeAfter r (evaluateAllOf (passedCurve d k
         (now (axes .entry)) start end clamp segments «other_segments») (slices (now (breaks .entry)) (now (coefficients .entry))
         (now («other_breaks» .entry)) (now («other_coefficients» .entry))) (now (xs .entry)) order (outputs (now (q .entry))
         (now (dq .entry)) (now (ddq .entry)) (now (dddq .entry))) .place) (now («refused_at» .entry)) ⌝ }
@@ -160,13 +160,13 @@ pub extern "C" fn pamitoye_evaluate_formed<'a>(
     ddq: &mut [f64],
     dddq: &mut [f64],
 ) -> u64
-    requires { ⌜ wellFormed (curveOf d k (now axes) start end clamp segments «other_segments») (slices (now breaks) (now coefficients)
+    requires { ⌜ wellFormed (passedCurve d k (now axes) start end clamp segments «other_segments») (slices (now breaks) (now coefficients)
         (now «other_breaks») (now «other_coefficients»)) ≡ true ⌝ }
-    ensures { λ r. ⌜ r ≡ evaluateOf (curveOf d k (now (axes .entry)) start end clamp segments «other_segments») (slices
+    ensures { λ r. ⌜ r ≡ evaluateOf (passedCurve d k (now (axes .entry)) start end clamp segments «other_segments») (slices
         (now (breaks .entry)) (now (coefficients .entry)) (now («other_breaks» .entry))
         (now («other_coefficients» .entry))) x order (outputs (now (q .entry)) (now (dq .entry)) (now (ddq .entry))
         (now (dddq .entry))) .number ⌝ }
-    ensures { λ _. ⌜ outputs (now (q .exit)) (now (dq .exit)) (now (ddq .exit)) (now (dddq .exit)) ≡ evaluateOf (curveOf d k
+    ensures { λ _. ⌜ outputs (now (q .exit)) (now (dq .exit)) (now (ddq .exit)) (now (dddq .exit)) ≡ evaluateOf (passedCurve d k
         (now (axes .entry)) start end clamp segments «other_segments») (slices (now (breaks .entry)) (now (coefficients .entry))
         (now («other_breaks» .entry)) (now («other_coefficients» .entry))) x order (outputs (now (q .entry)) (now (dq .entry))
         (now (ddq .entry)) (now (dddq .entry))) .after ⌝ }
@@ -210,16 +210,16 @@ pub extern "C" fn pamitoye_evaluate_all_formed<'a>(
     dddq: &mut [f64],
     refused_at: &mut usize,
 ) -> u64
-    requires { ⌜ wellFormed (curveOf d k (now axes) start end clamp segments «other_segments») (slices (now breaks) (now coefficients)
+    requires { ⌜ wellFormed (passedCurve d k (now axes) start end clamp segments «other_segments») (slices (now breaks) (now coefficients)
         (now «other_breaks») (now «other_coefficients»)) ≡ true ⌝ }
-    ensures { λ r. ⌜ r ≡ evaluateAllOf (curveOf d k (now (axes .entry)) start end clamp segments «other_segments») (slices
+    ensures { λ r. ⌜ r ≡ evaluateAllOf (passedCurve d k (now (axes .entry)) start end clamp segments «other_segments») (slices
         (now (breaks .entry)) (now (coefficients .entry)) (now («other_breaks» .entry)) (now («other_coefficients» .entry)))
         (now (xs .entry)) order (outputs (now (q .entry)) (now (dq .entry)) (now (ddq .entry)) (now (dddq .entry))) .number ⌝ }
-    ensures { λ _. ⌜ outputs (now (q .exit)) (now (dq .exit)) (now (ddq .exit)) (now (dddq .exit)) ≡ evaluateAllOf (curveOf d k
+    ensures { λ _. ⌜ outputs (now (q .exit)) (now (dq .exit)) (now (ddq .exit)) (now (dddq .exit)) ≡ evaluateAllOf (passedCurve d k
         (now (axes .entry)) start end clamp segments «other_segments») (slices (now (breaks .entry)) (now (coefficients .entry))
         (now («other_breaks» .entry)) (now («other_coefficients» .entry))) (now (xs .entry)) order (outputs (now (q .entry))
         (now (dq .entry)) (now (ddq .entry)) (now (dddq .entry))) .after ⌝ }
-    ensures { λ r. ⌜ now («refused_at» .exit) ≡ placeAfter r (evaluateAllOf (curveOf d k
+    ensures { λ r. ⌜ now («refused_at» .exit) ≡ placeAfter r (evaluateAllOf (passedCurve d k
         (now (axes .entry)) start end clamp segments «other_segments») (slices (now (breaks .entry)) (now (coefficients .entry))
         (now («other_breaks» .entry)) (now («other_coefficients» .entry))) (now (xs .entry)) order (outputs (now (q .entry))
         (now (dq .entry)) (now (ddq .entry)) (now (dddq .entry))) .place) (now («refused_at» .entry)) ⌝ }

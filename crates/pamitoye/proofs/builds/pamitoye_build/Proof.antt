@@ -12,8 +12,8 @@ use Rattle.checks.specs.declared.Tolerance.{Tolerance}
 use Rattle.checks.specs.Request.{laneOf}
 use Rattle.building.specs.Outcome.{outcomeOf, reported, Results, results, lengthsOf}
 use Rattle.building.specs.Answered.{answerTo}
-use Rattle.pamitoye.specs.Choices.{axesOf, toleranceOf, spacingOf}
-use Rattle.pamitoye.specs.Builds.{outline, Written, written, writtenAfter}
+use Rattle.pamitoye.specs.Choices.{chosenAxes, chosenTolerance, chosenSpacing}
+use Rattle.pamitoye.specs.Builds.{outline, BuildOutputs, buildOutputs, buildOutputsAfter}
 use Rattle.pamitoye.proofs.UsedCells.{formed-curve}
 use Rattle.pamitoye.proofs.Writing.{all-written}
 use Rattle.pamitoye.proofs.builds.pamitoye_build.Statement.{statement}
@@ -25,10 +25,10 @@ lent s =
     results (a .breaks .now) (a .coefficients .now) (a .other-breaks .now) (a .other-coefficients .now) (a .errors .now)
 
 -- all that is written, as it was
-abbrev old : tie.Start → Written
+abbrev old : tie.Start → BuildOutputs
 old s =
     let a = s .args in
-    written (a .work .now) (lent s) (a .counts .now) (a .ratio .now)
+    buildOutputs (a .work .now) (lent s) (a .counts .now) (a .ratio .now)
     (outline (a .k .now) (a .axes .now) (a .start .now) (a .end .now))
 
 abbrev limits : tie.Start → Limits
@@ -41,7 +41,7 @@ asked s axes tolerance spacing =
 
 abbrev lane : tie.Start → Lane
 lane s =
-    let a = s .args in asked s (axesOf (a .all)) (toleranceOf (a .uniform) (a .tolerance)) (spacingOf (a .even))
+    let a = s .args in asked s (chosenAxes (a .all)) (chosenTolerance (a .uniform) (a .tolerance)) (chosenSpacing (a .even))
 
 abbrev answered : tie.Start → Axes → Tolerance → Spacing → Answer Result
 answered s axes tolerance spacing = answerTo (asked s axes tolerance spacing) (limits s) (s .args .work .now) (lent s)
@@ -60,14 +60,14 @@ returns c =
     let b = g .build in
     let n = h .number in
     let e : answered s (x .axes-of .result) (t .tolerance-of .result) (p .spacing-of .result)
-    ≡ answered s (axesOf (a .all)) (toleranceOf (a .uniform) (a .tolerance)) (spacingOf (a .even)) =
+    ≡ answered s (chosenAxes (a .all)) (chosenTolerance (a .uniform) (a .tolerance)) (chosenSpacing (a .even)) =
     λ i. answered s (x .axes-of .ensures i) (t .tolerance-of .ensures i) (p .spacing-of .ensures i) in
     let number = n .ensures ∙ ap numberOf (b .ensures .0) ∙ ap (λ (z : Answer Result). numberOf (reported z)) e in
     let all = all-written (m .mode-of .result) (a .d) _ (outcomeOf (b .result .answer)) (b .result .curve) (n .result) (b .ensures .0)
     (b .ensures .1 .0)
     (n .ensures) (old s) (b .ensures .1 .1 .0) (b .ensures .1 .1 .1) (v .put-answer .ensures .0) (v .put-answer .ensures .1)
     (c .put-curve .ensures)
-    ∙ (λ i. writtenAfter (m .mode-of .ensures i) (a .d) (e i) (old s)) in (
+    ∙ (λ i. buildOutputsAfter (m .mode-of .ensures i) (a .d) (e i) (old s)) in (
       number,
       (
         all,

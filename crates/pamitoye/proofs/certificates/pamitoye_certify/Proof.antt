@@ -1,7 +1,6 @@
 -- `certificates::pamitoye_certify` meets its contract.
-use mathlib.Core.Path.{ap, _∙_}
+use mathlib.Core.Path.{sym, _∙_}
 use borrow.Author.Needs.{needs}
-use Rattle.figure.specs.Certify.{CertificateOutcome}
 use Rattle.certificate.specs.Outcome.{outcomeOf}
 use Rattle.pamitoye.specs.Certificates.{givenAfter, figureAfter}
 use Rattle.pamitoye.proofs.GivenFigure.{given-figure}
@@ -17,9 +16,9 @@ returns c =
     let a = k .before .before .before .before .before .before .before .args in
     let o = outcomeOf (y .certify .result) in
     let e = y .certify .ensures in
-    let number = f .0 ∙ ap (λ (o : CertificateOutcome). o .number) (e .0) in
-    let given = f .1 .0 ∙ ap (λ (o : CertificateOutcome). givenAfter o (a .given .now)) (e .0) in
-    let figure = f .1 .1 ∙ ap (λ (o : CertificateOutcome). figureAfter o (a .figure .now)) (e .0) in
+    let number = f .0 ∙ (λ i. e .0 i .number) in
+    let given = f .1 .0 ∙ (λ i. givenAfter (sym (f .0) i) (e .0 i .certified) (a .given .now)) in
+    let figure = f .1 .1 ∙ (λ i. figureAfter (e .0 i .certified) (a .figure .now)) in
     rw (← k .curve .ensures, ← s .spacing-of .ensures) (
       number,
       (
