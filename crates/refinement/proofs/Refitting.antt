@@ -78,28 +78,11 @@ not-done : (s : State) (number : ℕ) → eqb number 0 ≡ false → unless numb
 unfolding unless
 not-done s number b = rw b
 
-module _ (p : Plan) (x : Memory) (a z : ℕ) (strength : Float) (report : Counts) (es : strength ≡ strengthOf (report .refinements)) where
+module _ (p : Plan) (x : Memory) (a z : ℕ) (strength : Float) where
   abbrev g : Float → Fit
   g v = fitIn (taskIn p x) a z v (splineIn p x)
 
-  pub refit-refuses : (s : State) (number : ℕ) → eqb number 0 ≡ false → answer number 0 0 0 ≡ g strength .answered
-      → unless number s ≡ refitOf (taskIn p x) (range a z) (stateIn p report x)
-  refit-refuses s number b e =
-      not-done s number b
-      ∙ sym (refit-refused (taskIn p x) a z (stateIn p report x) number b (e ∙ ap (λ (v : Float). g v .answered) es))
-
   module _ (x₁ : Memory) (e₁ : x₁ ≡ withControls (g strength .controls) x) where
-    pub refit-follows : (x₂ : Memory) (first last rows number : ℕ) (report′ : Counts) → answer 0 first last rows ≡ g strength .answered
-        → unless number (stateIn p report′ x₂)
-        ≡ auditIn (taskIn p x₁) (first - 1) (min last (p .samples - 1)) (stateIn p (addRows rows report) x₁)
-        → unless number (stateIn p report′ x₂) ≡ refitOf (taskIn p x) (range a z) (stateIn p report x)
-    refit-follows x₂ first last rows number report′ e h =
-        h
-        ∙ ap (λ (y : Memory). auditIn (taskIn p y) (first - 1) (min last (p .samples - 1)) (stateIn p (addRows rows report) y)) e₁
-        ∙ ap (λ (v : Float). auditIn (taskIn p x) (first - 1) (min last (p .samples - 1))
-        (stateIn p (addRows rows report) (withControls (g v .controls) x))) es
-        ∙ sym (refit-done (taskIn p x) a z (stateIn p report x) first last rows (e ∙ ap (λ (v : Float). g v .answered) es))
-
     pub refit-same : (x₂ : Memory) → Same x₁ x₂ → Same x x₂
     refit-same x₂ s =
         let k = subst (λ (y : Memory). Same y x₂) e₁ s in
@@ -111,6 +94,25 @@ module _ (p : Plan) (x : Memory) (a z : ℕ) (strength : Float) (report : Counts
 
     pub fitted-stale : a ≤ z → Stored p x → Stale p a z x₁
     fitted-stale az s = subst (Stale p a z) (sym e₁) (fit-stale p a z strength x az s)
+
+  module _ (report : Counts) (es : strength ≡ strengthOf (report .refinements)) where
+    pub refit-refuses : (s : State) (number : ℕ) → eqb number 0 ≡ false → answer number 0 0 0 ≡ g strength .answered
+        → unless number s ≡ refitOf (taskIn p x) (range a z) (stateIn p report x)
+    refit-refuses s number b e =
+        not-done s number b
+        ∙ sym (refit-refused (taskIn p x) a z (stateIn p report x) number b (e ∙ ap (λ (v : Float). g v .answered) es))
+
+    pub refit-follows : (x₁ : Memory) → x₁ ≡ withControls (g strength .controls) x
+        → (x₂ : Memory) (first last rows number : ℕ) (report′ : Counts) → answer 0 first last rows ≡ g strength .answered
+        → unless number (stateIn p report′ x₂)
+        ≡ auditIn (taskIn p x₁) (first - 1) (min last (p .samples - 1)) (stateIn p (addRows rows report) x₁)
+        → unless number (stateIn p report′ x₂) ≡ refitOf (taskIn p x) (range a z) (stateIn p report x)
+    refit-follows x₁ e₁ x₂ first last rows number report′ e h =
+        h
+        ∙ ap (λ (y : Memory). auditIn (taskIn p y) (first - 1) (min last (p .samples - 1)) (stateIn p (addRows rows report) y)) e₁
+        ∙ ap (λ (v : Float). auditIn (taskIn p x) (first - 1) (min last (p .samples - 1))
+        (stateIn p (addRows rows report) (withControls (g v .controls) x))) es
+        ∙ sym (refit-done (taskIn p x) a z (stateIn p report x) first last rows (e ∙ ap (λ (v : Float). g v .answered) es))
 
 -- ---- the counts
 pub more-none : (n : ℕ) (r : Report) → More n r r

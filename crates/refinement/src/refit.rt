@@ -5,15 +5,12 @@ ghost use Prim.Native.Nat.{_+_, _-_, _≤_, _<_, max, min};
 ghost use lib.ListN.{length};
 ghost use Rattle.fit.specs.Fit.{answerOf};
 ghost use Rattle.polynomial.specs.Outcome.{numberOf};
-ghost use Rattle.seed.specs.Regions.{range};
-ghost use Rattle.smoothing.specs.Answer.{unless};
-ghost use Rattle.smoothing.specs.State.{addRows, fitIn, polynomialIn, auditIn};
-ghost use Rattle.smoothing.specs.Round.{strengthOf, refitOf};
+ghost use Rattle.smoothing.specs.State.{fitIn, polynomialIn};
+ghost use Rattle.smoothing.specs.Round.{strengthOf};
 ghost use Rattle.refinement.specs.Memory.{Roomy, Wide, memoryAt, withControls, withCoefficients, withBounds, taskAt, splineAt};
-ghost use Rattle.refinement.specs.Memory.{stateAt, Stored};
+ghost use Rattle.refinement.specs.Memory.{Stored};
 ghost use Rattle.refinement.specs.Kept.{Stale};
-ghost use Rattle.refinement.specs.Refit.{Same, auditOver, More, Spare};
-ghost use Rattle.running_report.specs.Counted.{countsOf};
+ghost use Rattle.refinement.specs.Refit.{Same, auditOver, Spare, Refittable, Audits, Refits, AfterRefit};
 use crate::plan::Plan;
 use fit::Counts;
 use fit::Fitted;
@@ -22,6 +19,13 @@ use polynomial::audit::Audited;
 use polynomial::audit::Parts;
 use polynomial::interval::AuditOutcome;
 use running_report::Report;
+
+// What a refit did: document 01's number of the refusal, or 0; its rows, and its audited intervals.
+pub struct Refitted {
+    pub number: usize,
+    pub rows: usize,
+    pub checked: usize,
+}
 
 // How a refit ended: document 01's number of the refusal, or 0, and the report then.
 pub struct Ended {
@@ -127,17 +131,16 @@ pub fn audit_in(work: &mut [f64], p: Plan, first: usize, last: usize) -> Audited
     polynomial::audit::audit(work, parts, first, last)
 }
 
-// What follows a fit of [a, z): its rows are counted, the segments made anew, and the intervals audited from
-// `first.saturating_sub(1)` up to `last.min(n - 1)`.
-fn follow(work: &mut [f64], p: Plan, a: usize, z: usize, fitted: Counts, report: Report) -> Ended
+// What follows a fit of [a, z): the segments are made anew, and the intervals audited from `first.saturating_sub(1)` up to
+// `last.min(n - 1)`.
+fn follow(work: &mut [f64], p: Plan, a: usize, z: usize, fitted: Counts) -> Refitted
     requires { ⌜ Roomy p (length (now work)) × (a ≤ z) × (z ≤ p .count)
         × Wide (memoryAt p (now work) .t) (p .count) × Stale p a z (memoryAt p (now work)) ⌝ }
-    requires { ⌜ (fitted .first ≤ p .samples) × (fitted .rows ≤ 4294967296) × Spare 1 report ⌝ }
-    ensures { λ r. ⌜ unless (r .number) (stateAt p (countsOf (r .report)) (now (work .exit)))
-        ≡ auditIn (taskAt p (now (work .entry))) (fitted .first - 1) (min (fitted .last) (p .samples - 1))
-        (stateAt p (addRows (fitted .rows) (countsOf report)) (now (work .entry))) ⌝ }
+    requires { ⌜ fitted .first ≤ p .samples ⌝ }
+    ensures { λ r. ⌜ Audits p (fitted .first - 1) (min (fitted .last) (p .samples - 1)) (now (work .entry)) (now (work .exit))
+        (r .number) (r .checked) ⌝ }
     ensures { λ r. ⌜ Stored p (memoryAt p (now (work .exit))) × Same (memoryAt p (now (work .entry))) (memoryAt p (now (work .exit))) ⌝ }
-    ensures { λ r. ⌜ (r .report .refinements ≡ report .refinements) × More 1 report (r .report) ⌝ }
+    ensures { λ r. ⌜ (r .rows ≡ fitted .rows) × (r .checked ≤ 20016) ⌝ }
 {
     refresh(work, p, a, z);
     let left = down(fitted.first, 1);
@@ -145,31 +148,73 @@ fn follow(work: &mut [f64], p: Plan, a: usize, z: usize, fitted: Counts, report:
     let audited = audit_in(work, p, left, right);
     let outcome = audited.outcome;
     let number = number_of(outcome);
-    let with_rows = running_report::after_fit(report, fitted.rows);
-    let more = running_report::after_audit(with_rows, audited.checked);
-    Ended {
+    Refitted {
         number,
-        report: more,
+        rows: fitted.rows,
+        checked: audited.checked,
     }
 }
 
-// The source's turn for one region: the controls [a, z) fitted anew, 9, 10, 11, and the intervals that they reach
-// audited, 12, 13.
-pub fn refit(work: &mut [f64], p: Plan, a: usize, z: usize, strength: f64, report: Report) -> Ended
-    requires { ⌜ Roomy p (length (now work)) × (a ≤ z) × (z ≤ p .count)
-        × Wide (memoryAt p (now work) .t) (p .count) × Stored p (memoryAt p (now work)) ⌝ }
-    requires { ⌜ (strength ≡ strengthOf (report .refinements)) × Spare 1 report ⌝ }
-    ensures { λ r. ⌜ unless (r .number) (stateAt p (countsOf (r .report)) (now (work .exit)))
-        ≡ refitOf (taskAt p (now (work .entry))) (range a z) (stateAt p (countsOf report) (now (work .entry))) ⌝ }
-    ensures { λ r. ⌜ (r .number ≡ 0 → Stored p (memoryAt p (now (work .exit)))
-        × Same (memoryAt p (now (work .entry))) (memoryAt p (now (work .exit)))) ⌝ }
-    ensures { λ r. ⌜ (r .report .refinements ≡ report .refinements) × More 1 report (r .report) ⌝ }
+// The controls [a, z) fitted anew, 9, 10, 11, and the intervals that they reach audited, 12, 13.
+fn refit_work(work: &mut [f64], p: Plan, a: usize, z: usize, strength: f64) -> Refitted
+    requires { ⌜ Refittable p a z (now work) ⌝ }
+    ensures { λ r. ⌜ Refits p a z strength (now (work .entry)) (now (work .exit)) r ⌝ }
 {
     let fitted = fit_in(work, p, a, z, strength);
     match fitted {
-        Fitted::Done(counts) => follow(work, p, a, z, counts, report),
-        Fitted::BadDiagonal => Ended { number: 9, report },
-        Fitted::BadPivot => Ended { number: 10, report },
-        Fitted::BadSolution => Ended { number: 11, report },
+        Fitted::Done(counts) => follow(work, p, a, z, counts),
+        Fitted::BadDiagonal => Refitted {
+            number: 9,
+            rows: 0,
+            checked: 0,
+        },
+        Fitted::BadPivot => Refitted {
+            number: 10,
+            rows: 0,
+            checked: 0,
+        },
+        Fitted::BadSolution => Refitted {
+            number: 11,
+            rows: 0,
+            checked: 0,
+        },
+    }
+}
+
+// The source's turn for one region, which adds its rows and its intervals to the running report. Gives document 01's number.
+pub fn refit(
+    work: &mut [f64],
+    p: Plan,
+    a: usize,
+    z: usize,
+    strength: f64,
+    report: &mut Report,
+) -> usize
+    requires { ⌜ Refittable p a z (now work) × (strength ≡ strengthOf (now report .refinements)) × Spare 1 (now report) ⌝ }
+    ensures { λ r. ⌜ AfterRefit p a z (now (work .entry)) (now (work .exit)) (now (report .entry)) (now (report .exit)) r ⌝ }
+{
+    let done = refit_work(work, p, a, z, strength);
+    running_report::add_rows(report, done.rows);
+    running_report::add_intervals(report, done.checked);
+    done.number
+}
+
+// The same for a report that is held by value: it is lent to the turn.
+pub fn refit_lent(
+    work: &mut [f64],
+    p: Plan,
+    a: usize,
+    z: usize,
+    strength: f64,
+    report: Report,
+) -> Ended
+    requires { ⌜ Refittable p a z (now work) × (strength ≡ strengthOf (report .refinements)) × Spare 1 report ⌝ }
+    ensures { λ r. ⌜ AfterRefit p a z (now (work .entry)) (now (work .exit)) report (r .report) (r .number) ⌝ }
+{
+    let mut running = report;
+    let number = refit(work, p, a, z, strength, &mut running);
+    Ended {
+        number,
+        report: running,
     }
 }

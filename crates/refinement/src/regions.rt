@@ -55,7 +55,7 @@ fn region_turn(
     ensures { λ r. ⌜ (r .report .refinements ≡ report .refinements) × More 1 report (r .report) × (from < r .next) × (r .next ≤ count) ⌝ }
 {
     let r = region_at(work, p, count, from);
-    let e = crate::refit::refit(work, p, r.a, r.z, strength, report);
+    let e = crate::refit::refit_lent(work, p, r.a, r.z, strength, report);
     let number = e.number;
     let more = e.report;
     Turn {

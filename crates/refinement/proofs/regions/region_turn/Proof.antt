@@ -10,12 +10,12 @@ returns : tie.Need-returns
 returns c =
     let a = c .before .before .before .before .before .before .before .before .args in
     let g = c .before .before .before .before .before .region-at in
-    let r = c .before .before .before .refit in (
+    let r = c .before .before .before .refit-lent in (
       turn-is (a .p) (a .count) (a .from) (g .result .next) (g .result .a) (g .result .z) (r .result .number)
           (memoryAt (a .p) (a .work .now))
           (stateAt (a .p) (countsOf (a .report)) (a .work .now)) (stateAt (a .p) (countsOf (r .result .report)) (r .last .0))
           (r .ensures .0) (g .ensures .0),
-      (r .ensures .1 .0, (r .ensures .1 .1 .0, r .ensures .1 .1 .1, g .ensures .1 .2, g .ensures .1 .3)),
+      (r .ensures .1, (r .ensures .2, r .ensures .3, g .ensures .1 .2, g .ensures .1 .3)),
     )
 
 pub region-turn-spec : {M : Type 1} → statement M
