@@ -77,5 +77,36 @@ echo "$(ls examples/*.job | wc -l) examples print what they must"
 if [ -n "${SMOOTHING_RS:-}" ] && [ -x oracle/target/release/oracle ]; then
     oracle/target/release/oracle lane target/bin/lane 3 2000 || fail "lane differs from the Rust"
 fi
+echo "== the library: its archive, and the examples in C"
+# Every crate below is taken as it was proved; the toolchain checks the library itself once more for this kind of archive.
+rt staticlib pamitoye > "$scratch/log" 2>&1 || {
+    cat "$scratch/log" >&2
+    fail "the archive of pamitoye is not made"
+}
+if command -v cc > /dev/null && [ "$(uname -m)" = x86_64 ]; then
+    for program in examples/c/*.c; do
+        cc -std=c11 -Wall -Wextra -Werror -Iinclude "$program" target/staticlib/libpamitoye.a -o "$scratch/program" ||
+            fail "$program does not compile and link"
+        "$scratch/program" > "$scratch/printed" || fail "$program does not end well"
+        cmp "$scratch/printed" "${program%.c}.txt" || fail "$program does not print ${program%.c}.txt"
+    done
+    echo "$(ls examples/c/*.c | wc -l) examples in C print what they must"
+else
+    echo "skipped: cc for x86-64 is not at hand; the examples in C are not compiled"
+fi
+
+echo "== the crate for Rust, and the program smooth"
+if command -v cargo > /dev/null; then
+    (cd bindings/rust && cargo test --release --offline && cargo build --release --offline) > "$scratch/log" 2>&1 || {
+        cat "$scratch/log" >&2
+        fail "the tests of bindings/rust fail"
+    }
+    grep -m 1 -o 'skipped: .*' "$scratch/log" || true
+    echo "$(grep -c '^test .* ok$' "$scratch/log") tests of bindings/rust pass"
+    examples/csv/run.sh bindings/rust/target/release/smooth ||
+        fail "smooth does not print or write what is stored in examples/csv and docs/lane.svg"
+else
+    echo "skipped: cargo is not at hand; bindings/rust is not tested"
+fi
 echo "== seconds: $SECONDS in all"
 tail -n 1 "$scratch/gate"

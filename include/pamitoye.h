@@ -21,7 +21,8 @@
  *   other, and a slice of length 0 overlaps nothing. During the call no other thread writes a lent
  *   cell, or reads one that is not const.
  * - The floating-point environment is C's default: rounding to nearest, subnormal numbers kept.
- * - For the two functions whose names end in `_formed`, the curve is well formed.
+ * - For pamitoye_evaluate_near and the two functions whose names end in `_formed`, the curve is well
+ *   formed.
  * All else may be anything: wrong counts, short slices and NaNs get a number as their answer.
  *
  * Threads. There is no global state: calls on slices of their own may run at once.
@@ -213,6 +214,22 @@ uint64_t pamitoye_evaluate_formed(
     double x, size_t order,
     double *q, size_t q_len, double *dq, size_t dq_len,
     double *ddq, size_t ddq_len, double *dddq, size_t dddq_len);
+
+/* As pamitoye_evaluate_formed, for queries that follow each other: *span and *other_span are the
+ * segments of the selected and of the other axes that are tried first, any numbers, 0 for the first
+ * query; on 0 they become those of this query, on a refusal they are unchanged. They can't change
+ * an answer; where parameters rise or fall the search is shorter. */
+uint64_t pamitoye_evaluate_near(
+    size_t d, size_t k, const size_t axes[16], double start, double end, bool clamp,
+    size_t segments, size_t other_segments,
+    const double *breaks, size_t breaks_len,
+    const double *coefficients, size_t coefficients_len,
+    const double *other_breaks, size_t other_breaks_len,
+    const double *other_coefficients, size_t other_coefficients_len,
+    double x, size_t order,
+    double *q, size_t q_len, double *dq, size_t dq_len,
+    double *ddq, size_t ddq_len, double *dddq, size_t dddq_len,
+    size_t *span, size_t *other_span);
 
 /* As pamitoye_evaluate_all, for a curve that is known to be well formed. The curve is not tested;
  * if it is not well formed the call is undefined. Never 24. */

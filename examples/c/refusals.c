@@ -186,6 +186,13 @@ static void queries(const struct built *b) {
         pamitoye_evaluate_formed(NUMBERS(*b), SLICES(*b), 0.25, 3, ORDERS(formed, D)),
         PAMITOYE_DONE);
     check("the same", memcmp(out, formed, sizeof out) == 0);
+    size_t span = 99, other_span = COUNT_MARK;
+    mark(formed, CELLS);
+    expect("query, near segments that are not there",
+        pamitoye_evaluate_near(NUMBERS(*b), SLICES(*b), 0.25, 3, ORDERS(formed, D), &span,
+            &other_span), PAMITOYE_DONE);
+    check("the same, and the segments are kept", memcmp(out, formed, sizeof out) == 0
+        && span < b->counts[0] && other_span < b->counts[1]);
     check("d cells are written", all_are(out + D, SLICE - D, MARK)
         && out[3 * SLICE + D - 1] != MARK);
     expect("four queries", pamitoye_evaluate_all(NUMBERS(*b), SLICES(*b), xs, 4, 3,
