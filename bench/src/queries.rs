@@ -6,9 +6,9 @@ use crate::random::Random;
 use std::hint::black_box;
 use std::time::Instant;
 
-/// Queries of one parameter, by name.
+/// Queries of one parameter, by name, with the parameters behind those that all have.
 macro_rules! single {
-    ($($name:ident)*) => {
+    ($($name:ident($($more:ident: $kind:ty),*))*) => {
         #[allow(improper_ctypes)]
         unsafe extern "C" {
             $(fn $name(
@@ -38,11 +38,12 @@ macro_rules! single {
                 ddq_len: usize,
                 dddq: *mut f64,
                 dddq_len: usize,
+                $($more: $kind,)*
             ) -> u64;)*
         }
     };
 }
-single!(pamitoye_evaluate pamitoye_evaluate_formed);
+single!(pamitoye_evaluate() pamitoye_evaluate_formed() pamitoye_evaluate_near(span: *mut usize, other_span: *mut usize));
 
 /// Queries of many, by name.
 macro_rules! many {
@@ -261,6 +262,34 @@ impl Case {
         sum
     }
 
+    /// The port's answers, one in each call, with the segments of the one before, as a curve reader keeps them.
+    fn in_turn(&self, xs: &[f64], out: &mut [Vec<f64>; 4]) -> u64 {
+        let d = self.d;
+        let (mut span, mut other_span) = (0, 0);
+        let mut sum = 0;
+        for (x, [q, dq, ddq, dddq]) in xs.iter().zip(rows(out, d)) {
+            sum += unsafe {
+                of_curve!(
+                    pamitoye_evaluate_near,
+                    self,
+                    *x,
+                    3,
+                    q.as_mut_ptr(),
+                    d,
+                    dq.as_mut_ptr(),
+                    d,
+                    ddq.as_mut_ptr(),
+                    d,
+                    dddq.as_mut_ptr(),
+                    d,
+                    &mut span,
+                    &mut other_span,
+                )
+            };
+        }
+        sum
+    }
+
     /// The source's answers.
     fn source(&self, xs: &[f64], out: &mut [Vec<f64>; 4]) {
         for (x, row) in xs.iter().zip(rows(out, self.d)) {
@@ -268,7 +297,7 @@ impl Case {
         }
     }
 
-    /// How many values of `all` and `each` differ from the source's, where every cell was -1 before. The source is
+    /// How many values of `all`, `each` and `in_turn` differ from the source's, where every cell was -1 before. The source is
     /// asked at the nearer end for a parameter outside.
     fn differences(&self, xs: &[f64]) -> usize {
         let room = || -> [Vec<f64>; 4] { std::array::from_fn(|_| vec![-1.; xs.len() * self.d]) };
@@ -277,10 +306,12 @@ impl Case {
         self.source(&inside, &mut source);
         let mut count = 0;
         for formed in [false, true] {
-            let (mut many, mut single) = (room(), room());
-            let numbers = self.all(formed, xs, &mut many) + self.each(formed, xs, &mut single);
+            let (mut many, mut single, mut turns) = (room(), room(), room());
+            let numbers = self.all(formed, xs, &mut many)
+                + self.each(formed, xs, &mut single)
+                + self.in_turn(xs, &mut turns);
             count += usize::from(numbers != 0);
-            for answers in [many, single] {
+            for answers in [many, single, turns] {
                 let pairs = answers.iter().flatten().zip(source.iter().flatten());
                 count += pairs.filter(|(a, b)| !same(**a, **b)).count();
             }
@@ -430,6 +461,14 @@ fn measure(random: &mut Random, row: (usize, usize, usize, usize), rounds: usize
         let [a, b] = least(rounds / 10 + 1, &drawn, [&mut each, &mut source]);
         line += &format!(" | {a:8.1} {b:7.1} {:5.2}", a / b);
     }
+    for sets in [&drawn, &rising] {
+        let mut in_turn = |xs: &[f64]| {
+            black_box(case.in_turn(xs, &mut ours));
+            black_box(&mut ours);
+        };
+        let [a, b] = least(rounds / 10 + 1, sets, [&mut in_turn, &mut source]);
+        line += &format!(" | {a:8.1} {b:7.1} {:5.2}", a / b);
+    }
     println!("{line} | {differences} differences");
 }
 
@@ -443,7 +482,7 @@ pub fn run() {
     compare(&mut random);
     println!(
         "d k segments + others | many, random: ns a query of the port, of the source, ratio | many, rising \
-         | single, random | single, formed"
+         | single, random | single, formed | in turn, random | in turn, rising"
     );
     for row in ROWS {
         measure(&mut random, row, rounds);
