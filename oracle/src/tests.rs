@@ -475,19 +475,22 @@ fn query_cases_reach_every_answer() {
     }
 }
 
-/// What the stored list has of queries: every answer of each kind, in both modes, and every order.
+/// What the stored list has of queries: every answer of each kind, in both modes; of single calls every
+/// order; of a reader, queries refused between others that are answered.
 #[test]
 fn stored_queries_reach_every_answer() {
     let cases = recipe("lists.txt").unwrap();
-    for kind in [Kind::Query, Kind::Queries] {
-        let (mut found, mut orders) = ([[0; 25]; 2], [0; 4]);
+    for kind in [Kind::Query, Kind::Queries, Kind::Reader] {
+        let (mut found, mut orders, mut mixed) = ([[0; 25]; 2], [0; 4], 0);
         for case in cases.iter().filter(|case| case.kind == kind) {
             let Answer::Queried(list) = answer(case).unwrap() else {
                 panic!("no answer of this kind");
             };
+            let refused = list.iter().filter(|told| told.refused.is_some()).count();
+            mixed += usize::from(0 < refused && refused < list.len());
             for told in list {
                 found[case.whole[13] as usize][told.refused.map_or(0, |v| v.0)] += 1;
-                if told.refused.is_none() {
+                if told.refused.is_none() && kind != Kind::Reader {
                     orders[case.whole[12] as usize] += 1;
                 }
             }
@@ -495,7 +498,9 @@ fn stored_queries_reach_every_answer() {
         for number in [0, 19, 22, 23, 24] {
             assert!(found[0][number] > 0 && found[1][number] > 0, "{found:?}");
         }
-        assert!(orders.iter().all(|n| *n > 1), "{orders:?}");
+        let reader = kind == Kind::Reader;
+        assert!(reader || orders.iter().all(|n| *n > 1), "{orders:?}");
+        assert!(!reader || mixed > 10, "{mixed}");
     }
 }
 

@@ -1,7 +1,8 @@
 -- Laws of what is printed of a call.
 use mathlib.Core.Path.{_≡_, sym, ap, _∙_}
 use mathlib.Core.List.{List, _++_}
-use Prim.Native.Nat.{ℕ}
+use Prim.Native.Nat.{ℕ, _+_}
+use native.Mathlib.Numerals.{add-one}
 use borrow.Author.Tests.{eq-eqb, ne-eqb}
 use lib.Ieee.{Float}
 use lib.ListN.{length, take}
@@ -10,7 +11,7 @@ use Rattle.query.specs.Row.{Outputs, outputs}
 use Rattle.query.specs.Query.{Outcome, outcome}
 use Rattle.listing.specs.Output.{printed, refusedWord, wholeText, cellsText}
 use Rattle.listing.proofs.Printing.{printed-append, printed-none}
-use Rattle.replay_queries.specs.Told.{refusalText, placeText, outputsText, toldText, toldOfAllText}
+use Rattle.replay_queries.specs.Told.{refusalText, placeText, outputsText, toldText, toldOfAllText, turnsText}
 
 -- one text after another
 then-text : (g o : List ℕ × ℕ) (a b : List ℕ) {p : List ℕ × ℕ} → p ≡ printed o b → o ≡ printed g a → p ≡ printed g (a ++ b)
@@ -70,3 +71,13 @@ module _ (f : Outputs → Outcome) (before marked : Outputs) (m : before ≡ mar
       (then-text o s (placeText number place) (outputsText after) h (l ∙ λ i. printed o (placeText (t₂ i) (u i))))
       (k ∙ ap (λ (n : ℕ). printed g (refusalText n)) t)
       ∙ ap (λ (r : Outcome). printed g (toldOfAllText r)) (e ∙ ap f m)
+
+-- queries in turn: none, and one more
+pub no-turns : (g : List ℕ × ℕ) (f : ℕ → Outcome) → g ≡ printed g (turnsText 0 f)
+unfolding turnsText
+no-turns g f = printed-none g
+
+pub turns-next : (g o : List ℕ × ℕ) (f : ℕ → Outcome) (i : ℕ) {p : List ℕ × ℕ} → o ≡ printed g (turnsText i f)
+    → p ≡ printed o (toldText (f i)) → p ≡ printed g (turnsText (i + 1) f)
+unfolding turnsText
+turns-next g o f i k h = rw (add-one i) (then-text g o (turnsText i f) (toldText (f i)) h k)

@@ -1,5 +1,5 @@
 -- What is printed of a call: oracle/README.md.
-use Prim.Native.Nat.{ℕ}
+use Prim.Native.Nat.{ℕ, zero, suc}
 use mathlib.Core.Bool.{cond}
 use mathlib.Core.List.{List, [], _++_}
 use lib.Dec.{eqb}
@@ -36,3 +36,8 @@ toldText o = refusalText (o .number) ++ outputsText (o .after)
 -- many in one call
 unfoldable pub toldOfAllText : Outcome → List ℕ
 toldOfAllText o = refusalText (o .number) ++ (placeText (o .number) (o .place) ++ outputsText (o .after))
+
+-- the first n of a list of single queries, one after the other
+unfoldable pub turnsText : ℕ → (ℕ → Outcome) → List ℕ
+turnsText zero f = []
+turnsText (suc n) f = turnsText n f ++ toldText (f n)

@@ -27,7 +27,7 @@ fn mark(s: &mut [f64])
 }
 
 // Every cell of the four slices is marked.
-fn mark_all(q: &mut [f64], dq: &mut [f64], ddq: &mut [f64], dddq: &mut [f64])
+pub fn mark_all(q: &mut [f64], dq: &mut [f64], ddq: &mut [f64], dddq: &mut [f64])
     ensures { λ _. ⌜ outputs (now (q .exit)) (now (dq .exit)) (now (ddq .exit)) (now (dddq .exit))
         ≡ markedOutputs (length (now (q .entry))) (length (now (dq .entry))) (length (now (ddq .entry))) (length (now (dddq .entry))) ⌝ }
 {
@@ -38,7 +38,7 @@ fn mark_all(q: &mut [f64], dq: &mut [f64], ddq: &mut [f64], dddq: &mut [f64])
 }
 
 // Document 01's number of an answer, 0 where nothing is refused.
-fn number(answer: Answer) -> u64
+pub fn number(answer: Answer) -> u64
     ensures { λ r. ⌜ r ≡ numberOf answer ⌝ }
 {
     match answer {
@@ -77,7 +77,7 @@ fn refused_at(answers: Answers) -> u64
 }
 
 // A refusal's number.
-fn refusal(number: u64, out: &mut [u8], at: usize) -> usize
+pub fn refusal(number: u64, out: &mut [u8], at: usize) -> usize
     ensures { λ r. ⌜ (now (out .exit), r) ≡ printed (now (out .entry), at) (refusalText number) ⌝ }
 {
     if number == 0 {
@@ -98,7 +98,7 @@ fn place(number: u64, place: u64, out: &mut [u8], at: usize) -> usize
 }
 
 // All cells of the four slices.
-fn cells(q: &[f64], dq: &[f64], ddq: &[f64], dddq: &[f64], out: &mut [u8], at: usize) -> usize
+pub fn cells(q: &[f64], dq: &[f64], ddq: &[f64], dddq: &[f64], out: &mut [u8], at: usize) -> usize
     ensures { λ r. ⌜ (now (out .exit), r) ≡ printed (now (out .entry), at) (outputsText (outputs (now (q .entry)) (now (dq .entry))
         (now (ddq .entry)) (now (dddq .entry)))) ⌝ }
 {

@@ -2,4 +2,5 @@
 // crates.
 mod asked; // asked.rt: the curve and the slices of a case
 mod calls; // calls.rt: the calls, and what is printed of each
-pub mod queries; // queries.rt: kinds 81 and 82
+pub mod queries; // queries.rt: kinds 81 to 83
+mod turns; // turns.rt: queries in turn, kind 83

@@ -6,6 +6,7 @@ ghost use Rattle.replay_queries.specs.Following.{Following, Within};
 use crate::asked;
 use crate::asked::Slices;
 use crate::calls;
+use crate::turns;
 use curve::Curve;
 use listing::axes;
 use listing::list::Head;
@@ -32,6 +33,7 @@ fn length_of(word: u64, j: usize, most: usize) -> usize
 fn name(kind: u8, out: &mut [u8], at: usize) -> usize {
     match kind {
         81 => output::text(out, at, b"query"),
+        83 => output::text(out, at, b"reader"),
         _ => output::text(out, at, b"queries"),
     }
 }
@@ -71,6 +73,23 @@ fn call<'a>(
                 at,
             );
         }
+    }
+    if kind == 83 {
+        return turns::in_turn(
+            curve,
+            breaks,
+            coefficients,
+            other_breaks,
+            other_coefficients,
+            xs,
+            order as u64,
+            q,
+            dq,
+            ddq,
+            dddq,
+            out,
+            at,
+        );
     }
     calls::all(
         curve,
@@ -224,7 +243,7 @@ fn answer(
     output::end(out, next)
 }
 
-// Kinds 81 and 82, whole numbers d, k, segments of both sets, four of axes, four counts of cells, order,
+// Kinds 81 to 83, whole numbers d, k, segments of both sets, four of axes, four counts of cells, order,
 // mode, the lengths of the four slices and the queries: the answer, and all cells of the slices.
 pub fn query(head: Head, cells: &[f64], out: &mut [u8], at: usize) -> Line
     ensures { λ r. ⌜ Unanswered (now (out .entry)) at (now (out .exit)) r ⌝ }
