@@ -185,5 +185,6 @@ piece-bound p a b s₀ s₁ y₀ y₁ left right M piece h x low high =
     (piece-powers p u w (lineAt s₀ s₁ y₀ y₁ left) slope y
     ∙ ap (λ (z : ℚ). polynomial rationalRing 5 (λ k. getD p k 𝟘) z -q (lineAt s₀ s₁ y₀ y₁ left +q slope *q y)) local
     ∙ ap (λ (z : ℚ). polynomial rationalRing 5 (λ k. getD p k 𝟘) ((x -q a) /q (b -q a)) -q z) line)
-    (within 5 (λ j. getD q j 𝟘) M y (λ k l. subst (λ (z : ℚ). (negq M ≤q z) × (z ≤q M)) (form-at q k l ∙ bernstein-is q k l) (h k l)) (fraction-low left right x piece low)
-    (fraction-high left right x piece high))
+    (within 5 (λ j. getD q j 𝟘) M y
+    (λ k l. subst (λ (z : ℚ). (negq M ≤q z) × (z ≤q M)) (form-at q k l ∙ bernstein-is q k l) (h k l))
+    (fraction-low left right x piece low) (fraction-high left right x piece high))

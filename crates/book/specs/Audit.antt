@@ -10,8 +10,8 @@ use Rattle.book.specs.Fractions.{fractions}
 abbrev pub lineAt : ℚ → ℚ → ℚ → ℚ → ℚ → ℚ
 lineAt s₀ s₁ y₀ y₁ x = y₀ +q (x -q s₀) /q (s₁ -q s₀) *q (y₁ -q y₀)
 
--- The six Bernstein coefficients of curve minus line on the piece from left to right of the segment from a to b, with the coefficients p, as
--- the source's `audit` makes them.
+-- The six Bernstein coefficients of curve minus line on the piece from left to right of the segment from a to b, with the coefficients
+-- p, as the source's `audit` makes them.
 abbrev pub pieceErrors : List ℚ → ℚ → ℚ → ℚ → ℚ → ℚ → ℚ → ℚ → ℚ → List ℚ
 pieceErrors p a b s₀ s₁ y₀ y₁ left right =
     errorForm fractions (powerOf fractions) p y₀ y₁ (pieceFrom fractions a b s₀ s₁ left right)

@@ -11,14 +11,15 @@ use Rattle.query.specs.Row.{Outputs, outputs}
 use Rattle.query.specs.Query.{Outcome, outcome}
 use Rattle.listing.specs.Output.{printed, refusedWord, wholeText, cellsText}
 use Rattle.listing.proofs.Printing.{printed-append, printed-none}
-use Rattle.replay_queries.specs.Told.{refusalText, placeText, outputsText, toldText, toldOfAllText, turnsText}
+use Rattle.replay_queries.specs.Told.{markedOutputs, refusalText, placeText, outputsText, toldText, toldOfAllText, turnsText}
 
 -- one text after another
 then-text : (g o : List ℕ × ℕ) (a b : List ℕ) {p : List ℕ × ℕ} → p ≡ printed o b → o ≡ printed g a → p ≡ printed g (a ++ b)
 then-text g o a b e k = e ∙ ap (λ (o : List ℕ × ℕ). printed o b) k ∙ sym (printed-append g a b)
 
 -- all cells of a slice
-whole-slice : (o : List ℕ × ℕ) {p : List ℕ × ℕ} (l : List Float) → p ≡ printed o (cellsText (take (length l) l)) → p ≡ printed o (cellsText l)
+whole-slice : (o : List ℕ × ℕ) {p : List ℕ × ℕ} (l : List Float) → p ≡ printed o (cellsText (take (length l) l)) → p ≡ printed o
+    (cellsText l)
 whole-slice o l e = e ∙ ap (λ (t : List Float). printed o (cellsText t)) (take-length l)
 
 pub no-refusal : (g : List ℕ × ℕ) (number : ℕ) → number ≡ 0 → g ≡ printed g (refusalText number)
@@ -81,3 +82,13 @@ pub turns-next : (g o : List ℕ × ℕ) (f : ℕ → Outcome) (i : ℕ) {p : Li
     → p ≡ printed o (toldText (f i)) → p ≡ printed g (turnsText (i + 1) f)
 unfolding turnsText
 turns-next g o f i k h = rw (add-one i) (then-text g o (turnsText i f) (toldText (f i)) h k)
+
+pub turns-end : (g : List ℕ × ℕ) (f : ℕ → Outcome) {i n : ℕ} {p : List ℕ × ℕ} → i ≡ n → p ≡ printed g (turnsText i f)
+    → p ≡ printed g (turnsText n f)
+turns-end g f e h = h ∙ ap (λ (k : ℕ). printed g (turnsText k f)) e
+
+-- a query with equal orders, and slices of equal lengths
+pub same-asked : (f : ℕ → Outputs → Outcome) (o : List ℕ × ℕ) {r s n₀ n₁ n₂ n₃ m₀ m₁ m₂ m₃ : ℕ} {p : List ℕ × ℕ} → r ≡ s → n₀ ≡ m₀
+    → n₁ ≡ m₁ → n₂ ≡ m₂ → n₃ ≡ m₃ → p ≡ printed o (toldText (f r (markedOutputs n₀ n₁ n₂ n₃)))
+    → p ≡ printed o (toldText (f s (markedOutputs m₀ m₁ m₂ m₃)))
+same-asked f o a e₀ e₁ e₂ e₃ h = h ∙ λ i. printed o (toldText (f (a i) (markedOutputs (e₀ i) (e₁ i) (e₂ i) (e₃ i))))

@@ -2,21 +2,19 @@
 // answer are tried first. A reader's own functions can't be called here, since a function with a struct
 // that holds references is not covered; this is what `reader::ask` calls.
 ghost use mathlib.Core.Path.{_≡_};
+ghost use mathlib.Core.Bool.{true};
 ghost use Prim.Native.Nat.{_%_};
 ghost use lib.ListN.{length, getD};
 ghost use lib.Ieee.{nan};
 ghost use Rattle.listing.specs.Axes.{byteOf};
 ghost use Rattle.curve.specs.Form.{slices, wellFormed};
-ghost use Rattle.query.specs.Row.{outputs};
-ghost use Rattle.query.specs.Query.{outcome, numberOf, evaluateOf};
+ghost use Rattle.query.specs.Query.{evaluateOf};
 ghost use Rattle.listing.specs.Output.{printed};
 ghost use Rattle.replay_queries.specs.Told.{markedOutputs, toldText, turnsText};
 use crate::calls;
 use curve::Curve;
 use curve::form;
 use listing::axes;
-use query::Answer;
-use query::Found;
 
 // Where the next byte goes, and the segments that are tried next.
 struct Kept {
@@ -25,54 +23,7 @@ struct Kept {
     other_span: usize,
 }
 
-// The query at x of a curve of which it is known whether it is well formed.
-fn answer<'a>(
-    curve: Curve,
-    breaks: &[f64],
-    coefficients: &'a [f64],
-    other_breaks: &[f64],
-    other_coefficients: &'a [f64],
-    formed: bool,
-    span: usize,
-    other_span: usize,
-    x: f64,
-    order: usize,
-    q: &mut [f64],
-    dq: &mut [f64],
-    ddq: &mut [f64],
-    dddq: &mut [f64],
-) -> Found
-    requires { ⌜ formed ≡ wellFormed curve (slices (now breaks) (now coefficients) (now «other_breaks») (now «other_coefficients»)) ⌝ }
-    ensures { λ r. ⌜ outcome (numberOf (r .answer)) 0 (outputs (now (q .exit)) (now (dq .exit)) (now (ddq .exit)) (now (dddq .exit)))
-        ≡ evaluateOf curve (slices (now (breaks .entry)) (now (coefficients .entry)) (now («other_breaks» .entry))
-        (now («other_coefficients» .entry))) x order (outputs (now (q .entry)) (now (dq .entry)) (now (ddq .entry))
-        (now (dddq .entry))) ⌝ }
-{
-    if !formed {
-        return Found {
-            answer: Answer::Malformed,
-            span,
-            other_span,
-        };
-    }
-    query::evaluate_near(
-        curve,
-        breaks,
-        coefficients,
-        other_breaks,
-        other_coefficients,
-        span,
-        other_span,
-        x,
-        order,
-        q,
-        dq,
-        ddq,
-        dddq,
-    )
-}
-
-// One of them, printed as a single query is.
+// One of them, printed as a single query is; a curve that is not well formed is asked by one.
 fn next<'a>(
     curve: Curve,
     breaks: &[f64],
@@ -89,19 +40,40 @@ fn next<'a>(
     dddq: &mut [f64],
     out: &mut [u8],
 ) -> Kept
-    requires { ⌜ formed ≡ wellFormed curve (slices (now breaks) (now coefficients) (now «other_breaks») (now «other_coefficients»)) ⌝ }
+    requires { ⌜ (formed ≡ true → wellFormed curve (slices (now breaks) (now coefficients) (now «other_breaks»)
+        (now «other_coefficients»)) ≡ true) ⌝ }
     ensures { λ r. ⌜ (now (out .exit), r .at) ≡ printed (now (out .entry), kept .at) (toldText (evaluateOf curve
         (slices (now (breaks .entry)) (now (coefficients .entry)) (now («other_breaks» .entry)) (now («other_coefficients» .entry))) x order
         (markedOutputs (length (now (q .entry))) (length (now (dq .entry))) (length (now (ddq .entry))) (length (now (dddq .entry)))))) ⌝ }
 {
+    if !formed {
+        return Kept {
+            at: calls::single(
+                curve,
+                breaks,
+                coefficients,
+                other_breaks,
+                other_coefficients,
+                x,
+                order,
+                q,
+                dq,
+                ddq,
+                dddq,
+                out,
+                kept.at,
+            ),
+            span: kept.span,
+            other_span: kept.other_span,
+        };
+    }
     calls::mark_all(q, dq, ddq, dddq);
-    let found = answer(
+    let found = query::evaluate_near(
         curve,
         breaks,
         coefficients,
         other_breaks,
         other_coefficients,
-        formed,
         kept.span,
         kept.other_span,
         x,
