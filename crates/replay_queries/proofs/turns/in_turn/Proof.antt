@@ -15,7 +15,8 @@ use Rattle.replay_queries.proofs.turns.in_turn.Statement.{statement}
 use Rattle.replay_queries.proofs.turns.in_turn.Tie as tie
 
 abbrev Inv-loop : tie.InvT-loop
-Inv-loop curve breaks coefficients other-breaks other-coefficients xs orders q₀ dq₀ ddq₀ dddq₀ out₀ at formed kept₀ i₀ q dq ddq dddq out kept i =
+Inv-loop curve breaks coefficients other-breaks other-coefficients xs orders q₀ dq₀ ddq₀ dddq₀ out₀ at formed kept₀ i₀ q dq ddq dddq out
+    kept i =
     (i ≤ length xs)
     × ((out, kept .at) ≡ printed (out₀, at) (turnsText i (λ j. evaluateOf curve
     (slices breaks coefficients other-breaks other-coefficients) (getD xs j nan) (byteOf orders (j % 4))
@@ -24,7 +25,8 @@ Inv-loop curve breaks coefficients other-breaks other-coefficients xs orders q�
     × (length out ≡ length out₀)
 
 abbrev μ-loop : tie.MeasureT-loop
-μ-loop curve breaks coefficients other-breaks other-coefficients xs orders q₀ dq₀ ddq₀ dddq₀ out₀ at formed kept₀ i₀ q dq ddq dddq out kept i = length xs - i
+μ-loop curve breaks coefficients other-breaks other-coefficients xs orders q₀ dq₀ ddq₀ dddq₀ out₀ at formed kept₀ i₀ q dq ddq dddq out kept
+    i = length xs - i
 
 loop-holds : tie.Need-loop-holds Inv-loop μ-loop
 loop-holds c = (omega arith, no-turns _ _, refl, refl, refl, refl, refl)
@@ -33,12 +35,15 @@ next-requires : tie.Need-next-requires Inv-loop μ-loop
 next-requires c κs h = sym (c .before .before .before .before .before .before .before .before .before .well-formed .ensures) ∙ h
 
 add-i : tie.Need-add-i Inv-loop μ-loop
-add-i c = omega (
-  arith,
-  c .before .before .before .before .before .before .before .before .before .before .before .before .before .before .before .before .before .before .loop-test .taken,
-  c .before .before .before .before .before .before .before .before .before .before .before .before .before .before .before .before .before .shared-slice-known6 .given,
-  c .before .before .before .before .before .before .before .before .before .before .before .before .before .before .before .before .before .before .before .before .before .before .before .before .before .before .shared-slice-known5 .given,
-)
+add-i c =
+    let t = c .before .before .before .before .before .before .before .before .before .before .before .before .before .before .before
+    .before .before .before in
+    omega (
+      arith,
+      t .loop-test .taken,
+      t .before .before .before .before .before .before .before .before .before .before .before .before
+          .before .good,
+    )
 
 loop-again : tie.Need-loop-again Inv-loop μ-loop
 loop-again c =
@@ -47,7 +52,8 @@ loop-again c =
     let v = l .loop .inv in (
       omega (arith, v .0),
       turns-next _ _ _ (l .loop .i) (v .1)
-          (same-asked (evaluateOf _ _ _) _ (n .before .before .before .before .before .before .byte-of .ensures) (v .2) (v .3) (v .4) (v .5) (n .next .ensures)),
+          (same-asked (evaluateOf _ _ _) _ (n .before .before .before .before .before .before .byte-of .ensures) (v .2) (v .3) (v .4) (v
+          .5) (n .next .ensures)),
       omega (arith, n .next .kept, v .2),
       omega (arith, n .next .kept, v .3),
       omega (arith, n .next .kept, v .4),
