@@ -64,9 +64,9 @@ else
 fi
 
 echo "== proofs, must-fail edits and programs"
-# Four at a time, also on two processors: rt starts the next ones only when all of a batch have ended, so that
+# Six at a time, also on two processors: rt starts the next ones only when all of a batch have ended, so that
 # with more in a batch less time is spent waiting for the last.
-RT_JOBS=${RT_JOBS:-4} rt ci | tee "$scratch/gate" || fail "the gate fails"
+RT_JOBS=${RT_JOBS:-6} rt ci | tee "$scratch/gate" || fail "the gate fails"
 
 echo "== the examples, through the program that was built"
 for job in examples/*.job; do
