@@ -42,9 +42,9 @@ fn name(kind: u8, out: &mut [u8], at: usize) -> usize {
 fn call<'a>(
     kind: u8,
     curve: Curve,
-    breaks: &[f64],
+    breaks: &'a [f64],
     coefficients: &'a [f64],
-    other_breaks: &[f64],
+    other_breaks: &'a [f64],
     other_coefficients: &'a [f64],
     xs: &[f64],
     order: usize,
@@ -112,9 +112,9 @@ fn call<'a>(
 fn lend<'a>(
     kind: u8,
     curve: Curve,
-    breaks: &[f64],
+    breaks: &'a [f64],
     coefficients: &'a [f64],
-    other_breaks: &[f64],
+    other_breaks: &'a [f64],
     other_coefficients: &'a [f64],
     xs: &[f64],
     order: usize,

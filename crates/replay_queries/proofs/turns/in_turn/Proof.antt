@@ -1,5 +1,5 @@
 -- `turns::in_turn` meets its contract. The invariant: the first i queries are printed, and the slices are as long as before.
-use mathlib.Core.Path.{_≡_, refl, sym, _∙_}
+use mathlib.Core.Path.{_≡_, refl}
 use Prim.Native.Nat.{_-_, _%_, _≤_}
 use native.Mathlib.Omega.{arith}
 use borrow.Author.Needs.{needs}
@@ -15,7 +15,7 @@ use Rattle.replay_queries.proofs.turns.in_turn.Statement.{statement}
 use Rattle.replay_queries.proofs.turns.in_turn.Tie as tie
 
 abbrev Inv-loop : tie.InvT-loop
-Inv-loop curve breaks coefficients other-breaks other-coefficients xs orders q₀ dq₀ ddq₀ dddq₀ out₀ at formed kept₀ i₀ q dq ddq dddq out
+Inv-loop curve breaks coefficients other-breaks other-coefficients xs orders q₀ dq₀ ddq₀ dddq₀ out₀ at kept₀ i₀ q dq ddq dddq out
     kept i =
     (i ≤ length xs)
     × ((out, kept .at) ≡ printed (out₀, at) (turnsText i (λ j. evaluateOf curve
@@ -25,25 +25,16 @@ Inv-loop curve breaks coefficients other-breaks other-coefficients xs orders q�
     × (length out ≡ length out₀)
 
 abbrev μ-loop : tie.MeasureT-loop
-μ-loop curve breaks coefficients other-breaks other-coefficients xs orders q₀ dq₀ ddq₀ dddq₀ out₀ at formed kept₀ i₀ q dq ddq dddq out kept
+μ-loop curve breaks coefficients other-breaks other-coefficients xs orders q₀ dq₀ ddq₀ dddq₀ out₀ at kept₀ i₀ q dq ddq dddq out kept
     i = length xs - i
 
 loop-holds : tie.Need-loop-holds Inv-loop μ-loop
 loop-holds c = (omega arith, no-turns _ _, refl, refl, refl, refl, refl)
 
-next-requires : tie.Need-next-requires Inv-loop μ-loop
-next-requires c κs h = sym (c .before .before .before .before .before .before .before .before .before .well-formed .ensures) ∙ h
-
 add-i : tie.Need-add-i Inv-loop μ-loop
 add-i c =
-    let t = c .before .before .before .before .before .before .before .before .before .before .before .before .before .before .before
-    .before .before .before in
-    omega (
-      arith,
-      t .loop-test .taken,
-      t .before .before .before .before .before .before .before .before .before .before .before .before
-          .before .good,
-    )
+    let t = c .before .before .before .before .before .before .before .before .before .before .before .before .before .before .before .before .before .before in
+    omega (arith, t .loop-test .taken, t .before .before .before .before .before .before .before .before .before .before .before .before .good)
 
 loop-again : tie.Need-loop-again Inv-loop μ-loop
 loop-again c =
@@ -70,12 +61,11 @@ in-turn-spec =
     (tie.spec
     Inv-loop
     μ-loop
-    (λ c κs. search needs)
     loop-holds
     (λ c. omega arith)
     (λ c. omega arith)
     (λ c κs. search needs)
-    next-requires
+    (λ c κs. search needs)
     add-i
     (λ c. omega arith)
     loop-again
