@@ -6,6 +6,7 @@ use Prim.Native.Nat.{ℕ, zero, suc, _+_, _-_, _*_, _/_, _%_, _^_, _≤_, _<_}
 use native.Mathlib.Nat.{mul-le-mul-left, mul-le-mul-right, mul-lt-mul-of-pos-right, mul-pos, le-trans, le-of-eq, le-suc, eq-or-lt-of-le, add-suc}
 use native.Mathlib.Omega.{arith}
 use lib.Pow.{pow-pos}
+use lib.IntN.{ℤ}
 use lib.Ieee.{binary64, hid, ones}
 use Rattle.fraction.specs.Magnitude.{magnitude}
 use Rattle.fraction.proofs.Magnitude.{magnitude-at, magnitude-step, magnitude-lt}
@@ -111,10 +112,13 @@ module _ (h M j x : ℕ) (H : 0 < h) (low : h * h ≤ M) (high : M < 2 * h * (2 
           last e = rw (at x from upto, e) (omega (arith, mul-lt-mul-of-pos-right high (mul-pos (pow-pos j) (pow-pos j))))
 
 -- ---- the bits of the root of m * 2 ^ k, from the whole number x nearest to the root of its digits
-module _ (b m k x : ℕ) (some : 0 < b) (small : b < ones binary64 * hid binary64) (n : Scaling b m k)
-    (r : Nearest (m * (1 + k % 2) * 0x10_0000_0000_0000) x) where
+module _ (b m : ℕ) (e : ℤ) (x : ℕ) (some : 0 < b) (small : b < ones binary64 * hid binary64) (n : Scaling b m e)
+    (r : Nearest (m * (1 + n .exponent .k % 2) * 0x10_0000_0000_0000) x) where
   abbrev h : ℕ
   h = 0x10_0000_0000_0000
+
+  abbrev k : ℕ
+  k = n .exponent .k
 
   abbrev M : ℕ
   M = m * (1 + k % 2) * h
@@ -136,7 +140,7 @@ module _ (b m k x : ℕ) (some : 0 < b) (small : b < ones binary64 * hid binary6
       go (suc (suc t)) l g = absurd (omega arith)
 
   radicand-is : radicand b ≡ M * (2 ^ (k / 2 - 26) * 2 ^ (k / 2 - 26))
-  radicand-is = sym (n .is) ∙ ap (λ (z : ℕ). m * z) (halves k (omega arith)) ∙ flat m (1 + k % 2) (2 ^ (k / 2 - 26) * 2 ^ (k / 2 - 26))
+  radicand-is = sym (n .is) ∙ ap (λ (z : ℕ). m * z) (halves k (omega (arith, n .exponent .from))) ∙ flat m (1 + k % 2) (2 ^ (k / 2 - 26) * 2 ^ (k / 2 - 26))
     where
       flat : (m t x : ℕ) → m * (t * h * x) ≡ m * t * h * x
       flat m t x = omega arith

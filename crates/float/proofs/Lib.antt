@@ -8,6 +8,7 @@ mod Tests
 mod Squares
 mod Rounding
 mod Middles
+mod Exponents
 mod Scales
 mod Checks
 mod RootCases

@@ -5,8 +5,9 @@ use native.Mathlib.Nat.{le-trans, le-of-eq, lt-of-lt-of-le, mul-le-mul-right, mu
 use native.Mathlib.Omega.{arith}
 use lib.Pow.{pow-add, pow-mono, shl-exact, shl-lt}
 use lib.Count.{leadingZeros, leading-top}
-use lib.Ieee.{low}
+use lib.IntN.{ℤ, pos, negsuc, _-ℤ_}
 use Rattle.float.specs.RootSteps.{Scaling, radicand}
+use Rattle.float.proofs.Exponents.{low-place, high-place}
 
 -- ---- 2 ^ k, with k even or odd
 pub halves : (k : ℕ) → 52 ≤ k → 2 ^ k ≡ (1 + k % 2) * 0x10_0000_0000_0000 * (2 ^ (k / 2 - 26) * 2 ^ (k / 2 - 26))
@@ -27,7 +28,7 @@ halves k h =
     small (suc (suc t)) h = absurd (omega arith)
 
 -- ---- the bits as m * 2 ^ k
-abbrev lead : ℕ → ℕ
+abbrev pub lead : ℕ → ℕ
 lead b = leadingZeros 64 b - 11
 
 pub record Leading (b : ℕ) : Type 0 where
@@ -71,20 +72,19 @@ high-value b x e h =
     pr : (x : ℕ) → suc x - 1 ≡ x
     pr x = omega arith
 
-pub scale-low : (b : ℕ) → 0 < b → b < 0x10_0000_0000_0000 → Scaling b (b * 2 ^ lead b % 0x1_0000_0000_0000_0000) (1074 - lead b)
+pub scale-low : (b : ℕ) → 0 < b → b < 0x10_0000_0000_0000 → Scaling b (b * 2 ^ lead b % 0x1_0000_0000_0000_0000) (negsuc 1021 -ℤ pos (lead b))
 scale-low b p l = go (leading b p l)
   where
-    go : Leading b → Scaling b (b * 2 ^ lead b % 0x1_0000_0000_0000_0000) (1074 - lead b)
+    go : Leading b → Scaling b (b * 2 ^ lead b % 0x1_0000_0000_0000_0000) (negsuc 1021 -ℤ pos (lead b))
     go d =
         let z = lead b in
         let e : b * 2 ^ z % 2 ^ 64 ≡ b * 2 ^ z = shl-exact (suc (d .j)) z 64 (d .high) (omega arith) in
-        subst (λ (m : ℕ). Scaling b m (1074 - z)) (sym e)
+        subst (λ (m : ℕ). Scaling b m (negsuc 1021 -ℤ pos z)) (sym e)
         (record {
           low = le-trans (le-of-eq (ap (λ (x : ℕ). 2 ^ x) (sym (flip z (d .j) (d .is))) ∙ pow-add 2 (d .j) z))
               (mul-le-mul-right (2 ^ z) (d .low));
           high = lt-of-lt-of-le (shl-lt (suc (d .j)) z (d .high)) (le-of-eq (ap (λ (x : ℕ). 2 ^ x) (flip′ z (d .j) (d .is))));
-          from = omega arith;
-          upto = omega arith;
+          exponent = record { k = 1074 - z; from = omega arith; upto = omega arith; is = low-place z (omega arith) };
           is = low-value b l z (omega arith);
         })
       where
@@ -95,16 +95,15 @@ scale-low b p l = go (leading b p l)
         flip′ z j e = omega arith
 
 pub scale-high : (b : ℕ) → (b / 0x10_0000_0000_0000 ≡ 0 → ⊥) → b < 2047 * 0x10_0000_0000_0000
-    → Scaling b (b % 0x10_0000_0000_0000 + 0x10_0000_0000_0000) (1073 + b / 0x10_0000_0000_0000)
+    → Scaling b (b % 0x10_0000_0000_0000 + 0x10_0000_0000_0000) (pos (b / 0x10_0000_0000_0000) -ℤ pos 1023)
 scale-high b n l = go (b / 0x10_0000_0000_0000) refl n
   where
-    go : (x : ℕ) → b / 0x10_0000_0000_0000 ≡ x → (x ≡ 0 → ⊥) → Scaling b (b % 0x10_0000_0000_0000 + 0x10_0000_0000_0000) (1073 + x)
+    go : (x : ℕ) → b / 0x10_0000_0000_0000 ≡ x → (x ≡ 0 → ⊥) → Scaling b (b % 0x10_0000_0000_0000 + 0x10_0000_0000_0000) (pos x -ℤ pos 1023)
     go zero e n = absurd (n refl)
     go (suc x) e n =
         record {
           low = omega arith;
           high = omega arith;
-          from = omega arith;
-          upto = omega arith;
+          exponent = record { k = 1073 + suc x; from = omega arith; upto = omega arith; is = high-place (suc x) };
           is = high-value b x e (omega arith);
         }

@@ -2,16 +2,19 @@
 // exactly on whole numbers; where the check says no, the root is found digit by digit.
 ghost use mathlib.Core.Path.{_≡_};
 ghost use mathlib.Core.Bool.{true};
-ghost use Prim.Native.Nat.{_+_, _*_, _^_, _≤_, _<_};
+ghost use Prim.Native.Nat.{_+_, _-_, _*_, _/_, _%_, _^_, _≤_, _<_};
+ghost use lib.Dec.{T};
+ghost use lib.IntN.{pos, natAbs};
+ghost use lib.Signed.{nonNeg};
 ghost use lib.Ieee.{binary64, hid, ones};
 ghost use Rattle.float.specs.Root.{sqrtOf, SquareRoot};
-ghost use Rattle.float.specs.RootSteps.{rootBits, Floor, Scaling, Nearest};
+ghost use Rattle.float.specs.RootSteps.{rootBits, Exponent, Floor, Scaling, Nearest};
 
-// A number above 0 as significand * 2^(exponent - 2148), the significand of 53 digits: the number's
-// own exponent, -1074 to 1023, with 2096 added. The root carries its exponent here alone.
+// A number above 0 as significand * 2^(exponent - 52), the significand of 53 digits: the exponent is
+// the number's own, -1074 to 1023. The root carries its exponent here alone.
 struct Scaled {
     significand: u64,
-    exponent: u64,
+    exponent: i16,
 }
 
 // The whole part of a root, and what its square leaves.
@@ -27,17 +30,42 @@ fn scale(bits: u64) -> Scaled
 {
     let field = bits / 0x10_0000_0000_0000;
     if field == 0 {
-        let zeros = (u64::leading_zeros(bits) as u64) - 11;
+        let zeros = u64::leading_zeros(bits) - 11;
         Scaled {
             significand: bits << zeros,
-            exponent: 1074 - zeros,
+            exponent: -1022 - (zeros as i16),
         }
     } else {
         Scaled {
             significand: bits % 0x10_0000_0000_0000 + 0x10_0000_0000_0000,
-            exponent: 1073 + field,
+            exponent: (field as i16) - 1023,
         }
     }
+}
+
+// How far an exponent lies above the least one, -1074.
+fn above_least(exponent: i16) -> i16
+    requires { ⌜ Exponent exponent ⌝ }
+    ensures { λ r. ⌜ ((e : Exponent exponent) → r ≡ pos (e .k - 1022)) ⌝ }
+{
+    exponent + 1074
+}
+
+// 1 where the exponent is odd, else 0.
+fn odd(above: i16) -> u64
+    requires { ⌜ T (nonNeg above) ⌝ }
+    ensures { λ r. ⌜ r ≡ natAbs above % 2 ⌝ }
+{
+    (above % 2) as u64
+}
+
+// The field of the root's exponent, which is half the exponent rounded down, less the 1 that the
+// first digit of the root adds to it: -537 + above / 2 + 1023 - 1.
+fn field_of_half(above: i16) -> u64
+    requires { ⌜ (T (nonNeg above)) × (natAbs above ≤ 2097) ⌝ }
+    ensures { λ r. ⌜ r ≡ natAbs above / 2 + 485 ⌝ }
+{
+    (above / 2 + 485) as u64
 }
 
 // Most likely the whole number nearest to the root of m * 2^52, or of m * 2^53 where t is 1: three
@@ -104,7 +132,7 @@ fn digits(w: u64) -> Whole
     let mut left = w << 10;
     let mut root: u64 = 0;
     let mut rest: u64 = 0;
-    let mut i: u64 = 0;
+    let mut i: u8 = 0;
     while i < 53 {
         rest = rest * 4 + left / 0x4000_0000_0000_0000;
         left = (left % 0x4000_0000_0000_0000) * 4;
@@ -146,9 +174,9 @@ fn root_bits(bits: u64) -> u64
     ensures { λ r. ⌜ r ≡ rootBits binary64 bits ⌝ }
 {
     let x = scale(bits);
-    let exponent = x.exponent;
-    let r = nearest(x.significand, exponent % 2);
-    (exponent / 2 - 26) * 0x10_0000_0000_0000 + r
+    let above = above_least(x.exponent);
+    let r = nearest(x.significand, odd(above));
+    field_of_half(above) * 0x10_0000_0000_0000 + r
 }
 
 // The square root: of the f64 numbers the one nearest to the exact root, a tie to the even one. -0
