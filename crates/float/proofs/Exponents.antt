@@ -5,7 +5,7 @@ use Prim.Native.Nat.{ℕ, zero, suc, _+_, _-_, _*_, _/_, _%_, _^_, _≤_, _<_}
 use native.Mathlib.Omega.{arith}
 use lib.Dec.{T, ltb, ltb→lt, nltb→le}
 use lib.IntN.{ℤ, pos, negsuc, natAbs, subℕ, _+ℤ_, _-ℤ_}
-use lib.Signed.{nonNeg, quotZ, remZ, pos-natAbs}
+use lib.Signed.{nonNeg, shrZ, pos-natAbs}
 use mir.Syntax.{w16, w64}
 use mir.Val.{Fits, SFits, toZ, ofZ}
 use mir.ValLaws.{toZ-ofZ}
@@ -112,6 +112,13 @@ pub lifted-fits : (e : ℤ) → Exponent e → SFits w16 (e +ℤ pos 1074)
 lifted-fits e x = subst (SFits w16) (sym (lifted e x)) (record { sfits = omega (arith, x .upto) })
 
 -- ---- half of a count, rounded down, and what is left
+minus-is : (x y : ℤ) (a b : ℕ) → x ≡ pos a → y ≡ pos b → b ≤ a → x -ℤ y ≡ pos (a - b)
+minus-is x y a b e g h = ap (λ (z : ℤ). z -ℤ y) e ∙ ap (λ (z : ℤ). pos a -ℤ z) g ∙ go b h
+  where
+    go : (b : ℕ) → b ≤ a → pos a -ℤ pos b ≡ pos (a - b)
+    go zero h = ap pos (omega arith)
+    go (suc b) h = above a (suc b) h
+
 module _ (z : ℤ) (n : T (nonNeg z)) (fits : SFits w16 z) where
   small : natAbs z < 32768
   small = subst (SFits w16) (sym (pos-natAbs z n)) fits .sfits
@@ -119,20 +126,39 @@ module _ (z : ℤ) (n : T (nonNeg z)) (fits : SFits w16 z) where
   read : toZ w16 (ofZ w16 z) ≡ pos (natAbs z)
   read = toZ-ofZ w16 z fits ∙ sym (pos-natAbs z n)
 
-  pub half-fits : SFits w16 (quotZ (toZ w16 (ofZ w16 z)) (pos 2))
-  half-fits = subst (λ (x : ℤ). SFits w16 (quotZ x (pos 2))) (sym read) (record { sfits = omega (arith, small) })
+  abbrev half : ℤ
+  half = toZ w16 (ofZ w16 (shrZ (toZ w16 (ofZ w16 z)) 2))
 
-  pub left-is : toZ w16 (ofZ w16 (remZ (toZ w16 (ofZ w16 z)) (pos 2))) ≡ pos (natAbs z % 2)
-  left-is = ap (λ (x : ℤ). toZ w16 (ofZ w16 (remZ x (pos 2)))) read ∙ seen (natAbs z % 2) (omega arith)
+  half-is : half ≡ pos (natAbs z / 2)
+  half-is = ap (λ (x : ℤ). toZ w16 (ofZ w16 (shrZ x 2))) read ∙ seen (natAbs z / 2) (omega (arith, small))
 
-  half-is : toZ w16 (ofZ w16 (quotZ (toZ w16 (ofZ w16 z)) (pos 2))) ≡ pos (natAbs z / 2)
-  half-is = ap (λ (x : ℤ). toZ w16 (ofZ w16 (quotZ x (pos 2)))) read ∙ seen (natAbs z / 2) (omega (arith, small))
+  -- less one half, and less both
+  less-is : toZ w16 (ofZ w16 z) -ℤ half ≡ pos (natAbs z - natAbs z / 2)
+  less-is = minus-is (toZ w16 (ofZ w16 z)) half (natAbs z) (natAbs z / 2) read half-is (omega arith)
+
+  pub less-fits : SFits w16 (toZ w16 (ofZ w16 z) -ℤ half)
+  less-fits = subst (SFits w16) (sym less-is) (record { sfits = omega (arith, small) })
+
+  left : toZ w16 (ofZ w16 (toZ w16 (ofZ w16 z) -ℤ half)) -ℤ half ≡ pos (natAbs z % 2)
+  left =
+      minus-is (toZ w16 (ofZ w16 (toZ w16 (ofZ w16 z) -ℤ half))) half (natAbs z - natAbs z / 2) (natAbs z / 2)
+      (toZ-ofZ w16 (toZ w16 (ofZ w16 z) -ℤ half) less-fits ∙ less-is) half-is (omega arith)
+      ∙ ap pos (rest (natAbs z))
+    where
+      rest : (n : ℕ) → n - n / 2 - n / 2 ≡ n % 2
+      rest n = omega arith
+
+  pub left-fits : SFits w16 (toZ w16 (ofZ w16 (toZ w16 (ofZ w16 z) -ℤ half)) -ℤ half)
+  left-fits = subst (SFits w16) (sym left) (record { sfits = omega arith })
+
+  pub left-is : toZ w16 (ofZ w16 (toZ w16 (ofZ w16 (toZ w16 (ofZ w16 z) -ℤ half)) -ℤ half)) ≡ pos (natAbs z % 2)
+  left-is = toZ-ofZ w16 (toZ w16 (ofZ w16 (toZ w16 (ofZ w16 z) -ℤ half)) -ℤ half) left-fits ∙ left
 
   module _ (m : natAbs z ≤ 2097) where
-    pub field-fits : SFits w16 (toZ w16 (ofZ w16 (quotZ (toZ w16 (ofZ w16 z)) (pos 2))) +ℤ pos 485)
+    pub field-fits : SFits w16 (half +ℤ pos 485)
     field-fits = subst (λ (x : ℤ). SFits w16 (x +ℤ pos 485)) (sym half-is) (record { sfits = omega (arith, m) })
 
-    pub field-is : toZ w16 (ofZ w16 (toZ w16 (ofZ w16 (quotZ (toZ w16 (ofZ w16 z)) (pos 2))) +ℤ pos 485)) ≡ pos (natAbs z / 2 + 485)
+    pub field-is : toZ w16 (ofZ w16 (half +ℤ pos 485)) ≡ pos (natAbs z / 2 + 485)
     field-is = ap (λ (x : ℤ). toZ w16 (ofZ w16 (x +ℤ pos 485))) half-is ∙ seen (natAbs z / 2 + 485) (omega (arith, m))
 
 -- a count as an unsigned number of 64 bits

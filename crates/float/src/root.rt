@@ -56,7 +56,8 @@ fn odd(above: i16) -> u64
     requires { ⌜ T (nonNeg above) ⌝ }
     ensures { λ r. ⌜ r ≡ natAbs above % 2 ⌝ }
 {
-    (above % 2) as u64
+    let half = above >> 1;
+    (above - half - half) as u64
 }
 
 // The field of the root's exponent, which is half the exponent rounded down, less the 1 that the
@@ -65,7 +66,7 @@ fn field_of_half(above: i16) -> u64
     requires { ⌜ (T (nonNeg above)) × (natAbs above ≤ 2097) ⌝ }
     ensures { λ r. ⌜ r ≡ natAbs above / 2 + 485 ⌝ }
 {
-    (above / 2 + 485) as u64
+    ((above >> 1) + 485) as u64
 }
 
 // Most likely the whole number nearest to the root of m * 2^52, or of m * 2^53 where t is 1: three

@@ -3,12 +3,9 @@ use mathlib.Core.Path.{ap}
 use native.Mathlib.Omega.{arith}
 use lib.IntN.{natAbs}
 use Prim.Native.Nat.{_+_, _/_}
-use Rattle.float.proofs.Exponents.{half-fits, field-fits, field-is, count-cast}
+use Rattle.float.proofs.Exponents.{field-fits, field-is, count-cast}
 use Rattle.float.proofs.root.field_of_half.Statement.{statement}
 use Rattle.float.proofs.root.field_of_half.Tie as tie
-
-div-result : tie.Need-div-result
-div-result c = (omega arith, half-fits (c .args .above) (c .pre .0) (c .fits .above))
 
 add-result : tie.Need-add-result
 add-result c = field-fits (c .args .above) (c .pre .0) (c .fits .above) (c .pre .1)
@@ -22,4 +19,4 @@ returns : tie.Need-returns
 returns c = ap natAbs (field-is (c .args .above) (c .pre .0) (c .fits .above) (c .pre .1))
 
 pub field-of-half-spec : {M : Type 1} → statement M
-field-of-half-spec = tie.close (tie.spec div-result add-result cast-result returns)
+field-of-half-spec = tie.close (tie.spec add-result cast-result returns)
