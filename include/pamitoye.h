@@ -32,8 +32,10 @@
  *     k, axes         the selected (smoothed) axes are the first k cells of axes; those behind
  *                     mean nothing
  *     start, end      the parameter goes from start to end
- *     clamp           what a parameter outside gets: true, the answer at the nearer end (mode
- *                     Clamp); false, PAMITOYE_OUTSIDE (mode Error)
+ *     clamp           what a parameter outside gets: true, the value at the nearer end and +0
+ *                     for every derivative (mode Clamp: past its ends the curve stands still);
+ *                     false, PAMITOYE_OUTSIDE (mode Error). At start and end themselves the
+ *                     derivatives are the curve's own
  *     segments        of the selected axes
  *     other_segments  of the other axes
  *     breaks          segments + 1 cells

@@ -297,13 +297,18 @@ impl Case {
         }
     }
 
-    /// How many values of `all`, `each` and `in_turn` differ from the source's, where every cell was -1 before. The source is
-    /// asked at the nearer end for a parameter outside.
+    /// How many values of `all`, `each` and `in_turn` differ from the source's, where every cell was -1 before. For a parameter
+    /// outside, the value is the source's at the nearer end, and every derivative +0.
     fn differences(&self, xs: &[f64]) -> usize {
         let room = || -> [Vec<f64>; 4] { std::array::from_fn(|_| vec![-1.; xs.len() * self.d]) };
         let mut source = room();
         let inside: Vec<f64> = xs.iter().map(|x| x.clamp(self.start, self.end)).collect();
         self.source(&inside, &mut source);
+        for (x, [_, dq, ddq, dddq]) in xs.iter().zip(rows(&mut source, self.d)) {
+            if *x < self.start || self.end < *x {
+                [dq, ddq, dddq].map(|order| order.fill(0.));
+            }
+        }
         let mut count = 0;
         for formed in [false, true] {
             let (mut many, mut single, mut turns) = (room(), room(), room());
@@ -377,6 +382,7 @@ fn compare(random: &mut Random) {
         if !case.clamp || random.next().is_multiple_of(2) {
             xs.iter_mut().for_each(|x| *x = x.clamp(range.0, range.1));
         } else {
+            xs.extend([range.0.next_down(), range.1.next_up(), -0., -f64::MAX, f64::MAX]);
             xs.extend([range.0 - 1., range.1 + 1., f64::NEG_INFINITY, f64::INFINITY]);
         }
         values += 16 * d * xs.len();

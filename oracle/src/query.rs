@@ -91,11 +91,18 @@ impl Queries {
         for (i, x) in parameters.iter().enumerate() {
             answered_at.push(self.ranged(*x).ok_or((22, Some(i)))?);
         }
-        Ok(reach::evaluate(&self.curve.formed(), &answered_at))
+        let mut values = reach::evaluate(&self.curve.formed(), &answered_at);
+        let d = self.curve.d;
+        for (x, orders) in parameters.iter().zip(values.chunks_exact_mut(4 * d)) {
+            if *x < self.curve.start || self.curve.end < *x {
+                orders[d..].fill(0.);
+            }
+        }
+        Ok(values)
     }
 
-    /// "Mode Error refuses a parameter outside start to end. Mode Clamp answers there as at the nearer
-    /// end"; 22 for a NaN in both.
+    /// "Mode Error refuses a parameter outside start to end"; 22 for a NaN in both modes. "Outside start to
+    /// end, Clamp keeps the end's value and gives +0 for derivatives one to three" (document 02, request 2).
     fn ranged(&self, x: f64) -> Option<f64> {
         let (start, end) = (self.curve.start, self.curve.end);
         if x.is_nan() {

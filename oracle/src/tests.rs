@@ -398,8 +398,9 @@ fn queries_check_in_order() {
     assert_eq!(number(&query), Some(24));
 }
 
-/// A value of 2 and a slope of 1 at 1; outside, the nearer end in mode Clamp, and 22 in mode Error; a NaN
-/// is 22 in both. Cells behind those asked for stay, and on a refusal all.
+/// A value of 2 and a slope of 1 at 1, and a slope of 1 at both ends; outside, in mode Clamp, the end's value
+/// and a slope of +0, and 22 in mode Error; a NaN is 22 in both. Cells behind those asked for stay, and on a
+/// refusal all.
 #[test]
 fn queries_outside_and_their_cells() {
     let told = |x, order, clamp| line_query(x, order, clamp).single();
@@ -408,15 +409,21 @@ fn queries_outside_and_their_cells() {
         cells: cells.to_vec(),
     };
     let m = MARK;
-    let slices = |value: f64| given(&[7., value, 0., 1., m, m, m, m, m, m, m]);
-    assert_eq!(told(1., 1, false), slices(2.));
+    let slices = |value: f64, slope: f64| given(&[7., value, 0., slope, m, m, m, m, m, m, m]);
+    assert_eq!(told(1., 1, false), slices(2., 1.));
     for (x, value) in [
         (f64::NEG_INFINITY, 0.),
         (-1.5, 0.),
         (2.5, 3.),
         (f64::MAX, 3.),
     ] {
-        assert_eq!(told(x, 1, true), slices(value));
+        let answer = told(x, 1, true);
+        assert_eq!(answer, slices(value, 0.));
+        assert!(answer.cells[2..4].iter().all(|v| v.to_bits() == 0));
+    }
+    for clamp in [false, true] {
+        assert_eq!(told(-1., 1, clamp), slices(0., 1.));
+        assert_eq!(told(2., 1, clamp), slices(3., 1.));
     }
     let values = given(&[7., 2., m, m, m, m, m, m, m, m, m]);
     assert_eq!(told(1., 0, false), values);

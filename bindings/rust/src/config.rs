@@ -29,7 +29,8 @@ impl From<f64> for SmoothingTolerance {
 pub enum OutOfRangeMode {
     /// A refusal.
     Error,
-    /// The answer at the nearer end. A NaN is refused all the same.
+    /// The value at the nearer end, and +0 for every derivative: past its ends the curve stands still. At
+    /// the ends themselves the derivatives are the curve's own. A NaN is refused all the same.
     Clamp,
 }
 

@@ -8,3 +8,4 @@ pub mod Filled
 pub mod Columns
 pub mod Rooms
 pub mod Answered
+pub mod Standing

@@ -10,6 +10,7 @@ use Rattle.window.specs.Cells.{at}
 use Rattle.window.specs.Rows.{join, listOf}
 use Rattle.curve.specs.declared.Curve.{Curve}
 use Rattle.query.specs.declared.segment.Derivatives.{Derivatives}
+use Rattle.query.specs.declared.range.Ranged.{Ranged}
 use Rattle.query.specs.declared.entry.Answer.{Answer}
 use Rattle.query.specs.declared.entry.Answer.the-variants.{Done, Malformed, OrderAboveThree, TooShort, Outside}
 use Rattle.query.specs.declared.entry.Answers.{Answers}
@@ -18,7 +19,7 @@ use Rattle.curve.specs.First.{firstOf}
 use Rattle.curve.specs.Places.{axisPlace}
 use Rattle.curve.specs.Form.{Slices, wellFormed}
 use Rattle.query.specs.Segment.{located, axisAt}
-use Rattle.query.specs.Row.{Outputs, filled}
+use Rattle.query.specs.Row.{Outputs, filled, standing}
 use Rattle.query.specs.Range.{rangedOf}
 
 -- `end - start`
@@ -39,9 +40,9 @@ axisDerivatives c s x a =
     axisAt (s .coefficients) (s .otherCoefficients) (c .k) (c .d - c .k) (axisPlace (c .axes) (c .k) a) (located (s .breaks) (normalised c x))
     (located (s .otherBreaks) (normalised c x)) (scaleOf c)
 
--- one order of every axis at x: d cells
-abbrev pub columnOf : (Derivatives → Float) → Curve → Slices → Float → List Float
-columnOf part c s x = listOf (c .d) (λ a. part (axisDerivatives c s x a))
+-- one order of every axis, of a query that is answered: d cells
+abbrev pub columnOf : (Derivatives → Float) → Curve → Slices → Ranged → List Float
+columnOf part c s r = listOf (c .d) (λ a. part (standing (r .outside) (axisDerivatives c s (r .at) a)))
 
 -- a call's number, 0 for an answer; of many parameters the place of the first that is refused, otherwise 0; what the four slices hold
 -- after it
@@ -70,7 +71,7 @@ checked c s order needed o next =
 unfoldable pub evaluateOf : Curve → Slices → Float → ℕ → Outputs → Outcome
 evaluateOf c s x order o =
     checked c s order (c .d) o
-    (cond (rangedOf c x .refused) (outcome 22 0 o) (outcome 0 0 (filled order 0 (λ part. columnOf part c s (rangedOf c x .at)) o)))
+    (cond (rangedOf c x .refused) (outcome 22 0 o) (outcome 0 0 (filled order 0 (λ part. columnOf part c s (rangedOf c x)) o)))
 
 -- the first of the parameters that is refused; their count where none is
 abbrev pub firstRefused : Curve → List Float → ℕ
@@ -78,7 +79,7 @@ firstRefused c xs = firstOf (length xs) (λ i. rangedOf c (at xs i) .refused)
 
 -- one order of every axis at every parameter, parameter after parameter: each as the single query has it
 abbrev pub columnsOf : (Derivatives → Float) → Curve → Slices → List Float → List Float
-columnsOf part c s xs = join (length xs) (λ i. columnOf part c s (rangedOf c (at xs i) .at))
+columnsOf part c s xs = join (length xs) (λ i. columnOf part c s (rangedOf c (at xs i)))
 
 -- Queries at all of xs in one call. The first that is refused refuses the call.
 unfoldable pub evaluateAllOf : Curve → Slices → List Float → ℕ → Outputs → Outcome

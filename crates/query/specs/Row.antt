@@ -1,11 +1,12 @@
 -- The cells that a query writes.
-use mathlib.Core.Bool.{true}
+use mathlib.Core.Bool.{Bool, true, cond}
 use mathlib.Core.List.{List}
 use mathlib.Core.Path.{_≡_}
 use Prim.Native.Nat.{ℕ, _+_, _≤_}
 use lib.Dec.{leb}
 use lib.ListN.{length, getD}
 use lib.Ieee.{Float}
+use Rattle.window.specs.Cells.{+0}
 use Rattle.window.specs.Rows.{listOf}
 use Rattle.curve.specs.Put.{putAt}
 use Rattle.query.specs.declared.segment.Derivatives.{Derivatives}
@@ -34,7 +35,11 @@ filled order a f o =
     outputs (putAt true a (f (λ v. v .value)) (o .q)) (putAt (leb 1 order) a (f (λ v. v .first)) (o .dq))
     (putAt (leb 2 order) a (f (λ v. v .second)) (o .ddq)) (putAt (leb 3 order) a (f (λ v. v .third)) (o .dddq))
 
--- one order of the k selected and the m other axes, which stand at these places of their sets
-abbrev pub rowOf : (Derivatives → Float) → List Float → List Float → ℕ → ℕ → List ℕ → Local → Local → Float → List Float
-rowOf part selected other k m places here there scale =
-    listOf (k + m) (λ a. part (axisAt selected other k m (getD places a 0) here there scale))
+-- document 02, request 2: "Outside start to end, Clamp keeps the end's value and gives +0 for derivatives one to three"
+unfoldable pub standing : Bool → Derivatives → Derivatives
+standing outside v = cond outside (record { value = v .value; first = +0; second = +0; third = +0 }) v
+
+-- one order of the k selected and the m other axes, which stand at these places of their sets, for a parameter outside start to end or not
+abbrev pub rowOf : (Derivatives → Float) → List Float → List Float → ℕ → ℕ → List ℕ → Local → Local → Float → Bool → List Float
+rowOf part selected other k m places here there scale outside =
+    listOf (k + m) (λ a. part (standing outside (axisAt selected other k m (getD places a 0) here there scale)))

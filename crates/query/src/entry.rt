@@ -136,7 +136,8 @@ fn write_rows<'a>(
     let mut other_span = other_near;
     let mut i = 0;
     while i < xs.len() {
-        let u = (range::answered_at(curve, xs[i], inside) - start) / whole;
+        let ranged = range::answered(curve, xs[i], inside);
+        let u = (ranged.at - start) / whole;
         let here = segment::locate(breaks, u, span);
         let there = segment::locate(other_breaks, u, other_span);
         span = here.span;
@@ -150,6 +151,7 @@ fn write_rows<'a>(
             here,
             there,
             scale,
+            ranged.outside,
             order,
             i * d,
             q,

@@ -6,10 +6,12 @@ use curve::Curve;
 use curve::Mode;
 use curve::count::one_if;
 
-// Whether a query is refused, and otherwise the parameter at which the curve answers it.
+// Whether a query is refused, and otherwise the parameter at which the curve answers it, and whether the
+// query's own lies outside start to end, where all derivatives are +0.
 pub struct Ranged {
     pub refused: bool,
     pub at: f64,
+    pub outside: bool,
 }
 
 // Beyond an end.
@@ -20,10 +22,12 @@ fn beyond(mode: Mode, end: f64) -> Ranged
         Mode::Error => Ranged {
             refused: true,
             at: end,
+            outside: true,
         },
         Mode::Clamp => Ranged {
             refused: false,
             at: end,
+            outside: true,
         },
     }
 }
@@ -44,6 +48,7 @@ pub fn in_range(curve: Curve, x: f64) -> Ranged
     Ranged {
         refused: x != x,
         at: x,
+        outside: false,
     }
 }
 
@@ -62,14 +67,17 @@ pub fn all_inside(curve: Curve, xs: &[f64]) -> bool
     inside == xs.len()
 }
 
-// The parameter at which the curve answers the query at x, which is x itself where it is inside.
-pub fn answered_at(curve: Curve, x: f64, inside: bool) -> f64
+// The query at x, which the curve answers at x itself where that is known to be inside.
+pub fn answered(curve: Curve, x: f64, inside: bool) -> Ranged
     requires { ⌜ (inside ≡ true → rangedOf curve x ≡ within x) ⌝ }
-    ensures { λ r. ⌜ r ≡ rangedOf curve x .at ⌝ }
+    ensures { λ r. ⌜ r ≡ rangedOf curve x ⌝ }
 {
     if inside {
-        return x;
+        return Ranged {
+            refused: false,
+            at: x,
+            outside: false,
+        };
     }
-    let ranged = in_range(curve, x);
-    ranged.at
+    in_range(curve, x)
 }

@@ -138,7 +138,13 @@ fn queries(r: &mut Random, path: &Path, curve: &Curve, seen: &mut Seen) {
     let refused = |x: f64| x.is_nan() || !clamp && !(start..=end).contains(&x);
     let first = xs.iter().position(|x| refused(*x));
     let inside: Vec<f64> = xs.iter().map(|x| x.clamp(start, end)).collect();
-    let rows = reach::evaluate(curve, &inside);
+    let mut rows = reach::evaluate(curve, &inside);
+    // Outside, where it is not refused, the curve stands still.
+    for (x, row) in xs.iter().zip(rows.chunks_exact_mut(4 * d)) {
+        if *x < start || end < *x {
+            row[d..].fill(0.);
+        }
+    }
     let order = |o: usize| -> Vec<f64> {
         let rows = rows.chunks_exact(4 * d);
         rows.flat_map(|row| &row[o * d..(o + 1) * d])

@@ -23,7 +23,7 @@ standard input is read.
       --samples FILE       writes values and three derivatives as CSV
       --count N            how many samples (201)
       --from X, --to X     the samples' range (that of the parameters)
-      --mode error|clamp   samples outside that of the parameters: refused, or answered as at the nearer end (error)
+      --mode error|clamp   samples outside that of the parameters: refused, or standing still at the nearer end (error)
       --picture FILE       writes a picture as SVG: waypoints, curve, tolerance, and the distance between curve and line
   -h, --help               prints this
 

@@ -25,7 +25,7 @@ use Rattle.query.proofs.entry.write_rows.Tie as tie
 
 -- one order of every axis at parameter j
 abbrev column : Curve → Slices → List Float → (Derivatives → Float) → ℕ → List Float
-column c s xs part j = columnOf part c s (rangedOf c (at xs j) .at)
+column c s xs part j = columnOf part c s (rangedOf c (at xs j))
 
 abbrev Inv-loop : tie.InvT-loop
 Inv-loop curve table whole scale breaks coefficients other-breaks other-coefficients near other-near xs inside order q₀ dq₀ ddq₀ dddq₀
@@ -66,24 +66,24 @@ loop-holds c = let b = c .before .before .before .before .before .before .before
     let n = b .pre .1 .1 .1 .1 .0 in
     (omega arith, n .0, n .1, as-long (given b), filled-none (b .args .order) 0 (given b), λ j e. absurd (omega arith))
 
-answered-at-requires : tie.Need-answered-at-requires Inv-loop μ-loop
-answered-at-requires c κs = λ h. start (c .before .before) .pre .1 .1 .1 .0 h (c .before .before .loop .i) (c .before .loop-test .taken)
+answered-requires : tie.Need-answered-requires Inv-loop μ-loop
+answered-requires c κs = λ h. start (c .before .before) .pre .1 .1 .1 .0 h (c .before .before .loop .i) (c .before .loop-test .taken)
 
 locate-requires : tie.Need-locate-requires Inv-loop μ-loop
-locate-requires c κs = let l = c .before .before .before in (set-rising _ _ _ _ (well-formed (start l) .set-formed), l .loop .inv .1)
+locate-requires c κs = let l = c .before .before .before .before in (set-rising _ _ _ _ (well-formed (start l) .set-formed), l .loop .inv .1)
 
 locate-requires-2 : tie.Need-locate-requires-2 Inv-loop μ-loop
-locate-requires-2 c κs = let l = c .before .before .before .before in (
+locate-requires-2 c κs = let l = c .before .before .before .before .before in (
   others-rising _ _ _ _ (well-formed (start l) .others-formed),
   l .loop .inv .2,
 )
 
 mul-put-axes : tie.Need-mul-put-axes Inv-loop μ-loop
-mul-put-axes c = let l = c .before .before .before .before .before in
+mul-put-axes c = let l = c .before .before .before .before .before .before in
     let b = start l in
     let g = b .args in
     let r = row-end (l .loop .i) (length (g .xs .now)) (g .curve .d) (length (g .q .now))
-    (c .before .before .before .before .loop-test .taken) (b .pre .1 .1 .1 .1 .1 .0) in
+    (c .before .before .before .before .before .loop-test .taken) (b .pre .1 .1 .1 .1 .1 .0) in
     omega (arith, r, b .good)
 
 -- the place of an axis is below d
@@ -99,14 +99,14 @@ places-below b a h =
 
 put-axes-requires : tie.Need-put-axes-requires Inv-loop μ-loop
 put-axes-requires c κs = let t = c .before .before .before .before in
-    let l = t .before .before .before .before .before in
+    let l = t .before .before .before .before .before .before in
     let b = start l in
     let g = b .args in
     let f = well-formed b in
     let d = g .curve .d in
     let n = length (g .xs .now) in
     let i = l .loop .i in
-    let r = row-end i n d (n * d) (t .before .before .before .before .loop-test .taken) (omega arith) in
+    let r = row-end i n d (n * d) (t .before .before .before .before .before .loop-test .taken) (omega arith) in
     let o = outputs (l .loop .q) (l .loop .dq) (l .loop .ddq) (l .loop .dddq) in (
       (
         omega (arith, f .k-high, f .d-high),
@@ -122,26 +122,26 @@ put-axes-requires c κs = let t = c .before .before .before .before in
 
 add-i : tie.Need-add-i Inv-loop μ-loop
 add-i c = let t = c .before .before .before .before .before .before .before .before .before .before .before .before .before in
-    omega (arith, t .before .before .before .before .loop-test .taken, start (t .before .before .before .before .before) .good)
+    omega (arith, t .before .before .before .before .before .loop-test .taken, start (t .before .before .before .before .before .before) .good)
 
 loop-again : tie.Need-loop-again Inv-loop μ-loop
 loop-again c = let p = c .before .before .before .before .before .before .before .before in
     let t = p .before .before .before .before .before in
-    let l = t .before .before .before .before .before in
+    let l = t .before .before .before .before .before .before in
     let b = start l in
     let g = b .args in
     let f = well-formed b in
     let d = g .curve .d in
     let i = l .loop .i in
-    let h = t .before .before .before .before .loop-test .taken in
-    let x = t .before .before .answered-at .ensures in
+    let h = t .before .before .before .before .before .loop-test .taken in
+    let x = t .before .before .before .answered .ensures in
     let w = b .pre .1 .1 .0 in
     let o = outputs (l .loop .q) (l .loop .dq) (l .loop .ddq) (l .loop .dddq) in
-    let e = rows-columns (g .curve) (read b) (rangedOf (g .curve) (at (g .xs .now) i) .at) (g .table .now) (f .k-high) (b .pre .1 .0)
+    let e = rows-columns (g .curve) (read b) (rangedOf (g .curve) (at (g .xs .now) i)) (g .table .now) (f .k-high) (b .pre .1 .0)
     (g .order)
     (i * d) o _ _ _ _ _ _ x (w .0) (w .1) (t .before .locate .ensures) (t .locate2 .ensures) (p .put-axes .ensures) in
     let r = rows-next (g .order) 0 d i (length (g .xs .now)) (i * d) (column (g .curve) (read b) (g .xs .now)) (given b) o _ (omega arith)
-    (λ part j. column-length part (g .curve) (read b) (rangedOf (g .curve) (at (g .xs .now) j) .at)) h
+    (λ part j. column-length part (g .curve) (read b) (rangedOf (g .curve) (at (g .xs .now) j))) h
     (room-for (g .order) (0 + length (g .xs .now) * d) (length (g .xs .now) * d) (given b) (given b) (omega arith) (as-long (given b))
     (b .pre .1 .1 .1 .1 .1))
     (l .loop .inv .4) e in (
@@ -171,7 +171,7 @@ write-rows-spec =
     loop-holds
     (λ c. omega arith)
     (λ c. omega arith)
-    answered-at-requires
+    answered-requires
     locate-requires
     locate-requires-2
     mul-put-axes

@@ -8,21 +8,12 @@ use native.Mathlib.Omega.{arith}
 use lib.ListN.{length}
 use lib.Ieee.{Float, le}
 use Rattle.window.specs.Cells.{at}
-use Rattle.arith.proofs.FloatOrder.{le-self, le-not-lt}
-use Rattle.curve.specs.declared.Curve.{Curve}
-use Rattle.query.specs.Range.{within, rangedOf}
-use Rattle.curve.proofs.Order.{and-parts, le-number}
+use Rattle.curve.proofs.Order.{and-parts}
 use Rattle.curve.proofs.Firsts.{every-at}
 use Rattle.curve.proofs.Counting.{Counted, counted-none, counted-next, both}
+use Rattle.query.proofs.Standing.{inside-within}
 use Rattle.query.proofs.range.all_inside.Statement.{statement}
 use Rattle.query.proofs.range.all_inside.Tie as tie
-
--- a parameter that is not outside
-inside-within : (c : Curve) (x : Float) → (le (c .start) x && le x (c .end)) ≡ true → rangedOf c x ≡ within x
-unfolding rangedOf
-inside-within c x h =
-    let p = and-parts (le (c .start) x) (le x (c .end)) h in
-    rw (le-not-lt (c .start) x (p .0), le-not-lt x (c .end) (p .1), le-number x (le-self x (c .end) (p .1) .0))
 
 -- parameter j is not outside start to end
 abbrev inside-at : List Float → Float → Float → ℕ → Bool
@@ -58,7 +49,9 @@ returns c = λ h i l.
     let e : c .before .loop .i ≡ length (a .xs .now) = omega arith in
     let k = rw e at (c .before .loop .inv .1 .1) in
     let t = inside-at (a .xs .now) (a .curve .start) (a .curve .end) in
-    inside-within (a .curve) (at (a .xs .now) i) (every-at t (length (a .xs .now)) (sym k ∙ h) i l)
+    let p = and-parts (le (a .curve .start) (at (a .xs .now) i)) (le (at (a .xs .now) i) (a .curve .end))
+    (every-at t (length (a .xs .now)) (sym k ∙ h) i l) in
+    inside-within (a .curve) (at (a .xs .now) i) (p .0) (p .1)
 
 pub all-inside-spec : {M : Type 1} → statement M
 all-inside-spec =
