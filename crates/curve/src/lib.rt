@@ -5,7 +5,7 @@ pub mod count; // count.rt: counts without a branch
 pub mod form; // form.rt: whether a curve is well formed
 pub mod place; // place.rt: where an axis stands in a list of axes
 
-// What a parameter outside start to end gets: a refusal, or the answer at the nearer end.
+// What a parameter outside start to end gets: a refusal, or the value at the nearer end, standing still.
 pub enum Mode {
     Error,
     Clamp,
