@@ -1,10 +1,12 @@
-// Pairs of ends: an interval of numbers, or none. Each operation takes all combinations of ends, each
-// rounded once, then the lowest and the highest of them, then the next number outward.
+// Pairs of ends: an interval of numbers, or none. A sum or a difference takes the exact results of two
+// ends, rounded downward and upward. A product or a quotient takes all combinations of ends, each rounded
+// once, then the lowest and the highest of them, then the next number outward.
 ghost use mathlib.Core.Bool.{cond};
 ghost use mathlib.Core.Path.{_≡_};
 ghost use lib.Ieee.{binary64};
 ghost use Rattle.fraction.specs.Pair.{addPairs, dividePairs, finiteEnds, highest, largestAbsolute, lowest, multiplyPairs, none, outward, point, subtractPairs};
 ghost use Rattle.certificate.specs.Structs.{endsOf};
+use crate::directed;
 
 // The pair from `low` to `high`, if `good`; otherwise none.
 pub struct Ends {
@@ -79,31 +81,29 @@ fn widened(p: f64, q: f64, r: f64, s: f64) -> Ends
     kept(float::is_finite(low), kept(float::is_finite(high), e))
 }
 
-// The four operations.
+// x + y: the sum of the low ends downward, that of the high ends upward.
 pub fn add(x: Ends, y: Ends) -> Ends
     ensures { λ r. ⌜ endsOf r ≡ addPairs binary64 (endsOf x) (endsOf y) ⌝ }
 {
-    let e = widened(
-        x.low + y.low,
-        x.low + y.high,
-        x.high + y.low,
-        x.high + y.high,
+    let e = finite_ends(
+        directed::sum_down(x.low, y.low),
+        directed::sum_up(x.high, y.high),
     );
     kept(x.good, kept(y.good, e))
 }
 
+// x - y: the same of x and -y.
 pub fn subtract(x: Ends, y: Ends) -> Ends
     ensures { λ r. ⌜ endsOf r ≡ subtractPairs binary64 (endsOf x) (endsOf y) ⌝ }
 {
-    let e = widened(
-        x.low - y.low,
-        x.low - y.high,
-        x.high - y.low,
-        x.high - y.high,
+    let e = finite_ends(
+        directed::sum_down(x.low, -y.high),
+        directed::sum_up(x.high, -y.low),
     );
     kept(x.good, kept(y.good, e))
 }
 
+// x * y and x / y: all combinations of ends, each rounded once, then moved outward.
 pub fn multiply(x: Ends, y: Ends) -> Ends
     ensures { λ r. ⌜ endsOf r ≡ multiplyPairs binary64 (endsOf x) (endsOf y) ⌝ }
 {

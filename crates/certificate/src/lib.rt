@@ -1,4 +1,5 @@
 // The certified figure: how far an axis of a curve can lie from the lines between its waypoints.
+mod directed; // directed.rt: sums rounded downward and upward
 pub mod ends; // ends.rt: pairs of ends
 pub mod intersection; // intersection.rt: the figure of one intersection
 mod walk; // walk.rt: the intersections of an axis, one after the other

@@ -7,6 +7,8 @@ use lib.ListN.{replicate}
 use lib.Ieee.{Float, binary64, ofBits, div, ofInt, le, sub, lt, eq, mul, add, neg, isNan, toBits}
 use Rattle.window.specs.Cells.{+0, zeros}
 use Rattle.arith.specs.Loop.{each, turns}
+use Rattle.fraction.specs.DirectedSum.{downwardSum, plainZero, upwardSum}
+use Rattle.fraction.specs.Rational.{_+q_, atMostq}
 use Rattle.fraction.specs.Pair.{highest, lowest, addPairs, dividePairs, multiplyPairs, subtractPairs, finiteEnds, outward, moved, largestAbsolute}
 use Rattle.fraction.specs.NextNumber.{nextDown, nextUp}
 use Rattle.request.specs.declared.parameters.Spacing.{Spacing}
@@ -71,8 +73,9 @@ numbers = refl
 
 -- the figure of the curve 1/2 against the line 0
 pub half : certifyOf (curve 1 1) (slices (+0 ∷ one ∷ []) (float 0x3fe0_0000_0000_0000 ∷ zeros 5) [] []) (+0 ∷ +0 ∷ []) 2 Even [] 0
-    ≡ outcome 0 (figure (float 0x3fe0_0000_0000_0012))
+    ≡ outcome 0 (figure (float 0x3fe0_0000_0000_0010))
 unfolding certifyOf unfit any misplaced miscounted parameterOf unreliable lengthOf normalisedOf wellFormed axesFormed firstOf setFormed
     othersFormed rangeFormed ofBits div ofInt le sub lt eq figureOf each turns highest lowest bernstein addPairs dividePairs multiplyPairs
-    subtractPairs power finiteEnds outward moved mul add nextDown nextUp isNan toBits neg largestAbsolute
+    subtractPairs power finiteEnds outward moved mul add nextDown nextUp isNan toBits neg largestAbsolute downwardSum upwardSum
+    plainZero atMostq _+q_
 half = refl

@@ -30,7 +30,8 @@ unfolding larger absoluteEnd
 intersectionFigure x = each (λ k so-far. larger so-far (absoluteEnd (differenceBernstein ends x k))) 0 6 (figure +0)
 
 -- The segment from a to b with the coefficients p, and the interval from s to s′ with the waypoints y and y′. left is the larger of a and
--- s, right the smaller of b and s′; of equal ones (0 and -0 are) either will do, since every difference is moved outward.
+-- s, right the smaller of b and s′; of equal ones (0 and -0 are) either will do, since they enter differences alone, whose ends depend on
+-- the exact result.
 abbrev pub meeting : Float → Float → (ℕ → Float) → Float → Float → Float → Float → Intersection
 meeting a b p s s′ y y′ =
     record {

@@ -1,14 +1,14 @@
--- For x from a to b and y from c to d: what bounds the four combinations of ends bounds x + y, x - y, x * y, and x / y where 0 < c.
+-- For x from a to b and y from c to d: what bounds the four combinations of ends bounds x * y, and x / y where 0 < c.
 use mathlib.Core.List.{[], _∷_}
 use mathlib.Core.Logic.{_⊎_, inl, inr}
 use mathlib.Core.Path.{_≡_, subst}
 use lib.IntN.{pos}
-use Rattle.fraction.specs.Order.{le-one, le-prod, le-two}
-use Rattle.fraction.specs.Rational.{Above, _*q_, _+q_, _-q_, _/q_, _≤q_, inverse, ℚ, 𝟘}
+use Rattle.fraction.specs.Order.{le-one, le-prod}
+use Rattle.fraction.specs.Rational.{Above, _*q_, _/q_, _≤q_, inverse, ℚ, 𝟘}
 use Rattle.fraction.specs.RationalRing.{rationalRing}
-use Rattle.fraction.specs.Ring.{_⊕_, _⊖_, _⊗_, con, solve, v0, v1, v2, v3}
+use Rattle.fraction.specs.Ring.{_⊗_, con, solve, v0, v1, v2}
 use Rattle.fraction.proofs.Inverse.{inverse-antitone, inverse-is, inverse-nonnegative}
-use Rattle.fraction.proofs.Rational.{<q-weaken, <q-≤q-trans, rationalOrder, ≤q-cases, ≤q-trans, ≤q-whole}
+use Rattle.fraction.proofs.Rational.{<q-weaken, <q-≤q-trans, rationalOrder, ≤q-cases, ≤q-trans}
 
 -- z lies between the lowest and the highest of the four p, q, r, s: what is at most all of them is at most z, and so from above
 pub record Spans (p q r s z : ℚ) : Type 0 where
@@ -65,24 +65,6 @@ product-below x a b y c d l u m v w h₁ h₂ h₃ h₄ = elim (ends-up x a b y 
     ])
 
 module _ (x a b y c d : ℚ) (l : a ≤q x) (u : x ≤q b) (m : c ≤q y) (v : y ≤q d) where
-  -- x + y lies between the sums of ends
-  pub sum-spans : Spans (a +q c) (a +q d) (b +q c) (b +q d) (x +q y)
-  sum-spans = record {
-    low = λ w p q r s. ≤q-trans w (a +q c) (x +q y) p (le-two rationalRing _≤q_ rationalOrder (a ∷ x ∷ c ∷ y ∷ []) (v0 ⊕ v2) (v1 ⊕ v3)
-        (con (pos 1)) v0 v1 (con (pos 1)) v2 v3 tt (≤q-whole 1) l (≤q-whole 1) m);
-    high = λ w p q r s. ≤q-trans (x +q y) (b +q d) w (le-two rationalRing _≤q_ rationalOrder (x ∷ b ∷ y ∷ d ∷ []) (v0 ⊕ v2) (v1 ⊕ v3)
-        (con (pos 1)) v0 v1 (con (pos 1)) v2 v3 tt (≤q-whole 1) u (≤q-whole 1) v) s;
-  }
-
-  -- x - y lies between the differences of ends
-  pub difference-spans : Spans (a -q c) (a -q d) (b -q c) (b -q d) (x -q y)
-  difference-spans = record {
-    low = λ w p q r s. ≤q-trans w (a -q d) (x -q y) q (le-two rationalRing _≤q_ rationalOrder (a ∷ x ∷ y ∷ d ∷ []) (v0 ⊖ v3) (v1 ⊖ v2)
-        (con (pos 1)) v0 v1 (con (pos 1)) v2 v3 tt (≤q-whole 1) l (≤q-whole 1) v);
-    high = λ w p q r s. ≤q-trans (x -q y) (b -q c) w (le-two rationalRing _≤q_ rationalOrder (x ∷ b ∷ c ∷ y ∷ []) (v0 ⊖ v3) (v1 ⊖ v2)
-        (con (pos 1)) v0 v1 (con (pos 1)) v2 v3 tt (≤q-whole 1) u (≤q-whole 1) m) r;
-  }
-
   -- x * y lies between the products of ends
   pub product-spans : Spans (a *q c) (a *q d) (b *q c) (b *q d) (x *q y)
   product-spans = record { low = product-above x a b y c d l u m v; high = product-below x a b y c d l u m v }

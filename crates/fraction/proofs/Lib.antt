@@ -4,12 +4,14 @@ pub mod Bernstein
 pub mod Binomial
 pub mod Comparison
 pub mod Corners
+pub mod DirectedSum
 pub mod Encoding
 pub mod Examples
 pub mod Inverse
 pub mod Lowest
 pub mod Magnitude
 pub mod Monotone
+pub mod Multiple
 pub mod Nearest
 pub mod Neighbours
 pub mod NextNumber
@@ -21,4 +23,5 @@ pub mod Rational
 pub mod RoundedPlace
 pub mod Rounding
 pub mod Sum
+pub mod SumTest
 pub mod Value

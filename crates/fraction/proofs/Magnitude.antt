@@ -65,7 +65,7 @@ magnitude-zero h H = ap (magnitude h) (plain h) ∙ magnitude-at h 0 0 H (inr re
     plain h = omega arith
 
 -- every b is such a k * h + q
-parts : (h b : ℕ) → 0 < h → (x : ℕ) → b / h ≡ x → ((h ≤ b - (x - 1) * h) ⊎ (x - 1 ≡ 0)) × (b - (x - 1) * h < 2 * h)
+pub parts : (h b : ℕ) → 0 < h → (x : ℕ) → b / h ≡ x → ((h ≤ b - (x - 1) * h) ⊎ (x - 1 ≡ 0)) × (b - (x - 1) * h < 2 * h)
     × (b ≡ (x - 1) * h + (b - (x - 1) * h))
 parts h b H zero e = (inr refl, omega (arith, lt-div-mul-add {a = b} H, ap (λ (z : ℕ). z * h) e), omega arith)
 parts h b H (suc x) e =
@@ -78,7 +78,7 @@ parts h b H (suc x) e =
     pr k = omega arith
 
 -- the next value up is one more of the same unit
-magnitude-suc : (h b : ℕ) → 0 < h → magnitude h (suc b) ≡ suc (b - (b / h - 1) * h) * 2 ^ (b / h - 1)
+pub magnitude-suc : (h b : ℕ) → 0 < h → magnitude h (suc b) ≡ suc (b - (b / h - 1) * h) * 2 ^ (b / h - 1)
 magnitude-suc h b H =
     let k = b / h - 1 in
     let q = b - k * h in

@@ -25,7 +25,7 @@ use Rattle.fraction.proofs.Magnitude.{magnitude-zero}
 use Rattle.fraction.proofs.Neighbours.{rounded-encoded}
 use Rattle.fraction.proofs.Rational.{absolute-above, absolute-le, rationalOrder, ≤q-whole}
 use Rattle.fraction.proofs.RoundedPlace.{place, round-middle-above, round-middle-below}
-use Rattle.fraction.proofs.Value.{Encoded, encoded, fraction-le, places-order, signed-mul}
+use Rattle.fraction.proofs.Value.{Encoded, encoded, fraction-le, place-values-order, placeValue, signed-mul}
 
 -- ---- in whole numbers: n is z in the format's units, times z's denominator; R and M are the magnitudes of r and of another number, times
 -- it
@@ -83,15 +83,15 @@ sum-ge true true R M n h =
     )
 
 -- a sum of two fractions of one denominator
-fraction-add : (x y : ℤ) (c : ℕ) (C : 0 < c) → fraction x c C +q fraction y c C ≡ fraction (x +ℤ y) c C
+pub fraction-add : (x y : ℤ) (c : ℕ) (C : 0 < c) → fraction x c C +q fraction y c C ≡ fraction (x +ℤ y) c C
 unfolding _+q_
 fraction-add x y c C =
     eq/ (addFractions (record { numerator = x; denominator = c; positive = C }) (record { numerator = y; denominator = c; positive = C }))
     (record { numerator = x +ℤ y; denominator = c; positive = C })
     (solve integerRing (x ∷ y ∷ pos c ∷ []) ((v0 ⊗ v2 ⊕ v1 ⊗ v2) ⊗ v2) ((v0 ⊕ v1) ⊗ (v2 ⊗ v2)) tt)
 
--- ---- the middles
-module _ (f : Format) (r w : Float) (z : ℚ) (R : Rounded f r z) (F : T (finite r)) (W : Encoded f w) where
+-- ---- the middle of r and the value of the place q of sign t, infinity's place too
+module _ (f : Format) (r : Float) (t : Bool) (q : ℕ) (z : ℚ) (R : Rounded f r z) (F : T (finite r)) where
   rounds-finite : T (finite (round f (R .sign) (R .over) (R .under)))
   rounds-finite = subst (λ (x : Float). T (finite x)) (R .rounds) F
 
@@ -151,41 +151,48 @@ module _ (f : Format) (r w : Float) (z : ℚ) (R : Rounded f r z) (F : T (finite
       ∙ ap (λ (k : ℤ). k *ℤ pos c +ℤ y *ℤ pos c) e ∙ ap (λ (k : ℤ). signed s a *ℤ pos c +ℤ k *ℤ pos c) d
       ∙ ap (λ (k : ℤ). k +ℤ signed t b *ℤ pos c) (signed-mul s a c) ∙ ap (λ (k : ℤ). signed s (a * c) +ℤ k) (signed-mul t b c)
 
+  value-at : value r ≡ placeValue f (R .sign) at
+  unfolding rounded-encoded
+  value-at = rounded-encoded f r z R F .exact
+
+  -- the place's value is below r: z is at least the middle of the two
+  pub place-middle-below : placeValue f t q <q value r → placeValue f t q +q value r ≤q z +q z
+  place-middle-below l =
+      let M = magnitude (hid f) q in
+      let N = magnitude (hid f) at in
+      rw (twice-is, value-at, fraction-add (signed t M) (signed (R .sign) N) (2 ^ low f) (pow-pos (low f)))
+      (fraction-le (signed t M +ℤ signed (R .sign) N) (signed (R .sign) (R .over) +ℤ signed (R .sign) (R .over)) (2 ^ low f) (R .under)
+      (pow-pos (low f)) (R .positive)
+      (rw (
+        spread (signed t M) (signed (R .sign) N) M N (R .under) t (R .sign) refl refl,
+        spread (signed (R .sign) (R .over)) (signed (R .sign) (R .over)) (R .over) (R .over) (2 ^ low f) (R .sign) (R .sign) refl refl,
+      )
+      (sum-le (R .sign) t (N * R .under) (M * R .under) (R .over * 2 ^ low f) (below-place (R .sign) t q
+      (place-values-order f t (R .sign) q at (rw value-at at l))))))
+
+  -- the place's value is above r: z is at most the middle of the two
+  pub place-middle-above : value r <q placeValue f t q → z +q z ≤q value r +q placeValue f t q
+  place-middle-above l =
+      let M = magnitude (hid f) q in
+      let N = magnitude (hid f) at in
+      rw (twice-is, value-at, fraction-add (signed (R .sign) N) (signed t M) (2 ^ low f) (pow-pos (low f)))
+      (fraction-le (signed (R .sign) (R .over) +ℤ signed (R .sign) (R .over)) (signed (R .sign) N +ℤ signed t M) (R .under) (2 ^ low f)
+      (R .positive) (pow-pos (low f))
+      (rw (
+        spread (signed (R .sign) N) (signed t M) N M (R .under) (R .sign) t refl refl,
+        spread (signed (R .sign) (R .over)) (signed (R .sign) (R .over)) (R .over) (R .over) (2 ^ low f) (R .sign) (R .sign) refl refl,
+      )
+      (sum-ge (R .sign) t (N * R .under) (M * R .under) (R .over * 2 ^ low f) (above-place (R .sign) t q
+      (place-values-order f (R .sign) t at q (rw value-at at l))))))
+
+module _ (f : Format) (r w : Float) (z : ℚ) (R : Rounded f r z) (F : T (finite r)) (W : Encoded f w) where
   -- w < r: z is at least the middle of w and r
   pub middle-below : value w <q value r → value w +q value r ≤q z +q z
-  unfolding rounded-encoded
-  middle-below l =
-      let X = rounded-encoded f r z R F in
-      let M = magnitude (hid f) (W .place) in
-      let N = magnitude (hid f) at in
-      rw (twice-is, W .exact, X .exact, fraction-add (signed (W .sign) M) (signed (R .sign) N) (2 ^ low f) (pow-pos (low f)))
-      (fraction-le (signed (W .sign) M +ℤ signed (R .sign) N) (signed (R .sign) (R .over) +ℤ signed (R .sign) (R .over)) (2 ^ low f)
-      (R .under) (pow-pos (low f)) (R .positive)
-      (rw (
-        spread (signed (W .sign) M) (signed (R .sign) N) M N (R .under) (W .sign) (R .sign) refl refl,
-        spread
-            (signed (R .sign) (R .over)) (signed (R .sign) (R .over)) (R .over) (R .over) (2 ^ low f) (R .sign) (R .sign) refl refl,
-      )
-      (sum-le (R .sign) (W .sign) (N * R .under) (M * R .under) (R .over * 2 ^ low f) (below-place (R .sign) (W .sign) (W .place)
-      (places-order f w r W X l)))))
+  middle-below l = rw (W .exact) (place-middle-below f r (W .sign) (W .place) z R F (rw (W .exact) at l))
 
   -- r < w: z is at most the middle of r and w
   pub middle-above : value r <q value w → z +q z ≤q value r +q value w
-  unfolding rounded-encoded
-  middle-above l =
-      let X = rounded-encoded f r z R F in
-      let M = magnitude (hid f) (W .place) in
-      let N = magnitude (hid f) at in
-      rw (twice-is, W .exact, X .exact, fraction-add (signed (R .sign) N) (signed (W .sign) M) (2 ^ low f) (pow-pos (low f)))
-      (fraction-le (signed (R .sign) (R .over) +ℤ signed (R .sign) (R .over)) (signed (R .sign) N +ℤ signed (W .sign) M) (R .under)
-      (2 ^ low f) (R .positive) (pow-pos (low f))
-      (rw (
-        spread (signed (R .sign) N) (signed (W .sign) M) N M (R .under) (R .sign) (W .sign) refl refl,
-        spread
-            (signed (R .sign) (R .over)) (signed (R .sign) (R .over)) (R .over) (R .over) (2 ^ low f) (R .sign) (R .sign) refl refl,
-      )
-      (sum-ge (R .sign) (W .sign) (N * R .under) (M * R .under) (R .over * 2 ^ low f) (above-place (R .sign) (W .sign) (W .place)
-      (places-order f r w X W l)))))
+  middle-above l = rw (W .exact) (place-middle-above f r (W .sign) (W .place) z R F (rw (W .exact) at l))
 
 nearer : (z r w : ℚ) → (w <q r → w +q r ≤q z +q z) → (r <q w → z +q z ≤q r +q w) → absolute (z -q r) ≤q absolute (z -q w)
 nearer z r w below above = absolute-le (z -q r) m (lower (atMostq r w) (λ t. t) below) (upper (atMostq w r) (λ t. t) above)

@@ -1,118 +1,80 @@
 -- A number of a format rounds to itself; so what is at most it rounds to at most it, and what is at least it to at least it.
 use mathlib.Core.Path.{_≡_, refl, sym, ap, subst, _∙_}
-use mathlib.Core.Bool.{Bool, true, false, not, _&&_}
-use Prim.Native.Nat.{ℕ, zero, suc, _+_, _-_, _*_, _%_, _^_, _≤_, _<_}
+use mathlib.Core.Bool.{true, false, not, cond}
+use Prim.Native.Nat.{ℕ, suc, _+_, _-_, _*_, _/_, _^_, _<_}
+use native.Mathlib.Nat.{le-of-lt}
 use native.Mathlib.Omega.{arith}
-use native.Mathlib.Nat.{mul-assoc}
-use native.Mathlib.Decide.{decLt}
-use lib.Dec.{T, eqb, leb, ltb, ltb→lt, leb→le}
-use lib.IntN.{ℤ, pos, negsuc}
-use lib.Pow.{pow-add, pow-pos, pow-lt, pow-mono, shl-lt}
-use lib.Ieee.{Float, nan, inf, fin, Format, prec, emax, low, up, down, isNan, fits, lt, le, round}
-use lib.Ieee.Fits.{and-l, and-r, down-pos, reach}
+use lib.Dec.{T}
+use lib.Pow.{pow-pos}
+use lib.Ieee.{Float, nan, inf, fin, Format, prec, low, hid, ones, top, isNan, fits, lt, le, ofBits, round}
+use lib.Ieee.Bits.{ofBits-toBits}
+use lib.Ieee.Fits.{round-fits, two, two-le-pos}
 use lib.Ieee.Exact.{HasValue, round-exact}
-use lib.Ieee.Scale.{finite}
+use lib.Ieee.Scale.{finite, overflow}
+use Rattle.fraction.specs.Magnitude.{magnitude}
 use Rattle.fraction.specs.Value.{value}
 use Rattle.fraction.specs.Rational.{ℚ, _≤q_}
 use Rattle.fraction.specs.Rounding.{Rounded}
 use Rattle.fraction.proofs.Comparison.{le-of-value}
+use Rattle.fraction.proofs.Encoding.{hidden-pos, magnitude-infinity, toBits-value}
+use Rattle.fraction.proofs.Magnitude.{magnitude-lt, parts, power-twice}
 use Rattle.fraction.proofs.Monotone.{rounded-monotone}
 use Rattle.fraction.proofs.Rounding.{rounded-not-nan}
-use Rattle.fraction.proofs.Value.{value-is, value-le-of-not-lt}
+use Rattle.fraction.proofs.Value.{encoded, value-le-of-not-lt}
 
--- round of its own fraction
-own-value : (f : Format) (s : Bool) (m : ℕ) (e : ℤ) → T (fits f (fin s m e))
-    → HasValue (round f s (m * up e) (down e)) s (m * up e) (down e)
-unfolding fits
-own-value f s zero e h =
-    round-exact f s (zero * up e) (down e) 0 0 (down-pos e) (pow-pos (prec f)) (omega (arith, pow-pos (low f + suc (emax f)))) (omega arith)
-own-value f s (suc m) (pos k) h =
-    let a = eqb (suc m % 2) 1 && ltb (suc m) (2 ^ prec f) in
-    let b = a && leb 1 (2 ^ low f) in
-    let c = ltb (suc m * 2 ^ k) (2 ^ suc (emax f) * 1) in
-    let small = ltb→lt (suc m) (2 ^ prec f)
-    (and-r (eqb (suc m % 2) 1) (ltb (suc m) (2 ^ prec f)) (and-l a (leb 1 (2 ^ low f)) (and-l b c h))) in
-    let inside : suc m * 2 ^ k < 2 ^ suc (emax f) = omega (arith, ltb→lt (suc m * 2 ^ k) (2 ^ suc (emax f) * 1) (and-r b c h)) in
-    let shifted : suc m * 2 ^ k * 2 ^ low f < 2 ^ (suc (emax f) + low f) = shl-lt (suc (emax f)) (low f) inside in
-    let same : suc (emax f) + low f ≡ low f + suc (emax f) = omega arith in
-    let p : suc m * 2 ^ (k + low f) ≡ suc m * 2 ^ k * 2 ^ low f = ap (λ (z : ℕ). suc m * z) (pow-add 2 k (low f))
-    ∙ sym (mul-assoc (suc m) (2 ^ k) (2 ^ low f)) in
-    round-exact f s (suc m * 2 ^ k) 1 (suc m) (k + low f) (pow-pos 0) small
-    (subst (λ (z : ℕ). suc m * 2 ^ (k + low f) < 2 ^ z) same (subst (λ (z : ℕ). z < 2 ^ (suc (emax f) + low f)) (sym p) shifted))
-    (omega arith)
-own-value f s (suc m) (negsuc k) h =
-    let a = eqb (suc m % 2) 1 && ltb (suc m) (2 ^ prec f) in
-    let b = leb (2 ^ suc k) (2 ^ low f) in
-    let c = ltb (suc m * 1) (2 ^ suc (emax f) * 2 ^ suc k) in
-    let g = and-l (a && b) c h in
-    let small = ltb→lt (suc m) (2 ^ prec f) (and-r (eqb (suc m % 2) 1) (ltb (suc m) (2 ^ prec f)) (and-l a b g)) in
-    let deep : suc k ≤ low f = exponent (suc k) (low f) (leb→le (2 ^ suc k) (2 ^ low f) (and-r a b g)) in
-    let j = low f - suc k in
-    let back : j + suc k ≡ low f = omega arith in
-    let p : 2 ^ low f ≡ 2 ^ j * 2 ^ suc k = ap (λ (z : ℕ). 2 ^ z) (sym back) ∙ pow-add 2 j (suc k) in
-    let shifted : suc m * 2 ^ j < 2 ^ (prec f + j) = shl-lt (prec f) j small in
-    let wide : 2 ^ (prec f + j) ≤ 2 ^ (low f + suc (emax f)) = pow-mono (omega (arith, reach f)) in
-    round-exact f s (suc m * 1) (2 ^ suc k) (suc m) j (pow-pos (suc k)) small (omega (arith, shifted, wide))
-    (let q : suc m * 1 ≡ suc m = omega arith in rw q (ap (λ (z : ℕ). suc m * z) p ∙ sym (mul-assoc (suc m) (2 ^ j) (2 ^ suc k))))
+under-overflow : (f : Format) (p : ℕ) → p < ones f * hid f → magnitude (hid f) p < overflow f
+under-overflow f p l = subst (λ (z : ℕ). magnitude (hid f) p < z) (ap (magnitude (hid f)) (rest (ones f * hid f) l) ∙ magnitude-infinity f)
+    (magnitude-lt (hid f) p (ones f * hid f - suc p) (hidden-pos f))
   where
-    exponent : (i l : ℕ) → 2 ^ i ≤ 2 ^ l → i ≤ l
-    exponent i l h = elim (decLt l i) [
-      | yes g ↦ absurd (omega (arith, pow-lt g, h))
-      | no g ↦ omega arith
-    ]
+    rest : (n : ℕ) → p < n → suc p + (n - suc p) ≡ n
+    rest n l = omega arith
 
--- its fraction rounds to a finite number of the same value
-pub own-rounded : (f : Format) (x : Float) → T (fits f x) → T (finite x)
-    → (o : Float) × Rounded f o (value x) × T (finite o) × (value o ≡ value x)
-own-rounded f nan F X = absurd X
-own-rounded f (inf s) F X = absurd X
-own-rounded f (fin s m e) F X =
-    let h = own-value f s m e F in (
-      round f s (m * up e) (down e),
-      record { sign = s; over = m * up e; under = down e; positive = down-pos e; rounds = refl; exact = refl },
-      has-finite (round f s (m * up e) (down e)) s (m * up e) (down e) h,
-      value-is (round f s (m * up e) (down e)) s (m * up e) (down e) (down-pos e) h,
-    )
-  where
-    has-finite : (o : Float) (s : Bool) (a c : ℕ) → HasValue o s a c → T (finite o)
-    has-finite nan s a c h = absurd h
-    has-finite (inf t) s a c h = absurd h
-    has-finite (fin t m e) s a c h = tt
+-- a number of the format is its own rounding
+pub rounded-self : (f : Format) (x : Float) → T (fits f x) → T (finite x) → Rounded f x (value x)
+rounded-self f x fx F =
+    let X = encoded f x fx F in
+    let s = X .sign in
+    let k = X .place / hid f - 1 in
+    let q = X .place - k * hid f in
+    let w = parts (hid f) (X .place) (hidden-pos f) (X .place / hid f) refl in
+    let few : q < 2 ^ prec f = subst (λ (z : ℕ). q < z) (sym (power-twice (prec f) (two-le-pos (prec f) (two f)))) (w .1) in
+    let r = round f s (q * 2 ^ k) (2 ^ low f) in
+    let v : HasValue r s (q * 2 ^ k) (2 ^ low f) = round-exact f s (q * 2 ^ k) (2 ^ low f) q k (pow-pos (low f)) few
+    (under-overflow f (X .place) (X .below-infinity)) refl in
+    record {
+      sign = s;
+      over = q * 2 ^ k;
+      under = 2 ^ low f;
+      positive = pow-pos (low f);
+      rounds = sym (ofBits-toBits f x fx) ∙ ap (ofBits f) (X .bits ∙ ap (λ (z : ℕ). cond s (top f) 0 + z) (w .2)
+          ∙ sym (toBits-value f r s q k v (w .0) (le-of-lt few))) ∙ ofBits-toBits f r (round-fits f s (q * 2 ^ k) (2 ^ low f));
+      exact = X .exact;
+    }
 
--- ---- roundings beside a number x of the format, whose fraction rounds to o
-below-own : (r o x : Float) → T (not (isNan r)) → T (finite o) → T (finite x) → value o ≡ value x → T (not (lt o r)) → le r x ≡ true
+-- ---- roundings beside a number x of the format
+not-above-le : (r x : Float) → T (not (isNan r)) → T (finite x) → T (not (lt x r)) → le r x ≡ true
 unfolding isNan le lt
-below-own nan o x N O X e k = absurd N
-below-own (inf s) nan x N O X e k = absurd O
-below-own (inf s) (inf t) x N O X e k = absurd O
-below-own (inf s) (fin t n d) nan N O X e k = absurd X
-below-own (inf s) (fin t n d) (inf u) N O X e k = absurd X
-below-own (inf true) (fin t n d) (fin u m c) N O X e k = refl
-below-own (inf false) (fin t n d) (fin u m c) N O X e k = absurd k
-below-own (fin s m c) o x N O X e k =
-    le-of-value (fin s m c) x tt X (subst (λ (z : ℚ). value (fin s m c) ≤q z) e (value-le-of-not-lt (fin s m c) o tt O k))
+not-above-le nan x N X k = absurd N
+not-above-le (inf s) nan N X k = absurd X
+not-above-le (inf s) (inf u) N X k = absurd X
+not-above-le (inf true) (fin u m c) N X k = refl
+not-above-le (inf false) (fin u m c) N X k = absurd k
+not-above-le (fin s m c) x N X k = le-of-value (fin s m c) x tt X (value-le-of-not-lt (fin s m c) x tt X k)
 
-above-own : (r o x : Float) → T (not (isNan r)) → T (finite o) → T (finite x) → value o ≡ value x → T (not (lt r o)) → le x r ≡ true
+not-below-le : (r x : Float) → T (not (isNan r)) → T (finite x) → T (not (lt r x)) → le x r ≡ true
 unfolding isNan le lt
-above-own nan o x N O X e k = absurd N
-above-own (inf s) nan x N O X e k = absurd O
-above-own (inf s) (inf t) x N O X e k = absurd O
-above-own (inf s) (fin t n d) nan N O X e k = absurd X
-above-own (inf s) (fin t n d) (inf u) N O X e k = absurd X
-above-own (inf true) (fin t n d) (fin u m c) N O X e k = absurd k
-above-own (inf false) (fin t n d) (fin u m c) N O X e k = refl
-above-own (fin s m c) o x N O X e k =
-    le-of-value x (fin s m c) X tt (subst (λ (z : ℚ). z ≤q value (fin s m c)) e (value-le-of-not-lt o (fin s m c) O tt k))
+not-below-le nan x N X k = absurd N
+not-below-le (inf s) nan N X k = absurd X
+not-below-le (inf s) (inf u) N X k = absurd X
+not-below-le (inf true) (fin u m c) N X k = absurd k
+not-below-le (inf false) (fin u m c) N X k = refl
+not-below-le (fin s m c) x N X k = le-of-value x (fin s m c) X tt (value-le-of-not-lt x (fin s m c) X tt k)
 
 module _ (f : Format) (x : Float) (F : T (fits f x)) (X : T (finite x)) (r : Float) (z : ℚ) (R : Rounded f r z) where
   -- what is at most x rounds to at most x
   pub rounds-below : z ≤q value x → le r x ≡ true
-  rounds-below h =
-      let o = own-rounded f x F X in
-      below-own r (o .0) x (rounded-not-nan f r z R) (o .2) X (o .3) (rounded-monotone f r (o .0) z (value x) R (o .1) h)
+  rounds-below h = not-above-le r x (rounded-not-nan f r z R) X (rounded-monotone f r x z (value x) R (rounded-self f x F X) h)
 
   -- and what is at least x to at least x
   pub rounds-above : value x ≤q z → le x r ≡ true
-  rounds-above h =
-      let o = own-rounded f x F X in
-      above-own r (o .0) x (rounded-not-nan f r z R) (o .2) X (o .3) (rounded-monotone f (o .0) r (value x) z (o .1) R h)
+  rounds-above h = not-below-le r x (rounded-not-nan f r z R) X (rounded-monotone f x r (value x) z (rounded-self f x F X) R h)

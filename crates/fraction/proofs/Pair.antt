@@ -1,26 +1,29 @@
 -- The enclosure theorems of end pairs: if x and y lie in their pairs, x + y, x - y, x * y and x / y lie in the pair that the operation
--- gives, where it gives one. All four rest on one law of the step that they share, `outward-contains`.
+-- gives, where it gives one. Sums and differences rest on `directed-contains`, products and quotients on the step that they share,
+-- `outward-contains`.
 use mathlib.Core.Bool.{Bool, _&&_, cond, false, true}
 use mathlib.Core.List.{[], _∷_}
 use mathlib.Core.Path.{_≡_, refl, subst, sym}
 use lib.Dec.{T}
-use lib.Ieee.{Float, Format, add, below, div, fin, inf, lt, mul, nan, ofBits, sub}
+use lib.Ieee.{Float, Format, div, lt, mul, neg, ofBits}
 use lib.Ieee.Scale.{finite}
 use lib.IntN.{pos}
+use Rattle.fraction.specs.DirectedSum.{Downward, Upward, downwardSum, upwardSum}
 use Rattle.fraction.specs.NextNumber.{nextDown, nextUp}
-use Rattle.fraction.specs.Order.{le-one}
+use Rattle.fraction.specs.Order.{le-one, le-two}
 use Rattle.fraction.specs.Pair.{Between, Contains, Ends, addPairs, dividePairs, finiteEnds, highest, highestOf, isPair, largestAbsolute, lowestOf, moved, multiplyPairs, none, outward, pair, point, subtractPairs}
 use Rattle.fraction.specs.Rational.{Above, _*q_, _+q_, _-q_, _/q_, _≤q_, absolute, negq, ℚ, 𝟘}
 use Rattle.fraction.specs.RationalRing.{rationalRing}
-use Rattle.fraction.specs.Ring.{con, opposite, v0, v1}
+use Rattle.fraction.specs.Ring.{_⊕_, con, opposite, v0, v1, v2, v3}
 use Rattle.fraction.specs.Rounding.{Rounded}
-use Rattle.fraction.specs.Value.{BoundsAbove, BoundsBelow, absoluteFloat, value}
-use Rattle.fraction.proofs.Corners.{Spans, difference-spans, product-spans, quotient-spans, sum-spans}
+use Rattle.fraction.specs.Value.{absoluteFloat, value}
+use Rattle.fraction.proofs.Corners.{Spans, product-spans, quotient-spans}
+use Rattle.fraction.proofs.DirectedSum.{downward-sum, downward-unique, upward-sum, upward-unique}
 use Rattle.fraction.proofs.Lowest.{four-finite, highest-among, highest-is, highest-of-four, lowest-among, lowest-of-four}
 use Rattle.fraction.proofs.Neighbours.{highest-above, lowest-below, rounded-encoded}
-use Rattle.fraction.proofs.Rational.{<q-≤q-trans, absolute-le, rationalOrder, ≤q-refl, ≤q-trans, ≤q-whole}
-use Rattle.fraction.proofs.Rounding.{add-rounded, divide-rounded, mul-rounded, rounded-not-nan, sub-rounded}
-use Rattle.fraction.proofs.Value.{Encoded, above-zero, absolute-float}
+use Rattle.fraction.proofs.Rational.{<q-≤q-trans, absolute-le, rationalOrder, ≤q-negated, ≤q-refl, ≤q-trans, ≤q-whole}
+use Rattle.fraction.proofs.Rounding.{divide-rounded, mul-rounded, rounded-not-nan}
+use Rattle.fraction.proofs.Value.{Encoded, above-zero, absolute-float, finite-bounds-above, finite-bounds-below, neg-finite, value-neg}
 
 -- ---- where a step gives a pair
 finite-ends : (a b : Float) → T (isPair (finiteEnds a b)) → T (finite a) × T (finite b) × (finiteEnds a b ≡ pair a b)
@@ -53,16 +56,6 @@ outward-is f p q r s = go (finite (lowestOf p q r s)) (finite (highestOf p q r s
         record { low-finite = X tt; high-finite = Y tt; low-moved-finite = e .0; high-moved-finite = e .1; is = e .2 }
     go true false X Y h = absurd h
     go false y X Y h = absurd h
-
-finite-bounds-below : (x : Float) (z : ℚ) → T (finite x) → BoundsBelow x z → value x ≤q z
-finite-bounds-below nan z F h = absurd F
-finite-bounds-below (inf s) z F h = absurd F
-finite-bounds-below (fin s m e) z F h = h
-
-finite-bounds-above : (x : Float) (z : ℚ) → T (finite x) → BoundsAbove x z → z ≤q value x
-finite-bounds-above nan z F h = absurd F
-finite-bounds-above (inf s) z F h = absurd F
-finite-bounds-above (fin s m e) z F h = h
 
 -- ---- the shared step: it encloses all that lies between the lowest and the highest of the four exact combinations
 module _ (f : Format) (p q r s : Float) (P Q R S z : ℚ) (rp : Rounded f p P) (rq : Rounded f q Q) (rr : Rounded f r R) (rs : Rounded f s S)
@@ -100,6 +93,22 @@ module _ (f : Format) (p q r s : Float) (P Q R S z : ℚ) (rp : Rounded f p P) (
   outward-contains h = let o = outward-is f p q r s h in subst (λ (e : Ends). Contains e z) (sym (o .is)) (lows-and-highs o)
 
 -- ---- the four operations
+-- what lies between two exact sums lies between the one downward and the other upward
+directed-contains : (f : Format) (p q : Float) (P Q z : ℚ) → Downward f P p → Upward f Q q → P ≤q z → z ≤q Q → T (isPair (finiteEnds p q))
+    → Contains (finiteEnds p q) z
+directed-contains f p q P Q z D U h k t =
+    let e = finite-ends p q t in
+    rw (e .2) (record {
+      low-finite = e .0;
+      high-finite = e .1;
+      above = ≤q-trans (value p) P z (finite-bounds-below p P (e .0) (D .not-above)) h;
+      below = ≤q-trans z Q (value q) k (finite-bounds-above q Q (e .1) (U .not-below));
+    })
+
+sum-order : (x y u v : ℚ) → x ≤q y → u ≤q v → x +q u ≤q y +q v
+sum-order x y u v h k = le-two rationalRing _≤q_ rationalOrder (x ∷ y ∷ u ∷ v ∷ []) (v0 ⊕ v2) (v1 ⊕ v3) (con (pos 1)) v0 v1 (con (pos 1))
+    v2 v3 tt (≤q-whole 1) h (≤q-whole 1) k
+
 -- x in X and y in Y: x + y is in X + Y, if that is a pair
 pub add-contains : (f : Format) (X Y : Ends) (x y : ℚ) → Contains X x → Contains Y y → T (isPair (addPairs f X Y))
     → Contains (addPairs f X Y) (x +q y)
@@ -107,24 +116,49 @@ unfolding addPairs
 add-contains f none Y x y h k t = absurd t
 add-contains f (pair a b) none x y h k t = absurd t
 add-contains f (pair a b) (pair c d) x y h k t =
-    outward-contains f (add f a c) (add f a d) (add f b c) (add f b d) (value a +q value c) (value a +q value d) (value b +q value c)
-    (value b +q value d) (x +q y)
-    (add-rounded f a c (h .low-finite) (k .low-finite)) (add-rounded f a d (h .low-finite) (k .high-finite))
-    (add-rounded f b c (h .high-finite) (k .low-finite)) (add-rounded f b d (h .high-finite) (k .high-finite))
-    (sum-spans x (value a) (value b) y (value c) (value d) (h .above) (h .below) (k .above) (k .below)) t
+    directed-contains f (downwardSum f a c) (upwardSum f b d) (value a +q value c) (value b +q value d) (x +q y)
+    (downward-sum f a c (h .low-finite) (k .low-finite)) (upward-sum f b d (h .high-finite) (k .high-finite))
+    (sum-order (value a) x (value c) y (h .above) (k .above)) (sum-order x (value b) y (value d) (h .below) (k .below)) t
+
+-- -y lies between the ends of -Y
+negated : (a b : Float) (y : ℚ) → Between a b y → Between (neg b) (neg a) (negq y)
+negated a b y h = record {
+  low-finite = neg-finite b (h .high-finite);
+  high-finite = neg-finite a (h .low-finite);
+  above = rw (value-neg b (h .high-finite)) (≤q-negated y (value b) (h .below));
+  below = rw (value-neg a (h .low-finite)) (≤q-negated (value a) y (h .above));
+}
 
 -- x in X and y in Y: x - y is in X - Y, if that is a pair
 pub subtract-contains : (f : Format) (X Y : Ends) (x y : ℚ) → Contains X x → Contains Y y → T (isPair (subtractPairs f X Y))
     → Contains (subtractPairs f X Y) (x -q y)
-unfolding subtractPairs
+unfolding subtractPairs addPairs
 subtract-contains f none Y x y h k t = absurd t
 subtract-contains f (pair a b) none x y h k t = absurd t
-subtract-contains f (pair a b) (pair c d) x y h k t =
-    outward-contains f (sub f a c) (sub f a d) (sub f b c) (sub f b d) (value a -q value c) (value a -q value d) (value b -q value c)
-    (value b -q value d) (x -q y)
-    (sub-rounded f a c (h .low-finite) (k .low-finite)) (sub-rounded f a d (h .low-finite) (k .high-finite))
-    (sub-rounded f b c (h .high-finite) (k .low-finite)) (sub-rounded f b d (h .high-finite) (k .high-finite))
-    (difference-spans x (value a) (value b) y (value c) (value d) (h .above) (h .below) (k .above) (k .below)) t
+subtract-contains f (pair a b) (pair c d) x y h k t = add-contains f (pair a b) (pair (neg d) (neg c)) x (negq y) h (negated c d y k) t
+
+-- document 02, request 7, word for word: for finite ends, the pair of the sum is the largest number of the format not above a + c and the
+-- smallest not below b + d, if both are finite; that of the difference, with a - d and b - c
+module _ (f : Format) (a b c d l h : Float) (A : T (finite a)) (B : T (finite b)) (C : T (finite c)) (D : T (finite d)) where
+  pub add-is : Downward f (value a +q value c) l → Upward f (value b +q value d) h → addPairs f (pair a b) (pair c d) ≡ finiteEnds l h
+  unfolding addPairs
+  add-is L H = rw (
+    downward-unique f (value a +q value c) (downwardSum f a c) l (downward-sum f a c A C) L,
+    upward-unique f (value b +q value d) (upwardSum f b d) h (upward-sum f b d B D) H,
+  )
+
+  pub subtract-is : Downward f (value a -q value d) l → Upward f (value b -q value c) h
+      → subtractPairs f (pair a b) (pair c d) ≡ finiteEnds l h
+  unfolding subtractPairs
+  subtract-is L H =
+      let low = subst (λ (z : ℚ). Downward f (value a +q z) (downwardSum f a (neg d))) (value-neg d D)
+      (downward-sum f a (neg d) A (neg-finite d D)) in
+      let high = subst (λ (z : ℚ). Upward f (value b +q z) (upwardSum f b (neg c))) (value-neg c C)
+      (upward-sum f b (neg c) B (neg-finite c C)) in
+      rw (
+        downward-unique f (value a -q value d) (downwardSum f a (neg d)) l low L,
+        upward-unique f (value b -q value c) (upwardSum f b (neg c)) h high H,
+      )
 
 -- x in X and y in Y: x * y is in X * Y, if that is a pair
 pub multiply-contains : (f : Format) (X Y : Ends) (x y : ℚ) → Contains X x → Contains Y y → T (isPair (multiplyPairs f X Y))

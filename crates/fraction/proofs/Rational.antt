@@ -157,6 +157,10 @@ pub ≤q-antisymmetric : (x y : ℚ) → x ≤q y → y ≤q x → x ≡ y
     (λ a b h k. let h = ≤q-means-≤f a b h in let k = ≤q-means-≤f b a k in eq/ a b (equal-by-parts (a .numerator *ℤ pos (b .denominator))
     (b .numerator *ℤ pos (a .denominator)) (omega arith)))
 
+-- x ≤ y gives -y ≤ -x
+pub ≤q-negated : (x y : ℚ) → x ≤q y → negq y ≤q negq x
+≤q-negated x y h = le-one rationalRing _≤q_ rationalOrder (x ∷ y ∷ []) (opposite v1) (opposite v0) (con (pos 1)) v0 v1 tt (≤q-whole 1) h
+
 -- not both x < y and y ≤ x
 pub never : (x y : ℚ) → x <q y → y ≤q x → ⊥
 never x y h k = T-not (atMostq y x) h k

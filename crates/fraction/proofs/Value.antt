@@ -275,6 +275,17 @@ encoded f x fx F = elim (decLt (toBits f x) (top f)) [
         same : ¬ (p < ones f * hid f) → ¬ (ones f * hid f < p) → p ≡ ones f * hid f
         same n m = omega arith
 
+-- a finite float that bounds z from below is at most z; one that bounds z from above is at least z
+pub finite-bounds-below : (x : Float) (z : ℚ) → T (finite x) → BoundsBelow x z → value x ≤q z
+finite-bounds-below nan z F h = absurd F
+finite-bounds-below (inf s) z F h = absurd F
+finite-bounds-below (fin s m e) z F h = h
+
+pub finite-bounds-above : (x : Float) (z : ℚ) → T (finite x) → BoundsAbove x z → z ≤q value x
+finite-bounds-above nan z F h = absurd F
+finite-bounds-above (inf s) z F h = absurd F
+finite-bounds-above (fin s m e) z F h = h
+
 -- a finite float is no NaN
 pub finite-not-nan : (x : Float) → T (finite x) → T (not (isNan x))
 unfolding isNan
@@ -322,11 +333,18 @@ absolute-float (fin s m e) F = (
     upper false a = omega arith
     upper true a = omega (arith, parts-neg (pos a) .0, parts-neg (pos a) .1)
 
--- the order of two floats' values is that of their signed places: if x < w, w's place is not at or below x's
+-- the value of a sign and a place; it has one at infinity's place too
+abbrev pub placeValue : Format → Bool → ℕ → ℚ
+placeValue f s p = fraction (signed s (magnitude (hid f) p)) (2 ^ low f) (pow-pos (low f))
+
+-- the order of these values is that of the signed places: if one is below another, the other's place is not at or below its own
+pub place-values-order : (f : Format) (s t : Bool) (p q : ℕ) → placeValue f s p <q placeValue f t q → signed t q ≤ℤ signed s p → ⊥
+place-values-order f s t p q l o =
+    T-not (atMostq (placeValue f t q) (placeValue f s p)) l
+    (fraction-same-le (signed t (magnitude (hid f) q)) (signed s (magnitude (hid f) p)) (2 ^ low f) (pow-pos (low f))
+    (magnitudes-order (hid f) (hidden-pos f) t s q p o))
+
+-- and so of two floats
 pub places-order : (f : Format) (x w : Float) (X : Encoded f x) (W : Encoded f w) → value x <q value w
     → signed (W .sign) (W .place) ≤ℤ signed (X .sign) (X .place) → ⊥
-places-order f x w X W l o =
-    T-not (atMostq (value w) (value x)) l
-    (rw (X .exact, W .exact) (fraction-same-le (signed (W .sign) (magnitude (hid f) (W .place)))
-    (signed (X .sign) (magnitude (hid f) (X .place))) (2 ^ low f) (pow-pos (low f))
-    (magnitudes-order (hid f) (hidden-pos f) (W .sign) (X .sign) (W .place) (X .place) o)))
+places-order f x w X W l o = place-values-order f (X .sign) (W .sign) (X .place) (W .place) (rw (X .exact, W .exact) at l) o

@@ -9,6 +9,7 @@ pub mod Value
 pub mod Magnitude
 pub mod NextNumber
 pub mod Rounding
+pub mod DirectedSum
 pub mod Pair
 -- laws that make those well defined: each file says at its head what in it is a definition
 pub mod Integer

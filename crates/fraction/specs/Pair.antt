@@ -1,10 +1,13 @@
 -- Pairs of ends (document 01, "The certified figure"): "For +, -, times and divide: all combinations of ends, each rounded once; lowest and
 -- highest taken; then every finite end is moved to the next number outward, exact results too. An end not finite before or after the move,
--- or a divisor whose low end is not above 0, gives no figure."
+-- or a divisor whose low end is not above 0, gives no figure." Since document 02, request 7, this speaks of times and divide; for + and -
+-- "the low end becomes the largest f64 not above the exact result and the high end the smallest not below; an exact zero is +0"
+-- (DirectedSum).
 use mathlib.Core.Bool.{Bool, _&&_, cond, false, true}
 use lib.Dec.{T}
-use lib.Ieee.{Float, Format, add, div, lt, mul, ofBits, sub}
+use lib.Ieee.{Float, Format, div, lt, mul, neg, ofBits}
 use lib.Ieee.Scale.{finite}
+use Rattle.fraction.specs.DirectedSum.{downwardSum, upwardSum}
 use Rattle.fraction.specs.NextNumber.{nextDown, nextUp}
 use Rattle.fraction.specs.Rational.{_≤q_, ℚ}
 use Rattle.fraction.specs.Value.{absoluteFloat, value}
@@ -46,29 +49,29 @@ unfoldable pub moved : Format → Ends → Ends
 moved f (pair a b) = finiteEnds (nextDown f a) (nextUp f b)
 moved f none = none
 
--- the step that the four operations share: of four rounded combinations the lowest and the highest, if finite, moved outward
+-- the step that products and quotients share: of four rounded combinations the lowest and the highest, if finite, moved outward
 unfoldable pub outward : Format → Float → Float → Float → Float → Ends
 outward f p q r s = moved f (finiteEnds (lowestOf p q r s) (highestOf p q r s))
 
--- x + y: all combinations of ends, each rounded once, then the shared step
+-- x + y: the sum of the low ends downward and that of the high ends upward, if both are finite
 unfoldable pub addPairs : Format → Ends → Ends → Ends
 addPairs f none y = none
 addPairs f (pair a b) none = none
-addPairs f (pair a b) (pair c d) = outward f (add f a c) (add f a d) (add f b c) (add f b d)
+addPairs f (pair a b) (pair c d) = finiteEnds (downwardSum f a c) (upwardSum f b d)
 
--- x - y
+-- x - y: the same of x and -y, which lies from -d to -c
 unfoldable pub subtractPairs : Format → Ends → Ends → Ends
 subtractPairs f none y = none
 subtractPairs f (pair a b) none = none
-subtractPairs f (pair a b) (pair c d) = outward f (sub f a c) (sub f a d) (sub f b c) (sub f b d)
+subtractPairs f (pair a b) (pair c d) = finiteEnds (downwardSum f a (neg d)) (upwardSum f b (neg c))
 
--- x * y
+-- x * y: all combinations of ends, each rounded once, then the shared step
 unfoldable pub multiplyPairs : Format → Ends → Ends → Ends
 multiplyPairs f none y = none
 multiplyPairs f (pair a b) none = none
 multiplyPairs f (pair a b) (pair c d) = outward f (mul f a c) (mul f a d) (mul f b c) (mul f b d)
 
--- none, where the divisor's low end is not above 0
+-- x / y: the same; none, where the divisor's low end is not above 0
 unfoldable pub dividePairs : Format → Ends → Ends → Ends
 dividePairs f none y = none
 dividePairs f (pair a b) none = none

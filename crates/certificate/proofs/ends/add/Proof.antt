@@ -10,9 +10,12 @@ use Rattle.certificate.proofs.ends.add.Tie as tie
 returns : tie.Need-returns
 unfolding addPairs
 returns c =
-    let a = c .before .before .before .before .before .before .before .before .before .before .before .args in
+    let d = c .before .before in
+    let a = d .before .before .before .args in
     operation-is (addPairs binary64) add-strict (a .x .good) (a .y .good) (a .x .low) (a .x .high) (a .y .low) (a .y .high) _ _ _
-    (c .kept2 .ensures) (c .before .kept .ensures) (c .before .before .widened .ensures)
+    (c .kept2 .ensures) (c .before .kept .ensures)
+    (rw (d .before .sum-up .ensures, d .before .before .sum-down .ensures) at (d .finite-ends .ensures))
 
 pub add-spec : {M : Type 1} → statement M
-add-spec = tie.close (tie.spec (λ c κs. search needs) (λ c κs. search needs) (λ c κs. search needs) returns)
+add-spec = tie.close (tie.spec (λ c κs. search needs) (λ c κs. search needs) (λ c κs. search needs) (λ c κs. search needs)
+    (λ c κs. search needs) returns)

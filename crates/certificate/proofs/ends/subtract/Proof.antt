@@ -10,9 +10,12 @@ use Rattle.certificate.proofs.ends.subtract.Tie as tie
 returns : tie.Need-returns
 unfolding subtractPairs
 returns c =
-    let a = c .before .before .before .before .before .before .before .before .before .before .before .args in
+    let d = c .before .before in
+    let a = d .before .before .before .before .before .args in
     operation-is (subtractPairs binary64) subtract-strict (a .x .good) (a .y .good) (a .x .low) (a .x .high) (a .y .low) (a .y .high) _ _ _
-    (c .kept2 .ensures) (c .before .kept .ensures) (c .before .before .widened .ensures)
+    (c .kept2 .ensures) (c .before .kept .ensures)
+    (rw (d .before .sum-up .ensures, d .before .before .before .sum-down .ensures) at (d .finite-ends .ensures))
 
 pub subtract-spec : {M : Type 1} → statement M
-subtract-spec = tie.close (tie.spec (λ c κs. search needs) (λ c κs. search needs) (λ c κs. search needs) returns)
+subtract-spec = tie.close (tie.spec (λ c κs. search needs) (λ c κs. search needs) (λ c κs. search needs) (λ c κs. search needs)
+    (λ c κs. search needs) returns)

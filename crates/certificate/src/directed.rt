@@ -1,0 +1,33 @@
+// Sums rounded downward and upward: document 02, request 7.
+ghost use mathlib.Core.Path.{_≡_};
+ghost use lib.Ieee.{binary64};
+ghost use Rattle.fraction.specs.DirectedSum.{downwardSum, plainZero, upwardSum};
+
+// +0 for either zero.
+fn plain(x: f64) -> f64
+    ensures { λ r. ⌜ r ≡ plainZero binary64 x ⌝ }
+{
+    if x == 0.0 {
+        return 0.0;
+    }
+    x
+}
+
+// The largest f64 that is not above the exact x + y. Where the rounded sum is above it, one of two
+// differences shows that, and the answer is the number before.
+pub(crate) fn sum_down(x: f64, y: f64) -> f64
+    ensures { λ r. ⌜ r ≡ downwardSum binary64 x y ⌝ }
+{
+    let r = x + y;
+    if y < r - x || x < r - y {
+        return plain(float::next_down(r));
+    }
+    plain(r)
+}
+
+// The smallest f64 that is not below it: minus the sum downward of -x and -y.
+pub(crate) fn sum_up(x: f64, y: f64) -> f64
+    ensures { λ r. ⌜ r ≡ upwardSum binary64 x y ⌝ }
+{
+    plain(-sum_down(-x, -y))
+}
