@@ -2,7 +2,8 @@
 """distance.py LIST ANSWERS ..: checks answers of kind 90, `certify`, without the Rust and without the port.
 
 For each case of a list, and the line that answers it:
-- the answer is computed again from document 01 ("The certified figure") with Python's floats, and must be the same;
+- the answer is computed again from document 01 ("The certified figure") with Python's floats, its sums and differences
+  from document 02 (request 7) with exact fractions, and must be the same;
 - where it is a figure, the distance between curve and line is computed in exact fractions at many parameters, and must
   never be above the figure.
 A table tells how far the figure lies above the largest distance found. The exit status is 1 if an answer is wrong.
@@ -130,12 +131,30 @@ def outward(numbers):
     return (low, high) if finite([low, high]) else None
 
 
+def toward(exact, limit):
+    """Request 7: "the largest f64 not above the exact result", for a limit of -inf, or "the smallest not below", for inf;
+    "an exact zero is +0"."""
+    try:
+        number = exact.numerator / exact.denominator
+    except OverflowError:
+        number = math.inf if exact > 0 else -math.inf
+    if number == limit:
+        return limit
+    past = math.isinf(number) or (Fraction(number) - exact) * (1 if limit < 0 else -1) > 0
+    return math.nextafter(number, limit) if past else number
+
+
+def sums(low, high):
+    low, high = toward(low, -math.inf), toward(high, math.inf)
+    return (low, high) if finite([low, high]) else None
+
+
 def add(x, y):
-    return x and y and outward([a + b for a in x for b in y])
+    return x and y and sums(Fraction(x[0]) + Fraction(y[0]), Fraction(x[1]) + Fraction(y[1]))
 
 
 def subtract(x, y):
-    return x and y and outward([a - b for a in x for b in y])
+    return x and y and sums(Fraction(x[0]) - Fraction(y[1]), Fraction(x[1]) - Fraction(y[0]))
 
 
 def multiply(x, y):

@@ -1,5 +1,5 @@
-//! The certified figure, computed straight from document 01 ("The certified figure"). The source
-//! has no such step. Here every waypoint interval is paired with every segment, in plain loops.
+//! The certified figure, computed straight from document 01 ("The certified figure"), its sums and
+//! differences from document 02, request 7. The source has no such step. Here every waypoint interval is paired with every segment, in plain loops.
 
 use crate::handed::HandedCurve;
 use std::array::from_fn;
@@ -179,17 +179,37 @@ impl Pair {
     }
 }
 
+/// "the largest f64 not above the exact result .. an exact zero is +0", of x + y. What the rounded
+/// sum lacks is found without a rounding from the larger operand (Dekker); an infinite sum of
+/// finite numbers lacks an infinity.
+fn down(x: f64, y: f64) -> f64 {
+    let sum = x + y;
+    let (large, small) = if x.abs() < y.abs() { (y, x) } else { (x, y) };
+    let lacking = small - (sum - large);
+    if lacking < 0. { sum.next_down() } else { sum + 0. }
+}
+
+/// "the smallest not below"
+fn up(x: f64, y: f64) -> f64 {
+    0. - down(-x, -y)
+}
+
 impl Add for Pair {
     type Output = Self;
+    /// "no figure, as before, where an end is not finite"
     fn add(self, other: Self) -> Self {
-        self.combined(other, |x, y| x + y)
+        let (Some([a, b]), Some([c, d])) = (self.0, other.0) else {
+            return Self(None);
+        };
+        let ends = [down(a, c), up(b, d)];
+        Self(ends.iter().all(|v| v.is_finite()).then_some(ends))
     }
 }
 
 impl Sub for Pair {
     type Output = Self;
     fn sub(self, other: Self) -> Self {
-        self.combined(other, |x, y| x - y)
+        self + Self(other.0.map(|[low, high]| [-high, -low]))
     }
 }
 
