@@ -289,7 +289,7 @@ fn figure_is_the_largest_end() {
     // Half of the corner's lines lie on each side of it, so that both intersections have its 0.95.
     let at_corner = figure(&corner());
     assert!(at_corner > 0.95 && at_corner < 0.95 * (1. + power_of_two(-46)));
-    // Exact results are moved outward too: zeros all over give a figure above 0.
+    // Exact products and quotients are moved outward too: zeros all over give a figure above 0.
     let mut flat = corner();
     flat.points.fill(0.);
     let figure_of_zeros = figure(&flat);
