@@ -1,4 +1,5 @@
-/* Pamitoye: smooths waypoints into a curve, answers queries of it, and certifies how far it strays.
+/* Pamitoye: smooths waypoints into a curve, answers queries of it, and certifies how far it strays;
+ * and orders lanes that are to be cut.
  *
  * The functions are proved: each ends, and does what its comment says, for every input that keeps
  * to what is asked of a caller below. Their code is crates/pamitoye, whose contracts say the same
@@ -10,7 +11,7 @@
  *
  * Memory. The library allocates nothing, frees nothing and keeps no pointer: the caller owns every
  * slice, lends it for the call, and has it back when the call returns. A slice is a pointer and a
- * length in cells (double or size_t), in this order.
+ * length in cells (double, size_t or a pair of size_t), in this order.
  *
  * What the caller must keep to. Nothing tests it; a call that breaks it is undefined.
  * - A pointer is not null, also where its length is 0, and is aligned for its type.
@@ -97,7 +98,8 @@ enum pamitoye_number {
     PAMITOYE_BAD_MIDPOINT = 16,
     /* the final error is above the tolerance */
     PAMITOYE_ERROR_ABOVE_TOLERANCE = 17,
-    /* d above 16, n or max_segments above 20000, or max_refinements above 200 */
+    /* d above 16, n or max_segments above 20000, or max_refinements above 200; more than 64 lanes or
+     * 1024 pairs */
     PAMITOYE_ABOVE_DOMAIN = 18,
     /* a lent slice is too short */
     PAMITOYE_SHORT_SLICE = 19,
@@ -108,7 +110,11 @@ enum pamitoye_number {
     /* the order is above 3 */
     PAMITOYE_ORDER_ABOVE_THREE = 23,
     /* the curve is not well formed */
-    PAMITOYE_MALFORMED = 24
+    PAMITOYE_MALFORMED = 24,
+    /* a pair names a lane that is not below the number of lanes */
+    PAMITOYE_NO_SUCH_LANE = 31,
+    /* a ring: no order meets all pairs */
+    PAMITOYE_RING = 32
 };
 
 /* How long the slices lent to pamitoye_build must be, in cells of double. On 0 room holds, with E
@@ -262,6 +268,18 @@ uint64_t pamitoye_certify(
     const double *points, size_t points_len, size_t n,
     bool even, const double *parameters, size_t parameters_len,
     size_t axis, bool *given, double *figure);
+
+/* Which lane is cut first. Lanes are numbered from 0, and pairs[i] says that lane pairs[i][0] is cut
+ * before lane pairs[i][1]; pairs_len counts pairs. On 0 the first cells of order, one for each lane,
+ * are the order that takes the lowest-numbered ready lane each time, a lane being ready once every
+ * lane that has to come before it is cut. It meets all pairs, and any other order that does has a
+ * higher-numbered lane at the first place that differs. The cells behind are unchanged; a refusal
+ * writes nothing. Neither the order of the pairs matters nor whether one is repeated; a lane before
+ * itself is a ring; no lanes and no pairs give an empty order.
+ * Numbers: 18 (more than 64 lanes or 1024 pairs, repeated ones counted), 31, 19 (order has fewer
+ * cells than there are lanes), 32 (exactly where no order meets all pairs), in this order. */
+uint64_t pamitoye_cutting_order(
+    size_t lanes, const size_t (*pairs)[2], size_t pairs_len, size_t *order, size_t order_len);
 
 #ifdef __cplusplus
 }

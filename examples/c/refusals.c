@@ -225,6 +225,44 @@ static void certificates(const struct built *b, const double *points) {
     check("a figure at or above the error", given && figure >= b->errors[0] && figure < 0.5);
 }
 
+/* A pair more than the library takes. */
+enum { LANES = 6, MANY = 1025 };
+
+static void orders(void) {
+    static size_t many[MANY][2];
+    const size_t(*more)[2] = (const size_t(*)[2])many;
+    const size_t pairs[6][2] = {{5, 0}, {3, 1}, {5, 0}, {1, 4}, {0, 2}, {1, 4}};
+    const size_t ring[3][2] = {{0, 1}, {1, 2}, {2, 0}}, itself[1][2] = {{2, 2}};
+    size_t order[LANES + 1];
+    for (size_t i = 0; i <= LANES; i++)
+        order[i] = COUNT_MARK;
+    for (size_t i = 0; i < MANY; i++)
+        many[i][1] = 1;
+    expect("order of 65 lanes", pamitoye_cutting_order(65, pairs, 6, order, LANES),
+        PAMITOYE_ABOVE_DOMAIN);
+    expect("order with 1025 pairs", pamitoye_cutting_order(LANES, more, MANY, order, LANES),
+        PAMITOYE_ABOVE_DOMAIN);
+    expect("order of 5 lanes", pamitoye_cutting_order(5, pairs, 6, order, 0),
+        PAMITOYE_NO_SUCH_LANE);
+    expect("order of no lanes with a pair", pamitoye_cutting_order(0, itself, 1, order, LANES),
+        PAMITOYE_NO_SUCH_LANE);
+    expect("order, 5 cells", pamitoye_cutting_order(LANES, pairs, 6, order, LANES - 1),
+        PAMITOYE_SHORT_SLICE);
+    expect("order, a ring", pamitoye_cutting_order(LANES, ring, 3, order, LANES), PAMITOYE_RING);
+    expect("order, a lane before itself", pamitoye_cutting_order(LANES, itself, 1, order, LANES),
+        PAMITOYE_RING);
+    expect("order of no lanes", pamitoye_cutting_order(0, pairs, 0, order, 0), PAMITOYE_DONE);
+    check("nothing is written", counts_are(order, LANES + 1, COUNT_MARK));
+    expect("order", pamitoye_cutting_order(LANES, pairs, 6, order, LANES + 1), PAMITOYE_DONE);
+    printf(" ");
+    for (size_t i = 0; i < LANES; i++)
+        printf(" %zu", order[i]);
+    printf("\n");
+    check("the cell behind is unchanged", order[LANES] == COUNT_MARK);
+    expect("order with 1024 pairs", pamitoye_cutting_order(LANES, more, MANY - 1, order, LANES),
+        PAMITOYE_DONE);
+}
+
 int main(void) {
     const double points[D * N] = {0, 1, 2.5, 2.5, -1, 0.5, -1.5, 2, 0, 1, 0, -2, 2, 3, 1};
     struct built b;
@@ -233,6 +271,7 @@ int main(void) {
     builds(&b, points);
     queries(&b);
     certificates(&b, points);
+    orders();
     give_back(&b);
     return failures ? 1 : 0;
 }

@@ -88,6 +88,21 @@ fn room(d: usize, n: usize, max_segments: usize) -> Result<[usize; 6], PathError
     }
 }
 
+/// The cutting order into the first cells of `order`; the answer's number.
+pub(crate) fn cutting_order(lanes: usize, pairs: &[[usize; 2]], order: &mut [usize]) -> u64 {
+    // SAFETY: the function has no precondition: it refuses what it cannot take. Each pointer with its count is a slice
+    // that is borrowed for the call, the one that is written alone.
+    unsafe {
+        ffi::pamitoye_cutting_order(
+            lanes,
+            pairs.as_ptr(),
+            pairs.len(),
+            order.as_mut_ptr(),
+            order.len(),
+        )
+    }
+}
+
 /// As many orders as slices are given, from the value up, and four slices, empty ones behind those given.
 fn orders<'a>(out: &'a mut [&mut [f64]]) -> (usize, [&'a mut [f64]; 4]) {
     let count = out.len();

@@ -137,4 +137,12 @@ unsafe extern "C" {
         given: *mut bool,
         figure: *mut f64,
     ) -> u64;
+
+    pub(crate) fn pamitoye_cutting_order(
+        lanes: usize,
+        pairs: *const [usize; 2],
+        pairs_len: usize,
+        order: *mut usize,
+        order_len: usize,
+    ) -> u64;
 }

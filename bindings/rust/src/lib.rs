@@ -27,7 +27,8 @@
 //! - Waypoints are a slice and a shape, answers are lists: nalgebra is not needed. Cells lie as in nalgebra's matrices.
 //! - [`PathError`] has a case for each reason, with its [number](PathError::number).
 //! - Sizes above [`MAX_AXES`], [`MAX_WAYPOINTS`], [`MAX_SEGMENTS`] and [`MAX_REFINEMENTS`] are refused.
-//! - New: [`Path::certify`], [`Path::evaluate_into`] and [`Path::evaluate_at`], the breaks and the coefficients, [`Workspace`].
+//! - New: [`Path::certify`], [`Path::evaluate_into`] and [`Path::evaluate_at`], the breaks and the coefficients,
+//!   [`Workspace`]; and [`cutting_order`], which lane is cut first.
 //!
 //! # What is relied on
 //!
@@ -48,6 +49,7 @@ mod curve;
 mod error;
 #[allow(unsafe_code)]
 mod ffi;
+mod order;
 mod path;
 mod workspace;
 
@@ -56,5 +58,6 @@ pub use config::{
     SmoothingReport, SmoothingTolerance,
 };
 pub use error::PathError;
+pub use order::{MAX_LANES, MAX_PAIRS, OrderError, cutting_order, cutting_order_into};
 pub use path::{Path, PathDerivatives};
 pub use workspace::Workspace;
