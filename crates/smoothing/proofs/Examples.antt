@@ -1,4 +1,4 @@
--- Document 01's starred lanes hold, by computation on the definitions; and requests whose answers the Rust gave, cell for cell.
+-- Document 01's starred lanes and document 02's for 26 hold, by computation on the definitions; and requests whose answers the Rust gave, cell for cell.
 use mathlib.Core.Path.{_≡_, refl}
 use mathlib.Core.List.{List, [], _∷_, _++_, map}
 use Prim.Native.Nat.{ℕ}
@@ -40,10 +40,10 @@ use Rattle.curve.specs.First.{firstOf}
 use Rattle.curve.specs.Form.{axesFormed}
 use Rattle.smoothing.specs.Answer.{andThen, unless, numberOf}
 use Rattle.smoothing.specs.Build.{selectedOf, otherOf, resultOf, smoothedOf, checkedOf, answerOf, buildOf}
-use Rattle.smoothing.specs.Checks.{wideLane, wideLimits, miscountedPoints, noAxes, badAxes, badTolerance, overflows, refusalOf}
+use Rattle.smoothing.specs.Checks.{wideLane, wideLimits, miscountedPoints, noAxes, badAxes, badTolerance, exceeds, anyExceeds, overflows, refusalOf}
 use Rattle.smoothing.specs.Finish.{physicalOf, finalPolynomial, errorOf as errorOf₂, errorsOf, excessive, judged, finishOf as finishOf₂}
 use Rattle.smoothing.specs.Interpolate.{equation, waypointTurn, derivativeOf, endTurns, interpolationSystem, interpolateOf}
-use Rattle.smoothing.specs.Lanes.{fieldsOf, numbersOf, laneLines, lines, even}
+use Rattle.smoothing.specs.Lanes.{fieldsOf, numbersOf, laneLines, fineLines, lines, even}
 use Rattle.smoothing.specs.Request.{upTo, axesOf as axesOf₂, tolerancesOf}
 use Rattle.smoothing.specs.Round.{worstOf, settled, selected, middleOf, rawLocations, locationsOf, spansAfter, outside, insertOf, insertAll, strengthOf, refitOf, refitAll, refitted, roundOf, refineOf}
 use Rattle.smoothing.specs.Rows.{gathered, centred, parametersOf, taskOf, smoothedRows, laneUnits, laneTask, leftOver, otherRows}
@@ -81,9 +81,9 @@ unfolding isNan ofBits toBits add sub mul div le lt eq ne round ofInt neg turns 
     fits scanTurn anchorsOf axisTurn₂ narrowed jumpTurn jumpOf widthOf around anchorKnots rawKnots seedOf rangeOf merged regionsOf
     any parameterOf miscounted lengthOf normalisedOf misplaced unreliable unfit firstOf axesFormed andThen unless numberOf
     selectedOf otherOf resultOf smoothedOf checkedOf answerOf buildOf
-    wideLane wideLimits miscountedPoints noAxes badAxes badTolerance overflows refusalOf
+    wideLane wideLimits miscountedPoints noAxes badAxes badTolerance exceeds anyExceeds overflows refusalOf
     physicalOf finalPolynomial errorOf₂ errorsOf excessive judged finishOf₂
-    equation waypointTurn derivativeOf endTurns interpolationSystem interpolateOf fieldsOf numbersOf laneLines
+    equation waypointTurn derivativeOf endTurns interpolationSystem interpolateOf fieldsOf numbersOf laneLines fineLines
     upTo axesOf₂ tolerancesOf
     worstOf settled selected middleOf rawLocations locationsOf spansAfter outside insertOf insertAll strengthOf refitOf refitAll refitted
     roundOf refineOf gathered centred parametersOf taskOf smoothedRows laneUnits laneTask leftOver otherRows

@@ -1,4 +1,4 @@
--- A lane that passes the checks 1 to 7: what they say, how many axes are left over, and the cells of its task.
+-- A lane that passes the checks 1 to 7 and 26: what they say, how many axes are left over, and the cells of its task.
 use mathlib.Core.Path.{_≡_, refl, sym, ap, subst, _∙_}
 use mathlib.Core.Bool.{Bool, true, false, not, cond}
 use mathlib.Core.List.{List, [], _∷_}
@@ -26,7 +26,7 @@ use Rattle.request.proofs.Anys.{any-none}
 use Rattle.request.proofs.Counts.{waypoint-count}
 use Rattle.request.proofs.ZeroToOne.{normalised-to-one}
 use Rattle.smoothing.specs.Request.{Lane, axisCount, smoothedAxes}
-use Rattle.smoothing.specs.Checks.{overflows, noAxes, badAxes, badTolerance, refusalOf}
+use Rattle.smoothing.specs.Checks.{overflows, noAxes, badAxes, badTolerance, tooFine, refusalOf}
 use Rattle.smoothing.specs.Rows.{taskOf, laneTask, laneUnits, parametersOf, centred, leftOver, otherAxes}
 
 -- a chain of tests that comes to 0 has none that holds
@@ -34,12 +34,13 @@ pub passed : (b : Bool) (k m : ℕ) → 0 < k → cond b k m ≡ 0 → (b ≡ fa
 passed true k m h e = absurd (omega arith)
 passed false k m h e = (refl, e)
 
--- 1 to 7 of a lane that passes
+-- 1 to 7 and 26 of a lane that passes
 pub record Passed (l : Lane) : Type 0 where
   pub points : unfit (l .d) (l .n) (l .points) ≡ false
   pub some-axes : noAxes l ≡ false
   pub axes : badAxes l ≡ false
   pub tolerance : badTolerance l ≡ false
+  pub coarse : tooFine l ≡ false
   pub placed : misplaced (l .spacing) (l .parameters) (l .n) ≡ false
   pub reliable : unreliable (l .spacing) (l .parameters) (l .n) ≡ false
   pub carried : overflows (laneTask l) ≡ false
@@ -51,10 +52,20 @@ lane-passed l h =
     let c = passed (noAxes l) 2 _ (omega arith) (b .1) in
     let d = passed (badAxes l) 3 _ (omega arith) (c .1) in
     let e = passed (badTolerance l) 4 _ (omega arith) (d .1) in
-    let f = passed (misplaced (l .spacing) (l .parameters) (l .n)) 5 _ (omega arith) (e .1) in
+    let t = passed (tooFine l) 26 _ (omega arith) (e .1) in
+    let f = passed (misplaced (l .spacing) (l .parameters) (l .n)) 5 _ (omega arith) (t .1) in
     let g = passed (unreliable (l .spacing) (l .parameters) (l .n)) 6 _ (omega arith) (f .1) in
     let o = passed (overflows (laneTask l)) 7 0 (omega arith) (g .1) in
-    record { points = b .0; some-axes = c .0; axes = d .0; tolerance = e .0; placed = f .0; reliable = g .0; carried = o .0 }
+    record {
+      points = b .0;
+      some-axes = c .0;
+      axes = d .0;
+      tolerance = e .0;
+      coarse = t .0;
+      placed = f .0;
+      reliable = g .0;
+      carried = o .0;
+    }
 
 pub two-waypoints : (l : Lane) → refusalOf l ≡ 0 → 2 ≤ l .n
 two-waypoints l h = waypoint-count (l .d) (l .n) (l .points) (lane-passed l h .points)

@@ -2,7 +2,7 @@
 use mathlib.Core.Path.{_≡_, refl, ap, subst, _∙_}
 use mathlib.Core.Bool.{Bool, true, false, not, cond, _&&_, _||_, true≢false}
 use mathlib.Core.List.{List, []}
-use Prim.Native.Nat.{ℕ, _+_, _-_, _≤_}
+use Prim.Native.Nat.{ℕ, _+_, _-_, _≤_, _<_}
 use native.Mathlib.Omega.{arith}
 use borrow.Author.Tests.{le-leb, eq-eqb, ne-eqb, eqb-true, eqb-false}
 use lib.Dec.{T, eqb, leb, leb→le}
@@ -29,7 +29,7 @@ use Rattle.normal.proofs.Outcomes.{solve-number}
 use Rattle.smoothing.specs.Answer.{Answer, andThen, unless}
 use Rattle.smoothing.specs.Answer.Answer.{done, refused, exhausted}
 use Rattle.smoothing.specs.Request.{Lane, Limits, Request}
-use Rattle.smoothing.specs.Checks.{Room, wideLane, wideLimits, miscountedPoints, noAxes, badAxes, badTolerance, overflows, refusalOf, shortRoom}
+use Rattle.smoothing.specs.Checks.{Room, wideLane, wideLimits, miscountedPoints, noAxes, badAxes, badTolerance, tooFine, overflows, refusalOf, shortRoom}
 use Rattle.smoothing.specs.Rows.{Task, Units, laneTask, laneUnits, parametersOf, otherAxes, otherRows}
 use Rattle.smoothing.specs.State.{Spline, State}
 use Rattle.smoothing.specs.Start.{chordState, startOf}
@@ -149,39 +149,44 @@ other-refused l n e =
 pub other-not-exhausted : (l : Lane) (ratio : Float) → otherOf l ≡ exhausted ratio → ⊥
 other-not-exhausted l ratio e = gives-exhausted (other-gives (λ n. Unit {0}) ⊥ tt tt tt l) e
 
--- the checks 1 to 7
-pub refusal-most : (l : Lane) → refusalOf l ≤ 7
+-- the checks 1 to 7, and 26
+pub refusal-most : (l : Lane) → 7 < refusalOf l → refusalOf l ≡ 26
 unfolding refusalOf
 refusal-most l =
-    pick (unfit (l .d) (l .n) (l .points)) 1 _ (omega arith)
-    (pick (noAxes l) 2 _ (omega arith)
-    (pick (badAxes l) 3 _ (omega arith)
-    (pick (badTolerance l) 4 _ (omega arith)
-    (pick (misplaced (l .spacing) (l .parameters) (l .n)) 5 _ (omega arith)
-    (pick (unreliable (l .spacing) (l .parameters) (l .n)) 6 _ (omega arith)
-    (pick (overflows (laneTask l)) 7 0 (omega arith) (omega arith)))))))
+    pick (unfit (l .d) (l .n) (l .points)) 1 _ (λ h. omega arith)
+    (pick (noAxes l) 2 _ (λ h. omega arith)
+    (pick (badAxes l) 3 _ (λ h. omega arith)
+    (pick (badTolerance l) 4 _ (λ h. omega arith)
+    (pick (tooFine l) 26 _ (λ h. refl)
+    (pick (misplaced (l .spacing) (l .parameters) (l .n)) 5 _ (λ h. omega arith)
+    (pick (unreliable (l .spacing) (l .parameters) (l .n)) 6 _ (λ h. omega arith)
+    (pick (overflows (laneTask l)) 7 0 (λ h. omega arith) (λ h. omega arith))))))))
   where
-    pick : (b : Bool) (k m : ℕ) → k ≤ 7 → m ≤ 7 → cond b k m ≤ 7
+    pick : (b : Bool) (k m : ℕ) → (7 < k → k ≡ 26) → (7 < m → m ≡ 26) → 7 < cond b k m → cond b k m ≡ 26
     pick true k m h g = h
     pick false k m h g = g
 
--- a whole request: 1 to 20, and 14 only with its ratio
-answer-among : (short : Bool) (r : Request) → Gives (λ x. Unit {0}) (λ n. T (among 1 20 n)) Unit (answerOf short r)
+-- a whole request: 1 to 20 and 26, and 14 only with its ratio
+abbrev pub Refusal : ℕ → Type 0
+Refusal n = (1 ≤ n) × (n ≡ 14 → ⊥) × (20 < n → n ≡ 26)
+
+answer-refused : (short : Bool) (r : Request) → Gives (λ x. Unit {0}) Refusal Unit (answerOf short r)
 unfolding among
-answer-among short r =
+answer-refused short r =
     let l = r .lane in
-    answer-gives (λ n. T (among 1 20 n)) Unit tt tt tt tt tt tt short l (r .limits)
-    (λ e. selected-gives (λ n. T (among 1 20 n)) tt tt tt tt tt tt tt tt tt (r .limits) (laneTask l) (laneUnits l))
-    (λ e. let a = refusal-most l in let b = eqb-false (refusalOf l) 0 e in means-among 1 20 (refusalOf l) (omega (arith, b)) (omega arith)
-    (λ e. omega arith))
+    let k : (n : ℕ) → T (among 1 20 n) → Refusal n = λ n h. let p = among-means 1 20 n h in (p .0, p .2, λ g. omega arith) in
+    answer-gives Refusal Unit (k 9 tt) (k 10 tt) (k 11 tt) (k 18 tt) (k 19 tt) (k 20 tt) short l (r .limits)
+    (λ e. selected-gives Refusal (k 8 tt) (k 9 tt) (k 10 tt) (k 11 tt) (k 12 tt) (k 13 tt) (k 15 tt) (k 16 tt) (k 17 tt) (r .limits)
+    (laneTask l) (laneUnits l))
+    (λ e. (omega (arith, eqb-false (refusalOf l) 0 e), λ f. omega (arith, refusal-most l (omega arith)), λ g. refusal-most l (omega arith)))
 
-pub build-refused : (r : Request) (n : ℕ) → buildOf r ≡ refused n → (1 ≤ n) × (n ≤ 20) × (n ≡ 14 → ⊥)
+pub build-refused : (r : Request) (n : ℕ) → buildOf r ≡ refused n → Refusal n
 unfolding buildOf
-build-refused r n e = among-means 1 20 n (gives-refused (answer-among false r) e)
+build-refused r n e = gives-refused (answer-refused false r) e
 
-pub build-in-refused : (room : Room) (r : Request) (n : ℕ) → buildIn room r ≡ refused n → (1 ≤ n) × (n ≤ 20) × (n ≡ 14 → ⊥)
+pub build-in-refused : (room : Room) (r : Request) (n : ℕ) → buildIn room r ≡ refused n → Refusal n
 unfolding buildIn
-build-in-refused room r n e = among-means 1 20 n (gives-refused (answer-among (shortRoom room (r .lane) (r .limits)) r) e)
+build-in-refused room r n e = gives-refused (answer-refused (shortRoom room (r .lane) (r .limits)) r) e
 
 -- ---- 12, "audit: the right end not above the left", can't be reached: the breaks end at 1, and no parameter lies above it
 module _ (q : Task) (below : (i : ℕ) → lt (floats .one) (at (q .s) i) ≡ false) where
@@ -227,7 +232,7 @@ answer-not-12 short l m F =
     answer-gives (λ n. n ≡ 12 → ⊥) Unit (λ e. omega arith) (λ e. omega arith) (λ e. omega arith) (λ e. omega arith) (λ e. omega arith)
     (λ e. omega arith) short l m
     (λ h. selected-not-12 (laneTask l) (parameters-below l F h) m (laneUnits l) (parameters-held l))
-    (λ h e. omega (arith, refusal-most l))
+    (λ h e. omega (arith, refusal-most l (omega arith)))
 
 pub build-not-12 : (r : Request) → Doubles (r .lane .parameters) → buildOf r ≡ refused 12 → ⊥
 unfolding buildOf

@@ -1,10 +1,12 @@
--- "Turned away by the input": the checks 18, 20 and 1 to 7, in document 01's order.
+-- "Turned away by the input": the checks 18, 20 and 1 to 7, in document 01's order, and document 02's 26 after 4.
 use Prim.Native.Nat.{ℕ, _+_, _*_, max}
 use mathlib.Core.Bool.{Bool, not, cond, _||_}
+use mathlib.Core.List.{List}
 use lib.Dec.{eqb, ltb}
-use lib.ListN.{length}
-use lib.Ieee.{le}
+use lib.ListN.{length, getD}
+use lib.Ieee.{Float, binary64, ofBits, mul, le, lt}
 use lib.Ieee.Scale.{finite}
+use Rattle.fraction.specs.Value.{absoluteFloat}
 use Rattle.window.specs.Cells.{+0, at}
 use Rattle.request.specs.Any.{any}
 use Rattle.request.specs.Parameters.{misplaced, unreliable}
@@ -39,20 +41,38 @@ badTolerance l =
     let eps = toleranceList l in
     not (eqb (length eps) (axisCount l)) || any (length eps) (λ a. not (finite (at eps a)) || le (at eps a) +0)
 
+-- Document 02, request 4: "if the largest absolute coordinate of a selected axis exceeds its tolerance times 2^48, product rounded once".
+-- The largest exceeds the product where some coordinate does. A product that overflows is infinite, and exceeded by none.
+abbrev pub mostOf : Float → Float
+mostOf eps = mul binary64 eps (ofBits binary64 0x42f0_0000_0000_0000)
+
+-- whether a coordinate of the row `axis`, of n points of d rows, exceeds `most`
+unfoldable pub exceeds : List Float → ℕ → ℕ → ℕ → Float → Bool
+exceeds points d n axis most = any n (λ i. lt most (absoluteFloat (at points (i * d + axis))))
+
+-- whether one of the listed axes does, each with its own tolerance
+unfoldable pub anyExceeds : List Float → ℕ → ℕ → List ℕ → List Float → Bool
+anyExceeds points d n axes eps = any (length axes) (λ a. exceeds points d n (getD axes a 0) (mostOf (at eps a)))
+
+-- 26
+abbrev pub tooFine : Lane → Bool
+tooFine l = anyExceeds (l .points) (l .d) (l .n) (smoothedAxes l) (toleranceList l)
+
 -- 7, "a centred coordinate over its tolerance is not finite": `y.iter().any(|v| !v.is_finite())`
 unfoldable pub overflows : Task → Bool
 overflows q = any (length (q .y)) (λ i. not (finite (at (q .y) i)))
 
--- the first of 1 to 7 that holds, 0 where none does
+-- the first of 1 to 7 that holds, 26 "directly after 4 and before 5", and 0 where none does
 unfoldable pub refusalOf : Lane → ℕ
 refusalOf l =
     cond (unfit (l .d) (l .n) (l .points)) 1
     (cond (noAxes l) 2
     (cond (badAxes l) 3
     (cond (badTolerance l) 4
+    (cond (tooFine l) 26
     (cond (misplaced (l .spacing) (l .parameters) (l .n)) 5
     (cond (unreliable (l .spacing) (l .parameters) (l .n)) 6
-    (cond (overflows (laneTask l)) 7 0))))))
+    (cond (overflows (laneTask l)) 7 0)))))))
 
 -- the lengths of the lent slices
 pub record Room : Type 0 where

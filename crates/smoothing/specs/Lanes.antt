@@ -1,4 +1,4 @@
--- Document 01's starred lanes ("Lanes to try"), as rows of one table with the float leaves' lines. A line's answer is a list of whole
+-- Document 01's starred lanes ("Lanes to try"), as rows of one table with the float leaves' lines and document 02's refusal 26. A line's answer is a list of whole
 -- numbers: the refusal's number alone, or 0 and the fields that `lane` prints, an error standing by its bits.
 use Prim.Native.Nat.{ℕ}
 use mathlib.Core.List.{List, [], _∷_, _++_, map}
@@ -39,9 +39,9 @@ even d n axes eps segments points =
       limits = record { refinements = 20; segments = segments };
     }
 
--- points 0 0, tolerance 1, with two listed parameters
-abbrev pub spread : ℕ → ℕ → Request
-spread from to =
+-- points 0 and `last`, tolerance 1, with two listed parameters
+abbrev pub spread : ℕ → ℕ → ℕ → Request
+spread last from to =
     record {
       lane = record {
         d = 1;
@@ -50,7 +50,7 @@ spread from to =
         tolerance = uniform (ofBits binary64 0x3ff0_0000_0000_0000);
         spacing = Listed;
         parameters = ofBits binary64 from ∷ ofBits binary64 to ∷ [];
-        points = ofBits binary64 0 ∷ ofBits binary64 0 ∷ [];
+        points = ofBits binary64 0 ∷ ofBits binary64 last ∷ [];
       };
       limits = record { refinements = 20; segments = 20000 };
     }
@@ -72,15 +72,31 @@ laneLines =
     ∷ line (even 1 2 (listed (0 ∷ 0 ∷ [])) 0x3ff0_0000_0000_0000 20000 (0 ∷ 0 ∷ [])) (3 ∷ [])
     -- tolerance 0: 4; parameters 1 1: 5
     ∷ line (even 1 2 all 0 20000 (0 ∷ 0 ∷ [])) (4 ∷ [])
-    ∷ line (spread 0x3ff0_0000_0000_0000 0x3ff0_0000_0000_0000) (5 ∷ [])
+    ∷ line (spread 0 0x3ff0_0000_0000_0000 0x3ff0_0000_0000_0000) (5 ∷ [])
     -- parameters -1.5e308, 1.5e308: 6
-    ∷ line (spread 0xffea_b36d_48e1_acf0 0x7fea_b36d_48e1_acf0) (6 ∷ [])
-    -- points -1.7e308, 1.7e308, tolerance 1e300: 7
+    ∷ line (spread 0 0xffea_b36d_48e1_acf0 0x7fea_b36d_48e1_acf0) (6 ∷ [])
+    -- points -1.7e308, 1.7e308, tolerance 1e300: 7 (1e300 times 2^48 overflows, and is exceeded by none)
     ∷ line (even 1 2 all 0x7e37_e43c_8800_759c 20000 (0xffee_42d1_3077_3b76 ∷ 0x7fee_42d1_3077_3b76 ∷ [])) (7 ∷ [])
     -- d 17: 18
     ∷ line (even 17 2 all 0x3ff0_0000_0000_0000 20000 []) (18 ∷ [])
     ∷ []
 
--- all starred lines
+-- document 02, request 4: the largest absolute coordinate against 2^48 times the tolerance
+unfoldable pub fineLines : List Line
+fineLines =
+    -- points 0 2^48, tolerance 1: equal is not exceeded; the next number above, and the next one below the opposite: 26
+    line (even 1 2 all 0x3ff0_0000_0000_0000 20000 (0 ∷ 0x42f0_0000_0000_0000 ∷ [])) (0 ∷ 1 ∷ 0 ∷ 0 ∷ 0 ∷ 2 ∷ 0 ∷ [])
+    ∷ line (even 1 2 all 0x3ff0_0000_0000_0000 20000 (0 ∷ 0x42f0_0000_0000_0001 ∷ [])) (26 ∷ [])
+    ∷ line (even 1 2 all 0x3ff0_0000_0000_0000 20000 (0 ∷ 0xc2f0_0000_0000_0001 ∷ [])) (26 ∷ [])
+    -- points 2^49 2^49, tolerance 1: flat, yet 26
+    ∷ line (even 1 2 all 0x3ff0_0000_0000_0000 20000 (0x4300_0000_0000_0000 ∷ 0x4300_0000_0000_0000 ∷ [])) (26 ∷ [])
+    -- tolerance 0: 4 comes before; parameters 1 1, last point 2^49: 5 comes after
+    ∷ line (even 1 2 all 0 20000 (0 ∷ 0x4300_0000_0000_0000 ∷ [])) (4 ∷ [])
+    ∷ line (spread 0x4300_0000_0000_0000 0x3ff0_0000_0000_0000 0x3ff0_0000_0000_0000) (26 ∷ [])
+    -- d 2, axis 0 smoothed and flat, row 1 = 0 2^49: an axis that is not smoothed has no part in it (8: max_segments 0)
+    ∷ line (even 2 2 (listed (0 ∷ [])) 0x3ff0_0000_0000_0000 0 (0 ∷ 0 ∷ 0 ∷ 0x4300_0000_0000_0000 ∷ [])) (8 ∷ [])
+    ∷ []
+
+-- all of them
 abbrev pub lines : List Line
-lines = laneLines ++ floatLines
+lines = laneLines ++ fineLines ++ floatLines
