@@ -1,4 +1,4 @@
--- The refusals 1 to 7 of a lane: 6 and 7 are asked where none of 1 to 5 holds; and what holds of a lane that 1 to 5 let through.
+-- The refusals 1 to 7 and 26 of a lane: 6 and 7 are asked where none of the others holds; and what holds of a lane that those let through.
 use mathlib.Core.Path.{_≡_, refl, sym, ap, _∙_}
 use mathlib.Core.Bool.{Bool, true, false, cond}
 use Prim.Native.Nat.{ℕ, _+_, _≤_, _<_}
@@ -14,7 +14,7 @@ use Rattle.request.proofs.Anys.{or-none}
 use Rattle.request.proofs.Counts.{waypoint-count}
 use Rattle.smoothing.specs.Request.{Lane, axisCount, smoothedAxes, toleranceList}
 use Rattle.smoothing.specs.Rows.{taskOf, laneTask, otherAxes}
-use Rattle.smoothing.specs.Checks.{noAxes, badAxes, badTolerance, refusalOf}
+use Rattle.smoothing.specs.Checks.{noAxes, badAxes, badTolerance, tooFine, refusalOf}
 use Rattle.smoothing.proofs.Passed.{passed, good-axes, all-axes}
 use Rattle.checks.specs.Checks.{refusalBefore, refusalAfter}
 
@@ -22,17 +22,23 @@ pub refusal-after : (l : Lane)
     → refusalOf l ≡ cond (eqb (refusalBefore l) 0) (refusalAfter (l .spacing) (l .parameters) (laneTask l)) (refusalBefore l)
 unfolding refusalOf refusalBefore laneTask taskOf
 refusal-after l =
-    go (unfit (l .d) (l .n) (l .points)) (noAxes l) (badAxes l) (badTolerance l) (misplaced (l .spacing) (l .parameters) (l .n))
-    (refusalAfter (l .spacing) (l .parameters) (laneTask l))
+    go (unfit (l .d) (l .n) (l .points)) (noAxes l) (badAxes l) (badTolerance l) (tooFine l)
+    (misplaced (l .spacing) (l .parameters) (l .n)) (refusalAfter (l .spacing) (l .parameters) (laneTask l))
   where
-    go : (a b c d e : Bool) (x : ℕ) → cond a 1 (cond b 2 (cond c 3 (cond d 4 (cond e 5 x))))
-        ≡ cond (eqb (cond a 1 (cond b 2 (cond c 3 (cond d 4 (cond e 5 0))))) 0) x (cond a 1 (cond b 2 (cond c 3 (cond d 4 (cond e 5 0)))))
-    go true b c d e x = refl
-    go false true c d e x = refl
-    go false false true d e x = refl
-    go false false false true e x = refl
-    go false false false false true x = refl
-    go false false false false false x = refl
+    go : (a b c d t e : Bool) (x : ℕ) → let first : ℕ → ℕ = λ y. cond a 1 (cond b 2 (cond c 3 (cond d 4 (cond t 26 (cond e 5 y))))) in
+        first x ≡ cond (eqb (first 0) 0) x (first 0)
+    go true b c d t e x = refl
+    go false true c d t e x = refl
+    go false false true d t e x = refl
+    go false false false true t e x = refl
+    go false false false false true e x = refl
+    go false false false false false true x = refl
+    go false false false false false false x = refl
+
+-- where 4 does not hold, there is one tolerance for each axis
+pub one-each : (l : Lane) → badTolerance l ≡ false → length (toleranceList l) ≡ axisCount l
+unfolding badTolerance
+one-each l h = eqb-true _ _ (not-false (eqb (length (toleranceList l)) (axisCount l)) (or-none _ _ h .0))
 
 module _ (l : Lane) (h : refusalBefore l ≡ 0) where
   record Before : Type 0 where
@@ -48,7 +54,8 @@ module _ (l : Lane) (h : refusalBefore l ≡ 0) where
       let c = passed (noAxes l) 2 _ (omega arith) (b .1) in
       let d = passed (badAxes l) 3 _ (omega arith) (c .1) in
       let e = passed (badTolerance l) 4 _ (omega arith) (d .1) in
-      let f = passed (misplaced (l .spacing) (l .parameters) (l .n)) 5 0 (omega arith) (e .1) in
+      let t = passed (tooFine l) 26 _ (omega arith) (e .1) in
+      let f = passed (misplaced (l .spacing) (l .parameters) (l .n)) 5 0 (omega arith) (t .1) in
       record { points = b .0; axes = d .0; tolerance = e .0; placed = f .0 }
 
   pub two-waypoints : 2 ≤ l .n
@@ -61,8 +68,7 @@ module _ (l : Lane) (h : refusalBefore l ≡ 0) where
   axes-count = all-axes l (before .axes)
 
   pub tolerances-count : length (toleranceList l) ≡ axisCount l
-  unfolding badTolerance
-  tolerances-count = eqb-true _ _ (not-false (eqb (length (toleranceList l)) (axisCount l)) (or-none _ _ (before .tolerance) .0))
+  tolerances-count = one-each l (before .tolerance)
 
   pub listed-long : l .spacing ≡ Listed → l .n ≤ length (l .parameters)
   unfolding misplaced miscounted

@@ -133,6 +133,12 @@ unfolding any
 any-false zero f h = refl
 any-false (suc n) f h = rw (any-false n f (λ i l. h i (omega arith)), h n (omega arith))
 
+-- the tests below n tell
+pub any-agree : (n : ℕ) (f g : ℕ → Bool) → ((i : ℕ) → i < n → f i ≡ g i) → any n f ≡ any n g
+unfolding any
+any-agree zero f g h = refl
+any-agree (suc n) f g h = rw (any-agree n f g (λ i l. h i (omega arith)), h n (omega arith))
+
 any-same : (n : ℕ) (f : ℕ → Bool) (b : Bool) → ((i : ℕ) → i < n → f i ≡ b) → 0 < n → any n f ≡ b
 any-same n f true h l = any-found f n 0 l (h 0 l)
 any-same n f false h l = any-false n f h

@@ -10,7 +10,7 @@ use Rattle.request.specs.Parameters.{misplaced, unreliable}
 use Rattle.request.specs.Points.{unfit}
 use Rattle.smoothing.specs.Request.{Lane, Limits}
 use Rattle.smoothing.specs.Rows.{Task}
-use Rattle.smoothing.specs.Checks.{wideLane, wideLimits, miscountedPoints, Room, shortRoom, noAxes, badAxes, badTolerance, overflows}
+use Rattle.smoothing.specs.Checks.{wideLane, wideLimits, miscountedPoints, Room, shortRoom, noAxes, badAxes, badTolerance, tooFine, overflows}
 
 -- a tolerance that 4 refuses, where it is to be above 0; a coordinate that 7 refuses, where not
 abbrev pub badCell : Bool → Float → Bool
@@ -34,14 +34,15 @@ unfoldable pub refusalFirst : Room → Lane → Limits → ℕ
 refusalFirst room l m =
     cond (wideLane l || wideLimits m) 18 (cond (miscountedPoints l) 20 (cond (shortRoom room l m) 19 0))
 
--- the first of 1 to 5 that holds, 0 where none does
+-- the first of 1 to 4, 26 and 5 that holds, 0 where none does
 unfoldable pub refusalBefore : Lane → ℕ
 refusalBefore l =
     cond (unfit (l .d) (l .n) (l .points)) 1
     (cond (noAxes l) 2
     (cond (badAxes l) 3
     (cond (badTolerance l) 4
-    (cond (misplaced (l .spacing) (l .parameters) (l .n)) 5 0))))
+    (cond (tooFine l) 26
+    (cond (misplaced (l .spacing) (l .parameters) (l .n)) 5 0)))))
 
 -- 6 and 7, which are asked where none of those holds: of the parameters and of the task
 abbrev pub refusalAfter : Spacing → List Float → Task → ℕ

@@ -1,21 +1,23 @@
 // The checks that turn a request away before anything is computed, and those of what is put first.
 ghost use mathlib.Core.Path.{_≡_};
 ghost use mathlib.Core.Bool.{not, _||_};
-ghost use Prim.Native.Nat.{_≤_, _<_, max};
-ghost use lib.ListN.{length};
+ghost use Prim.Native.Nat.{ℕ, _*_, _≤_, _<_, max};
+ghost use lib.ListN.{length, getD};
 ghost use lib.Ieee.Scale.{finite};
 ghost use Rattle.window.specs.Cells.{at};
 ghost use Rattle.request.specs.Any.{any};
 ghost use Rattle.request.specs.Parameters.{anyFall};
 ghost use Rattle.smoothing.specs.Request.{Lane, axisCount};
-ghost use Rattle.smoothing.specs.Checks.{wideLane, wideLimits, shortRoom, badAxes, badTolerance};
-ghost use Rattle.checks.specs.Request.{axesOf, toleranceOf, limitsOf, laneOf};
+ghost use Rattle.smoothing.specs.Checks.{wideLane, wideLimits, shortRoom, badAxes, badTolerance, exceeds, anyExceeds};
+ghost use Rattle.checks.specs.declared.Tolerance.the-variants.{PerAxis};
+ghost use Rattle.checks.specs.Request.{axesOf, toleranceOf, limitsOf, laneOf, axesIn, tolerancesIn};
 ghost use Rattle.checks.specs.Checks.{badCell, roomOf, refusalFirst, refusalBefore};
 use crate::Axes;
 use crate::Limits;
 use crate::Tolerance;
 use crate::choices::chosen;
 use crate::choices::count_of;
+use crate::choices::tolerances_of;
 use request::parameters::Spacing;
 
 fn larger(a: usize, b: usize) -> usize
@@ -185,7 +187,54 @@ fn bad_tolerance(tolerance: Tolerance, list: &[f64], k: usize) -> bool
     }
 }
 
-// The first of the refusals 1 to 5 that holds, 0 where none does.
+// Whether a coordinate of the row `axis`, of n points of d rows, exceeds `most`.
+fn exceeds(points: &[f64], d: usize, n: usize, axis: usize, most: f64) -> bool
+    requires { ⌜ (axis < d) × (d ≤ 16) × (n ≤ 20000) × (n * d ≤ length (now points)) ⌝ }
+    ensures { λ r. ⌜ r ≡ exceeds (now (points .entry)) d n axis most ⌝ }
+{
+    let mut i = 0;
+    while i < n {
+        if most < float::abs(points[i * d + axis]) {
+            return true;
+        }
+        i += 1;
+    }
+    false
+}
+
+// Whether a tolerance is too fine for the coordinates of its axis (26): one of them exceeds the tolerance
+// times 2^48.
+fn too_fine(
+    points: &[f64],
+    d: usize,
+    n: usize,
+    axes: Axes,
+    list: &[usize],
+    tolerance: Tolerance,
+    tolerances: &[f64],
+) -> bool
+    requires { ⌜ (d ≤ 16) × (n ≤ 20000) × (n * d ≤ length (now points)) × (length (axesIn axes (now list) d) ≤ d) ⌝ }
+    requires { ⌜ ((a : ℕ) → a < length (axesIn axes (now list) d) → getD (axesIn axes (now list) d) a 0 < d) ⌝ }
+    requires { ⌜ (tolerance ≡ PerAxis → length (now tolerances) ≡ length (axesIn axes (now list) d)) ⌝ }
+    ensures { λ r. ⌜ r ≡ anyExceeds (now (points .entry)) d n (axesIn axes (now (list .entry)) d)
+        (tolerancesIn tolerance (now (tolerances .entry)) (length (axesIn axes (now (list .entry)) d))) ⌝ }
+{
+    let c = chosen(axes, list, d);
+    let k = c.count;
+    let cells = c.axes;
+    let eps = tolerances_of(tolerance, tolerances, k);
+    let bounds = eps.cells;
+    let mut a = 0;
+    while a < k {
+        if exceeds(points, d, n, cells[a], bounds[a] * 281474976710656.0) {
+            return true;
+        }
+        a += 1;
+    }
+    false
+}
+
+// The first of the refusals 1 to 4, 26 and 5 that holds, 0 where none does.
 pub fn refusal_before(
     points: &[f64],
     d: usize,
@@ -197,7 +246,7 @@ pub fn refusal_before(
     spacing: Spacing,
     parameters: &[f64],
 ) -> usize
-    requires { ⌜ (d ≤ 16) × (n ≤ 20000) ⌝ }
+    requires { ⌜ (d ≤ 16) × (n ≤ 20000) × (n * d ≤ length (now points)) ⌝ }
     ensures { λ r. ⌜ r ≡ refusalBefore (laneOf d n axes (now (list .entry)) tolerance (now (tolerances .entry)) spacing
         (now (parameters .entry)) (now (points .entry))) ⌝ }
 {
@@ -213,6 +262,9 @@ pub fn refusal_before(
     }
     if bad_tolerance(tolerance, tolerances, k) {
         return 4;
+    }
+    if too_fine(points, d, n, axes, list, tolerance, tolerances) {
+        return 26;
     }
     if request::parameters::misplaced(spacing, parameters, n) {
         return 5;

@@ -7,9 +7,12 @@ use borrow.Author.Tests.{eq-eqb, ne-eqb}
 use Rattle.request.specs.Points.{unfit}
 use Rattle.request.proofs.Counts.{waypoint-count}
 use Rattle.smoothing.specs.Request.{Lane, axisCount}
-use Rattle.smoothing.specs.Checks.{noAxes, badAxes, badTolerance}
+use Rattle.smoothing.specs.Checks.{noAxes, badAxes, badTolerance, tooFine}
+use Rattle.smoothing.proofs.Passed.{good-axes, all-axes}
 use Rattle.checks.specs.Request.{laneOf}
 use Rattle.checks.specs.Checks.{refusalBefore}
+use Rattle.checks.proofs.Passed.{one-each}
+use Rattle.checks.proofs.Selected.{per-axis-count}
 use Rattle.checks.proofs.refusals.refusal_before.Statement.{statement}
 use Rattle.checks.proofs.refusals.refusal_before.Tie as tie
 
@@ -36,6 +39,23 @@ tolerant : (c : tie.Else4) → badTolerance (lane (c .before .before .before .be
 tolerant c =
     let k = c .before .before .before .before .before in
     sym (c .before .bad-tolerance .ensures (lane (k .before .before)) refl (sym (k .count-of .ensures))) ∙ c .if4 .left
+
+-- what 26 is asked of
+too-fine-requires : tie.Need-too-fine-requires
+too-fine-requires c κs =
+    let r = c .before .before in
+    let l = lane (r .before .before .before .before .before) in
+    let s = r .before .before .before .before .before .before .before .before .before .before in
+    (
+      (s .pre .0, s .pre .1, s .pre .2, omega (arith, all-axes l (formed r))),
+      (
+        λ a h. good-axes l (formed r) a h .0,
+        λ e. omega (arith, per-axis-count (s .args .tolerance) (s .args .tolerances .now) (axisCount l) e, one-each l (tolerant c)),
+      ),
+    )
+
+coarse : (c : tie.Else5) → tooFine (lane (c .before .before .before .before .before .before .before .before .before)) ≡ false
+coarse c = sym (c .before .too-fine .ensures) ∙ c .if5 .left
 
 returns : tie.Need-returns
 unfolding refusalBefore
@@ -64,27 +84,37 @@ returns-4 c =
     let n = sym (q .before .count-of .ensures) in
     rw (fit p, some q, formed r, sym (c .before .bad-tolerance .ensures (lane (p .before)) refl n) ∙ c .if4 .taken)
 
-misplaced-requires : tie.Need-misplaced-requires
-misplaced-requires c κs =
-    let p = c .before .before .before .before .before .before in
-    let s = p .before .before .before .before .before .before in
-    (waypoint-count (s .args .d) (s .args .n) (s .args .points .now) (fit p), s .pre .1)
-
 returns-5 : tie.Need-returns-5
 unfolding refusalBefore
 returns-5 c =
     let t = c .before .before in
     let r = t .before .before in
     let q = r .before .before in
-    rw (fit (q .before .before), some q, formed r, tolerant t, sym (c .before .misplaced .ensures) ∙ c .if5 .taken)
+    rw (fit (q .before .before), some q, formed r, tolerant t, sym (c .before .too-fine .ensures) ∙ c .if5 .taken)
+
+misplaced-requires : tie.Need-misplaced-requires
+misplaced-requires c κs =
+    let p = c .before .before .before .before .before .before .before .before in
+    let s = p .before .before .before .before .before .before in
+    (waypoint-count (s .args .d) (s .args .n) (s .args .points .now) (fit p), s .pre .1)
 
 returns-6 : tie.Need-returns-6
 unfolding refusalBefore
 returns-6 c =
-    let t = c .before .before in
+    let u = c .before .before in
+    let t = u .before .before in
     let r = t .before .before in
     let q = r .before .before in
-    rw (fit (q .before .before), some q, formed r, tolerant t, sym (c .before .misplaced .ensures) ∙ c .if5 .left)
+    rw (fit (q .before .before), some q, formed r, tolerant t, coarse u, sym (c .before .misplaced .ensures) ∙ c .if6 .taken)
+
+returns-7 : tie.Need-returns-7
+unfolding refusalBefore
+returns-7 c =
+    let u = c .before .before in
+    let t = u .before .before in
+    let r = t .before .before in
+    let q = r .before .before in
+    rw (fit (q .before .before), some q, formed r, tolerant t, coarse u, sym (c .before .misplaced .ensures) ∙ c .if6 .left)
 
 pub refusal-before-spec : {M : Type 1} → statement M
 refusal-before-spec =
@@ -98,6 +128,8 @@ refusal-before-spec =
     returns-3
     (λ c κs. search needs)
     returns-4
-    misplaced-requires
+    too-fine-requires
     returns-5
-    returns-6)
+    misplaced-requires
+    returns-6
+    returns-7)
