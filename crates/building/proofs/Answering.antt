@@ -45,15 +45,15 @@ module _ (l : Lane) (m : Limits) (w : List Float) (s : Results) where
   unfolding buildIn answerOf
   answer-on h = let p = sized (lengthsOf w s) l m h in rw (p .narrow, p .counted, p .roomy) refl
 
-pub first-known : (n : ℕ) → First n → (1 ≤ n) × (n ≤ 20) × (n ≡ 14 → ⊥)
+pub first-known : (n : ℕ) → First n → (1 ≤ n) × (n ≡ 14 → ⊥) × (20 < n → n ≡ 26)
 first-known n h = elim (ℕ-discrete n 18) [
-  | yes e ↦ (omega arith, omega arith, λ z. omega arith)
+  | yes e ↦ (omega arith, λ z. omega arith, λ z. omega arith)
   | no e ↦
       elim (ℕ-discrete n 20) [
-        | yes f ↦ (omega arith, omega arith, λ z. omega arith)
+        | yes f ↦ (omega arith, λ z. omega arith, λ z. omega arith)
         | no f ↦
             let g : n ≡ 19 = eqb-true n 19 (sym (rw (ne-eqb n 18 e, ne-eqb n 20 f) refl) ∙ h) in
-            (omega arith, omega arith, λ z. omega arith)
+            (omega arith, λ z. omega arith, λ z. omega arith)
       ]
 ]
 

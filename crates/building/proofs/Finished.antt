@@ -81,7 +81,7 @@ module _ (l : Lane) (m : Limits) where
 
   -- ---- the numbers that it refuses with
   abbrev Known : ℕ → Type 0
-  Known n = (1 ≤ n) × (n ≤ 17) × (n ≡ 14 → ⊥)
+  Known n = (1 ≤ n) × (n ≡ 14 → ⊥) × (17 < n → n ≡ 26)
 
   refused-same : {A : Type 0} {a b : ℕ} → _≡_ {A = Answer A} (refused a) (refused b) → a ≡ b
   refused-same {A} {a} e = ap number e
@@ -108,7 +108,7 @@ module _ (l : Lane) (m : Limits) where
       others x (refused k) e g =
           let r = other-refused l k e in
           let q : k ≡ n = refused-same g in
-          (omega arith, omega arith, λ z. omega arith)
+          (omega arith, λ z. omega arith, λ z. omega arith)
       others x (exhausted w) e g = absurd (exhausted-refused g)
 
       chosen : (x : Answer Selected) → selectedOf m (laneTask l) (laneUnits l) ≡ x
@@ -117,7 +117,7 @@ module _ (l : Lane) (m : Limits) where
       chosen (refused k) e g =
           let r = selected-refused m (laneTask l) (laneUnits l) k e in
           let q : k ≡ n = refused-same g in
-          (omega arith, omega arith, λ z. r .2 (q ∙ z))
+          (omega arith, λ z. r .2 (q ∙ z), λ z. omega arith)
       chosen (exhausted w) e g = absurd (exhausted-refused g)
 
       go : (b : Bool) → eqb (refusalOf l) 0 ≡ b
@@ -126,8 +126,7 @@ module _ (l : Lane) (m : Limits) where
       go false e g =
           let q : refusalOf l ≡ n = refused-same g in
           let z = eqb-false (refusalOf l) 0 e in
-          let f = refusal-most l in
-          (omega (arith, z), omega arith, λ i. omega arith)
+          (omega (arith, z), λ i. omega (arith, refusal-most l (omega arith)), λ i. sym q ∙ refusal-most l (omega arith))
 
   -- ---- the work slice is cleared after each of them
   pub work-cleared : (w : List Float) → zeros (length w) ≡ workAfter (checkedOf l m) w
@@ -138,7 +137,9 @@ module _ (l : Lane) (m : Limits) where
       go (done b) e = refl
       go (refused n) e =
           let k = both-known n e in
-          rw (ne-eqb n 18 (λ z. omega arith), ne-eqb n 20 (λ z. omega arith), ne-eqb n 19 (λ z. omega arith)) refl
+          let fine : 17 < n → n ≡ 26 = k .2 in
+          rw (ne-eqb n 18 (λ z. omega (arith, fine (omega arith))), ne-eqb n 20 (λ z. omega (arith, fine (omega arith))),
+          ne-eqb n 19 (λ z. omega (arith, fine (omega arith)))) refl
       go (exhausted x) e = refl
 
 -- ---- the result of a run that is done

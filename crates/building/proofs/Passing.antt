@@ -1,4 +1,4 @@
--- A lane that the checks 1 to 5 let through: how the definition goes on, and that the arguments of `compute` are the lane's.
+-- A lane that the checks 1 to 5 and 26 let through: how the definition goes on, and that the arguments of `compute` are the lane's.
 use mathlib.Core.Path.{_≡_, refl, sym, ap, _∙_}
 use mathlib.Core.Bool.{Bool, true, false, cond}
 use mathlib.Core.List.{List}
@@ -24,7 +24,7 @@ use Rattle.work_slice.specs.Rows.{sOf, unitsFrom, taskFrom, otherWith, otherFro
 use Rattle.building.specs.Computed.{computedOf}
 use Rattle.building.specs.Answered.{checkedBoth}
 
--- ---- the definition goes on where none of 1 to 5 holds
+-- ---- the definition goes on where none of 1 to 5 and 26 holds
 pub stops-early : (l : Lane) (m : Limits) → 0 < refusalBefore l → checkedBoth l m ≡ refused (refusalBefore l)
 unfolding checkedBoth
 stops-early l m h =

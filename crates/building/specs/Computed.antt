@@ -1,4 +1,4 @@
--- What is computed once the checks 1 to 5 let a request through: 6 and 7, the selected axes, then the other axes, over the work slice.
+-- What is computed once the checks 1 to 5 and 26 let a request through: 6 and 7, the selected axes, then the other axes, over the work slice.
 use Prim.Native.Nat.{ℕ}
 use mathlib.Core.Bool.{cond}
 use mathlib.Core.List.{List}

@@ -17,9 +17,9 @@ use Rattle.work_slice.specs.Rows.{onto}
 use Rattle.building.specs.declared.Report.{Report}
 use Rattle.checks.specs.Checks.{roomOf}
 use Rattle.building.specs.declared.Answer.{Answer}
-use Rattle.building.specs.declared.Answer.the-variants.{Accepted, BadPoints, NoAxes, BadAxes, BadTolerance, BadParameters, BadRange, Overflow, InitialSegments, BadDiagonal, BadPivot, BadSolution, NotAbove, NotFinite, RefinementsUsedUp, SegmentsUsedUp, BadMidpoint, ErrorAboveTolerance, AboveDomain, ShortSlice, PointCells}
+use Rattle.building.specs.declared.Answer.the-variants.{Accepted, BadPoints, NoAxes, BadAxes, BadTolerance, BadParameters, BadRange, Overflow, InitialSegments, BadDiagonal, BadPivot, BadSolution, NotAbove, NotFinite, RefinementsUsedUp, SegmentsUsedUp, BadMidpoint, ErrorAboveTolerance, AboveDomain, ShortSlice, PointCells, ToleranceTooFine}
 
--- document 01's number of each refusal; 14 with its ratio; the report of an accepted request
+-- the number of each refusal, document 01's and document 02's; 14 with its ratio; the report of an accepted request
 abbrev pub outcomeOf : Answer → answers.Answer Report
 outcomeOf (Accepted r) = done r
 outcomeOf BadPoints = refused 1
@@ -42,6 +42,7 @@ outcomeOf ErrorAboveTolerance = refused 17
 outcomeOf AboveDomain = refused 18
 outcomeOf ShortSlice = refused 19
 outcomeOf PointCells = refused 20
+outcomeOf ToleranceTooFine = refused 26
 
 -- `SmoothingReport`, whose errors go to their slice
 abbrev pub reportOf : Result → Report

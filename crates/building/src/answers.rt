@@ -1,12 +1,12 @@
-// Answers and document 01's numbers.
+// Answers and the numbers of documents 01 and 02.
 ghost use mathlib.Core.Path.{_≡_};
-ghost use Prim.Native.Nat.{_≤_};
+ghost use Prim.Native.Nat.{_≤_, _<_};
 ghost use Rattle.smoothing.specs.Answer.{numberOf};
 ghost use Rattle.smoothing.specs.Answer.Answer.{refused};
 ghost use Rattle.building.specs.Outcome.{outcomeOf};
 use crate::Answer;
 
-// Document 01's number of an answer, 0 where it is accepted.
+// The number of an answer, 0 where it is accepted.
 pub fn number(answer: Answer) -> u64
     ensures { λ r. ⌜ r ≡ numberOf (outcomeOf answer) ⌝ }
 {
@@ -32,6 +32,7 @@ pub fn number(answer: Answer) -> u64
         Answer::AboveDomain => 18,
         Answer::ShortSlice => 19,
         Answer::PointCells => 20,
+        Answer::ToleranceTooFine => 26,
     }
 }
 
@@ -79,9 +80,9 @@ fn late_refusal(number: usize) -> Answer
     }
 }
 
-// The refusal with document 01's number.
+// The refusal with document 01's number, or document 02's.
 pub(crate) fn refusal(number: usize) -> Answer
-    requires { ⌜ (1 ≤ number) × (number ≤ 20) × (number ≡ 14 → ⊥) ⌝ }
+    requires { ⌜ (1 ≤ number) × (number ≡ 14 → ⊥) × (20 < number → number ≡ 26) ⌝ }
     ensures { λ r. ⌜ outcomeOf r ≡ refused number ⌝ }
 {
     if number < 8 {
@@ -89,6 +90,9 @@ pub(crate) fn refusal(number: usize) -> Answer
     }
     if number < 14 {
         return fit_refusal(number);
+    }
+    if 20 < number {
+        return Answer::ToleranceTooFine;
     }
     late_refusal(number)
 }

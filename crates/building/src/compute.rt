@@ -1,4 +1,4 @@
-// What is computed once the checks 1 to 5 let a request through.
+// What is computed once the checks 1 to 5 and 26 let a request through.
 ghost use mathlib.Core.Path.{_≡_};
 ghost use Prim.Native.Nat.{_+_, _-_, _*_, _≤_, _<_};
 ghost use lib.ListN.{length};

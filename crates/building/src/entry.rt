@@ -61,7 +61,7 @@ fn stopped(number: usize) -> Run
     }
 }
 
-// What is computed once the checks 1 to 5 let the request through.
+// What is computed once the checks 1 to 5 and 26 let the request through.
 fn gather(
     points: &[f64],
     d: usize,
@@ -187,7 +187,7 @@ fn no_curve(mode: Mode) -> Curve
 }
 
 fn refuse(number: usize, mode: Mode) -> Built
-    requires { ⌜ (1 ≤ number) × (number ≤ 20) × (number ≡ 14 → ⊥) ⌝ }
+    requires { ⌜ (1 ≤ number) × (number ≡ 14 → ⊥) × (20 < number → number ≡ 26) ⌝ }
     ensures { λ r. ⌜ (outcomeOf (r .answer) ≡ refused number) × (r .curve ≡ noCurve mode) ⌝ }
 {
     let answer = answers::refusal(number);

@@ -45,4 +45,5 @@ pub enum Answer {
     AboveDomain,
     ShortSlice,
     PointCells,
+    ToleranceTooFine,
 }

@@ -156,7 +156,7 @@ refuse-requires c κs =
     let g = c .before .before .before .before .before .before in
     let s = origin g in
     let k = both-known (lane s) (limits s) _ (sym (g .checked .ensures .is) ∙ ended-refused _ _ _ (c .before .ending .given .1)) in
-    (k .0, omega (arith, k .1), k .2)
+    (k .0, k .1, λ h. k .2 (omega arith))
 
 returns-2 : tie.Need-returns-2
 unfolding reported curveAfter resultsAfter
