@@ -111,6 +111,9 @@ enum pamitoye_number {
     PAMITOYE_ORDER_ABOVE_THREE = 23,
     /* the curve is not well formed */
     PAMITOYE_MALFORMED = 24,
+    /* a smoothed coordinate, without its sign, exceeds its tolerance times 2^48: subtract an offset
+     * from the coordinates, or take a larger tolerance */
+    PAMITOYE_TOLERANCE_TOO_FINE = 26,
     /* a pair names a lane that is not below the number of lanes */
     PAMITOYE_NO_SUCH_LANE = 31,
     /* a ring: no order meets all pairs */
@@ -137,8 +140,8 @@ uint64_t pamitoye_room(size_t d, size_t n, size_t max_segments, size_t room[6]);
  *                 has n numbers that rise strictly
  *     max_refinements, max_segments      limits, at most 200 and 20000
  *     clamp       the curve's mode; it changes nothing here
- * The axes that are not smoothed are interpolated. Numbers: 18, 20, 19, 1 to 7, then 8 to 17, in
- * the order in which they are met.
+ * The axes that are not smoothed are interpolated. Numbers: 18, 20, 19, 1 to 4, 26, 5 to 7, then 8 to
+ * 17, in the order in which they are met.
  *
  * On 0:
  *     counts      segments, other (interpolated) segments, refinements, fitting rows, checked

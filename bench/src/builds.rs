@@ -165,14 +165,6 @@ fn build(request: &Request, lent: &mut Lent) -> Told {
     told
 }
 
-/// The source's answer, or document 01's number.
-fn source(request: &Request) -> Result<Built, Refusal> {
-    match request.refused_before_source() {
-        Some(number) => Err(number.into()),
-        None => reach::build(request).map_err(Refusal::from),
-    }
-}
-
 fn alike(a: &[f64], b: &[f64]) -> bool {
     a.len() == b.len() && a.iter().zip(b).all(|(a, b)| same(*a, *b))
 }
@@ -232,7 +224,11 @@ fn agrees(wanted: &Result<Built, Refusal>, told: &Told, lent: &Lent) -> bool {
         let work = &lent.0[0];
         all(&work[..GUARD], MARK) && all(&work[work.len() - GUARD..], MARK)
     };
-    let left = if number > 17 { MARK } else { 0. };
+    let left = if (18..=20).contains(&number) {
+        MARK
+    } else {
+        0.
+    };
     told.number == number as u64
         && guards
         && all(lent.part(0), left)
@@ -244,7 +240,7 @@ fn draw(r: &mut Random) -> Request {
     let mut request = match r.below(20) {
         0..=2 => request::small_lane(r),
         3 => request::long_lane(r),
-        _ => request::draw(r),
+        _ => request::draw_any(r),
     };
     if r.chance(20) {
         request.more = std::array::from_fn(|_| r.below(20) as i8);
@@ -270,7 +266,7 @@ struct Tally {
     differences: usize,
     cells: usize,
     /// Accepted ones at 0.
-    numbers: [usize; 21],
+    numbers: [usize; 27],
     with_other: usize,
     rounds: usize,
     most_rounds: usize,
@@ -282,7 +278,7 @@ struct Tally {
 
 impl Tally {
     fn add(&mut self, request: &Request, lent: &mut Lent) {
-        let wanted = source(request);
+        let wanted = request.answer();
         lent.mark(request);
         let told = build(request, lent);
         self.requests += 1;
@@ -328,7 +324,12 @@ impl Tally {
             "builds     {} requests {} lent cells {} differences",
             self.requests, self.cells, self.differences
         );
-        let refused = self.numbers.iter().enumerate().skip(1);
+        let refused = self
+            .numbers
+            .iter()
+            .enumerate()
+            .skip(1)
+            .filter(|(_, n)| **n > 0);
         let refused: Vec<_> = refused.map(|(i, n)| format!("{i}: {n}")).collect();
         println!("refused    {}", refused.join(", "));
         println!(
@@ -402,7 +403,7 @@ fn least<const N: usize>(least_time: Duration, work: [&mut dyn FnMut(); N]) -> [
 /// One row: the port with the source's own limit of 20,000 segments, the port with no more than are made, the source, and the clearing
 /// of that second port's work slice alone.
 fn measure(name: &str, request: &Request, least_time: Duration) {
-    let wanted = source(request);
+    let wanted = request.answer();
     let (segments, rounds) = match &wanted {
         Ok(built) => (built.counts[0], built.counts[2]),
         Err(_) => (request.config.max_segments, request.config.max_refinements),

@@ -21,6 +21,9 @@ mod certificate;
 mod handed;
 #[path = "../../oracle/src/generate/known.rs"]
 mod known;
+#[path = "../../oracle/src/port.rs"]
+#[allow(dead_code)]
+mod port;
 #[path = "../../oracle/src/query.rs"]
 #[allow(dead_code)]
 mod query;

@@ -2,7 +2,6 @@
 
 use crate::case::{ALL_AXES, AXIS_WORDS, Case, Curve, Kind, Pieces, Row, unpack};
 use crate::certificate::{Certificate, Question};
-use crate::diag::PathError;
 use crate::handed::HandedCurve;
 use crate::path::OutOfRangeMode;
 use crate::path::smoothing::{SmoothingConfig, SmoothingTolerance, reach};
@@ -47,7 +46,7 @@ impl Answer {
     }
 
     /// The answer of a step that may refuse.
-    fn of(result: Result<(Vec<usize>, Vec<f64>), PathError>) -> Self {
+    fn of(result: Result<(Vec<usize>, Vec<f64>), impl Into<Refusal>>) -> Self {
         match result {
             Ok((whole, cells)) => Self::Given(whole, cells),
             Err(e) => Self::Refused(e.into()),
@@ -355,10 +354,7 @@ fn regions(mut input: Input) -> Result<Answer, String> {
 
 fn build(input: Input) -> Result<Answer, String> {
     let request = request(input)?;
-    if let Some(number) = request.refused_before_source() {
-        return Ok(Answer::Refused(number.into()));
-    }
-    let result = reach::build(&request).map(|built| {
+    let result = request.answer().map(|built| {
         let curve = built.curve;
         let whole = [&built.counts[..], &curve.axes].concat();
         let mut cells = vec![curve.start, curve.end];

@@ -1,8 +1,7 @@
 //! The program `lane`, as document 01 has it: the bytes of a job, the source's answer and its text.
 
 use crate::answer::digits;
-use crate::path::smoothing::{SmoothingTolerance, reach};
-use crate::refusal::Refusal;
+use crate::path::smoothing::SmoothingTolerance;
 use crate::request::Request;
 use std::fmt::Write;
 
@@ -87,10 +86,10 @@ pub fn write(counts: [usize; 4], tolerance: f64, points: &[f64]) -> Vec<u8> {
     bytes
 }
 
-/// The lines of the source's answer.
+/// The lines of the answer.
 fn print_build(request: &Request) -> String {
     let mut text = String::new();
-    match reach::build(request) {
+    match request.answer() {
         Ok(built) => {
             text.push_str("accepted");
             for count in built.counts {
@@ -100,8 +99,7 @@ fn print_build(request: &Request) -> String {
                 write!(text, "\n{}", digits(error)).unwrap();
             }
         }
-        Err(e) => {
-            let refusal = Refusal::from(e);
+        Err(refusal) => {
             write!(text, "refused {}", refusal.number).unwrap();
             if let Some(ratio) = refusal.ratio {
                 write!(text, " {}", digits(ratio)).unwrap();

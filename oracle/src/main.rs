@@ -13,6 +13,7 @@ mod generate;
 mod handed;
 mod job;
 mod list;
+mod port;
 mod query;
 mod random;
 mod refusal;
@@ -126,7 +127,7 @@ fn recipe(file: &str) -> Result<Vec<Case>, String> {
 fn requests(seed: u64, count: usize) -> Vec<Case> {
     let mut r = Random::new(seed);
     (0..count)
-        .map(|_| Case::build(&request::draw(&mut r)))
+        .map(|_| Case::build(&request::draw_any(&mut r)))
         .collect()
 }
 

@@ -83,6 +83,21 @@ impl Request {
         short.then_some(19)
     }
 
+    /// Document 02's 26: whether a coordinate of a smoothed axis exceeds its tolerance times 2^48.
+    pub fn is_too_fine(&self) -> bool {
+        let all: Vec<_> = (0..self.d).collect();
+        let axes = self.config.axes.as_ref().unwrap_or(&all);
+        axes.iter().enumerate().any(|(i, axis)| {
+            let tolerance = match &self.config.tolerance {
+                SmoothingTolerance::Uniform(x) => Some(x),
+                SmoothingTolerance::PerAxis(list) => list.get(i),
+            };
+            let most = tolerance.map_or(f64::NAN, |x| x * 281_474_976_710_656.);
+            let row = self.points.iter().skip(*axis).step_by(self.d.max(1));
+            row.into_iter().any(|x| x.abs() > most)
+        })
+    }
+
     /// How many axes are smoothed.
     fn selected(&self) -> usize {
         self.config.axes.as_ref().map_or(self.d, Vec::len)
@@ -110,11 +125,21 @@ pub fn draw(r: &mut Random) -> Request {
     .limit_work()
 }
 
+/// Any request: those, and lanes whose largest numbers 26 lets through.
+pub fn draw_any(r: &mut Random) -> Request {
+    if r.chance(90) {
+        draw(r)
+    } else {
+        carried(r).limit_work()
+    }
+}
+
 /// A request from the part of the generator that meets the refusal `number` most often.
 pub fn near_refusal(r: &mut Random, number: usize) -> Request {
     match number {
-        1..=7 => faulty(r),
+        1..=6 => faulty(r),
         8 | 14 | 15 => small_limits(r),
+        7 | 11 | 13 | 16 | 17 => carried(r),
         _ => extreme(r),
     }
     .limit_work()
@@ -464,6 +489,57 @@ fn extreme(r: &mut Random) -> Request {
             let row = (0..r.between(2, 8)).map(|_| r.scaled(900, 1022)).collect();
             let mut request = Request::of_rows(&[row]);
             let tolerance = r.scaled(850, 1000).abs();
+            request.config.tolerance = SmoothingTolerance::Uniform(tolerance);
+            request
+        }
+    }
+}
+
+/// Lanes of the largest numbers that 26 lets through, around the smallest inputs known for 7, 11, 13,
+/// 16 and 17; and coordinates at and next to its bound.
+fn carried(r: &mut Random) -> Request {
+    let wide = |r: &mut Random| (1.7 - 0.5 * r.unit()) * 1e308;
+    match r.below(6) {
+        // A difference that overflows: 7, and 11 beside a smoothed axis.
+        0 => {
+            let rows = [vec![-wide(r), wide(r)]];
+            let tolerance = 1e294 * near(r, 1e3);
+            Request::of_rows(&rows)
+                .with(|q| q.config.tolerance = SmoothingTolerance::Uniform(tolerance))
+        }
+        1 => Request::flat_beside(&[-wide(r), wide(r)]),
+        // A corner whose coefficients overflow in physical units: 13.
+        2 => {
+            let height = near(r, 1e306);
+            let mut request = Request::of_rows(&[vec![0., height, 0.]]);
+            let tolerance = height / r.between(2, 40) as f64;
+            request.config.tolerance = SmoothingTolerance::Uniform(tolerance);
+            request
+        }
+        // A spike and a fine tolerance: 16 after many refinements.
+        3 => {
+            let mut request = Request::of_rows(&[vec![0., 0., near(r, 1.), 0., 0.]]);
+            let tolerance = power_of_two(-(r.between(38, 47) as i32));
+            request.config.tolerance = SmoothingTolerance::Uniform(tolerance);
+            request.config.max_refinements = 200;
+            request.config.max_segments = 300;
+            request
+        }
+        // Far from 0: 17.
+        4 => {
+            let x = power_of_two(47) * (1. + r.unit());
+            let steps = r.pick(&[0., 0., 1., 3.]);
+            let row = (0..r.between(2, 6)).map(|_| x + steps * r.signed());
+            Request::of_rows(&[row.collect()])
+        }
+        // At the bound of 26.
+        _ => {
+            let tolerance = r.scaled(-1074, 1000).abs().max(5e-324);
+            let most = tolerance * power_of_two(48);
+            let most = r.pick(&[most, most.next_up(), most.next_down()]) * r.sign();
+            let most = most.clamp(-f64::MAX, f64::MAX);
+            let row = vec![r.pick(&[0., most, -most]), most];
+            let mut request = Request::of_rows(&[row]);
             request.config.tolerance = SmoothingTolerance::Uniform(tolerance);
             request
         }

@@ -95,6 +95,16 @@ fn known_requests_end_as_noted() {
     }
 }
 
+/// What the source gives for requests that are 26, as docs/DIFFERENCES.md tells.
+#[test]
+fn requests_that_are_too_fine_end_otherwise_in_the_source() {
+    let requests = known::requests();
+    let fine = requests.iter().filter(|(number, _)| *number == 26);
+    let ends = fine.map(|(_, q)| reach::build(q).map_or_else(|e| Refusal::from(e).number, |_| 0));
+    let ends: Vec<_> = ends.take(8).collect();
+    assert_eq!(ends, [17, 0, 7, 13, 14, 16, 11, 0]);
+}
+
 #[test]
 fn lines_of_known_lanes() {
     let flat = one_row(&[0., 0.]);
@@ -207,7 +217,7 @@ fn requests_reach_every_refusal_but_12() {
 /// no numbers.
 #[test]
 fn stored_requests_reach_every_answer() {
-    let mut found = [0; 21];
+    let mut found = [0; 27];
     let (mut rounds, mut others, mut nan) = (0, 0, 0);
     for case in recipe("builds.txt").unwrap() {
         match answer(&case).unwrap() {
@@ -222,7 +232,11 @@ fn stored_requests_reach_every_answer() {
         }
     }
     for (number, count) in found.iter().enumerate() {
-        assert_eq!(*count == 0, number == 12, "{number}: {count}");
+        assert_eq!(
+            *count == 0,
+            matches!(number, 12 | 21..26),
+            "{number}: {count}"
+        );
     }
     assert!(rounds > 10 && others > 10 && nan > 2);
 }
@@ -550,8 +564,8 @@ fn seed_cases_are_finite() {
 }
 
 /// Recorded; a change of a generator changes them, and the stored list with them.
-const REQUESTS_1_200: u64 = 0xEE59_68FF_F28F_F0FA;
-const GROUPS_1_20: u64 = 0x6011_2AE9_F659_68D5;
+const REQUESTS_1_200: u64 = 0x1D20_11BE_0FC4_2712;
+const GROUPS_1_20: u64 = 0xE26F_63B3_AEE4_B008;
 
 #[test]
 fn refusal_14_prints_its_ratio() {

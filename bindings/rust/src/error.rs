@@ -55,6 +55,9 @@ pub enum PathError {
     ShortSlice,
     /// 20: the count of coordinates differs from axes times waypoints.
     PointCells,
+    /// 26: a smoothed coordinate exceeds its tolerance times 2^48. Coordinates from which an offset is subtracted
+    /// help, or a larger tolerance.
+    ToleranceTooFine,
     /// 22: a parameter is outside the range in mode `Error`, or a NaN in any mode.
     OutOfRangeS {
         /// The lower end of the range.
@@ -98,6 +101,7 @@ impl PathError {
             Self::AboveDomain => 18,
             Self::ShortSlice => 19,
             Self::PointCells => 20,
+            Self::ToleranceTooFine => 26,
             Self::OutOfRangeS { .. } => 22,
             Self::OrderAboveThree => 23,
             Self::Malformed => 24,
@@ -129,6 +133,7 @@ impl PathError {
             19 => Self::ShortSlice,
             20 => Self::PointCells,
             24 => Self::Malformed,
+            26 => Self::ToleranceTooFine,
             other => Self::Unknown(other),
         }
     }
@@ -184,6 +189,7 @@ impl fmt::Display for PathError {
             }
             Self::ShortSlice => "a result slice is too short, or there is no memory for it",
             Self::PointCells => "the count of coordinates is not axes times waypoints",
+            Self::ToleranceTooFine => "a coordinate has too many digits for its tolerance",
             Self::OutOfRangeS {
                 s_min,
                 s_max,
@@ -213,7 +219,7 @@ mod tests {
 
     #[test]
     fn a_number_names_its_case() {
-        for number in (1..=20).chain([24, 77]) {
+        for number in (1..=20).chain([24, 26, 77]) {
             assert_eq!(PathError::of_request(number, 2.5).number(), number);
             assert_eq!(PathError::of_certificate(number).number(), number);
         }

@@ -138,8 +138,11 @@ module _ (l : Lane) (m : Limits) where
       go (refused n) e =
           let k = both-known n e in
           let fine : 17 < n → n ≡ 26 = k .2 in
-          rw (ne-eqb n 18 (λ z. omega (arith, fine (omega arith))), ne-eqb n 20 (λ z. omega (arith, fine (omega arith))),
-          ne-eqb n 19 (λ z. omega (arith, fine (omega arith)))) refl
+          rw (
+            ne-eqb n 18 (λ z. omega (arith, fine (omega arith))),
+            ne-eqb n 20 (λ z. omega (arith, fine (omega arith))),
+            ne-eqb n 19 (λ z. omega (arith, fine (omega arith))),
+          ) refl
       go (exhausted x) e = refl
 
 -- ---- the result of a run that is done

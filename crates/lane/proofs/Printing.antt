@@ -16,7 +16,7 @@ use Rattle.smoothing.proofs.Accepted.{refused-done, exhausted-done, done-same}
 use Rattle.smoothing.specs.Build.{Result}
 use Rattle.building.specs.declared.Report.{Report}
 use Rattle.building.specs.declared.Answer.{Answer as Told}
-use Rattle.building.specs.declared.Answer.the-variants.{Accepted, RefinementsUsedUp, BadPoints, NoAxes, BadAxes, BadTolerance, BadParameters, BadRange, Overflow, InitialSegments, BadDiagonal, BadPivot, BadSolution, NotAbove, NotFinite, SegmentsUsedUp, BadMidpoint, ErrorAboveTolerance, AboveDomain, ShortSlice, PointCells}
+use Rattle.building.specs.declared.Answer.the-variants.{Accepted, RefinementsUsedUp, BadPoints, NoAxes, BadAxes, BadTolerance, BadParameters, BadRange, Overflow, InitialSegments, BadDiagonal, BadPivot, BadSolution, NotAbove, NotFinite, SegmentsUsedUp, BadMidpoint, ErrorAboveTolerance, AboveDomain, ShortSlice, PointCells, ToleranceTooFine}
 use Rattle.building.proofs.Answer.{the-type}
 use Rattle.building.specs.Outcome.{outcomeOf, reportOf, reported}
 use Rattle.lane.specs.Printed.{decimalOf, field, acceptedWord, refusedWord, newline, countsText, errorLine, errorLines, refusalText, printedOf}
@@ -120,7 +120,7 @@ refused-told n (exhausted z) e = absurd (let z : _≡_ {A = ℕ} 0 1 = cc in ome
 
 -- an answer that is neither an acceptance nor 14 is a refusal by its number
 abbrev pub refusals : List ℕ
-refusals = 1 ∷ (2 ∷ (3 ∷ (4 ∷ (5 ∷ (6 ∷ (7 ∷ (8 ∷ (9 ∷ (10 ∷ (11 ∷ (12 ∷ (13 ∷ (15 ∷ (16 ∷ (17 ∷ (18 ∷ (19 ∷ (20 ∷ []))))))))))))))))))
+refusals = 1 ∷ 2 ∷ 3 ∷ 4 ∷ 5 ∷ 6 ∷ 7 ∷ 8 ∷ 9 ∷ 10 ∷ 11 ∷ 12 ∷ 13 ∷ 15 ∷ 16 ∷ 17 ∷ 18 ∷ 19 ∷ 20 ∷ 21 ∷ []
 
 pub refusal-told : (a : Told) → OneOf refusals (tagOf the-type a) → outcomeOf a ≡ refused (numberOf (outcomeOf a))
 unfolding numberOf
@@ -145,3 +145,4 @@ refusal-told ErrorAboveTolerance h = refl
 refusal-told AboveDomain h = refl
 refusal-told ShortSlice h = refl
 refusal-told PointCells h = refl
+refusal-told ToleranceTooFine h = refl

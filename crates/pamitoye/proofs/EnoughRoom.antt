@@ -37,7 +37,7 @@ not-19 l m =
     (λ e. gives-then (selectedOf m (laneTask l) (laneUnits l)) _
     (by-number (selectedOf m (laneTask l) (laneUnits l)) (λ n e z. omega (arith, selected-refused m (laneTask l) (laneUnits l) n e)))
     (λ x i. gives-then (otherOf l) _ (by-number (otherOf l) (λ n e z. omega (arith, other-refused l n e))) (λ p i. gives tt)))
-    (λ e. refuses (λ z. omega (arith, refusal-most l)))))
+    (λ e. refuses (λ z. omega (arith, refusal-most l (omega arith))))))
 
 pub enough : (d n segments : ℕ) → Enough d n segments (roomCells d n segments)
 unfolding buildIn

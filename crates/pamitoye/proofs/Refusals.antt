@@ -12,13 +12,13 @@ use denote.Enum.Declared
 use Rattle.smoothing.specs.Answer.Answer.{refused}
 use Rattle.building.proofs.Answer as declared
 use Rattle.building.specs.declared.Answer.{Answer}
-use Rattle.building.specs.declared.Answer.the-variants.{Accepted, BadPoints, NoAxes, BadAxes, BadTolerance, BadParameters, BadRange, Overflow, InitialSegments, BadDiagonal, BadPivot, BadSolution, NotAbove, NotFinite, RefinementsUsedUp, SegmentsUsedUp, BadMidpoint, ErrorAboveTolerance, AboveDomain, ShortSlice, PointCells}
+use Rattle.building.specs.declared.Answer.the-variants.{Accepted, BadPoints, NoAxes, BadAxes, BadTolerance, BadParameters, BadRange, Overflow, InitialSegments, BadDiagonal, BadPivot, BadSolution, NotAbove, NotFinite, RefinementsUsedUp, SegmentsUsedUp, BadMidpoint, ErrorAboveTolerance, AboveDomain, ShortSlice, PointCells, ToleranceTooFine}
 use Rattle.building.specs.Outcome.{outcomeOf}
 use Rattle.pamitoye.specs.Builds.{countsAfter, ratioAfter}
 
 -- the places of the other cases in the enum
 abbrev others : List ℕ
-others = 1 ∷ 2 ∷ 3 ∷ 4 ∷ 5 ∷ 6 ∷ 7 ∷ 8 ∷ 9 ∷ 10 ∷ 11 ∷ 12 ∷ 13 ∷ 15 ∷ 16 ∷ 17 ∷ 18 ∷ 19 ∷ 20 ∷ []
+others = 1 ∷ 2 ∷ 3 ∷ 4 ∷ 5 ∷ 6 ∷ 7 ∷ 8 ∷ 9 ∷ 10 ∷ 11 ∷ 12 ∷ 13 ∷ 15 ∷ 16 ∷ 17 ∷ 18 ∷ 19 ∷ 20 ∷ 21 ∷ []
 
 abbrev absent : ℕ → List ℕ → Bool
 absent x [] = true
@@ -59,6 +59,7 @@ neither ErrorAboveTolerance h = (17, refl)
 neither AboveDomain h = (18, refl)
 neither ShortSlice h = (19, refl)
 neither PointCells h = (20, refl)
+neither ToleranceTooFine h = (26, refl)
 
 -- nothing is written then
 pub untouched : (a : Answer) → OneOf others (Declared.tagOf declared.the-type a) → (counts : List ℕ) (ratio : Float)

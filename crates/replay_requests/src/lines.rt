@@ -179,7 +179,9 @@ fn are_kept(
 // Whether the work slice is as the answer says: untouched by 18, 19 and 20, all +0 otherwise.
 fn is_left(work: &[f64], end: usize, number: u64) -> bool {
     if 17 < number {
-        return is_kept(work, end, 0);
+        if number < 21 {
+            return is_kept(work, end, 0);
+        }
     }
     is_clear(work, end)
 }

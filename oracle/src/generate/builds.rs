@@ -6,7 +6,6 @@ use super::systems::window_of;
 use crate::case::{Case, Kind};
 use crate::path::smoothing::reach;
 use crate::random::Random;
-use crate::refusal::Refusal;
 use crate::request::{self, Request};
 
 /// What a request is to end in: accepted, as named; a refusal by its number; or any of these.
@@ -31,7 +30,7 @@ enum Wanted {
 }
 
 /// The refusals that requests of the domain reach.
-const REACHED: [usize; 16] = [1, 2, 3, 4, 5, 6, 7, 8, 9, 10, 11, 13, 14, 15, 16, 17];
+const REACHED: [usize; 17] = [1, 2, 3, 4, 5, 6, 7, 8, 9, 10, 11, 13, 14, 15, 16, 17, 26];
 
 /// A request that is small and, if accepted, has a small curve. What it ends in is drawn
 /// beforehand, so that a short list has some of each.
@@ -72,7 +71,7 @@ pub fn build_small(r: &mut Random) -> Case {
         let most = r.pick(&[100, 200, 300, 400]);
         let mut request = match wanted {
             Wanted::Refused(number) => request::near_refusal(r, number),
-            Wanted::NotANumber => request::near_refusal(r, 17),
+            Wanted::NotANumber => request::near_refusal(r, 9),
             Wanted::Dense | Wanted::Regions => request::long_lane(r),
             Wanted::Rounds => request::small_lane(r),
             _ => request::draw(r),
@@ -114,10 +113,7 @@ impl Wanted {
     }
 
     fn is_met(self, request: &Request, most_of_curve: usize) -> bool {
-        if let Some(number) = request.refused_before_source() {
-            return self == Wanted::Refused(number);
-        }
-        match reach::build(request) {
+        match request.answer() {
             Ok(built) => {
                 let curve = Case::evaluate(&built.curve, &[]).cells;
                 let axes = &built.curve.axes;
@@ -139,7 +135,7 @@ impl Wanted {
                         Wanted::Any => true,
                     }
             }
-            Err(e) => self == Wanted::Any || self == Wanted::Refused(Refusal::from(e).number),
+            Err(refusal) => self == Wanted::Any || self == Wanted::Refused(refusal.number),
         }
     }
 }

@@ -68,6 +68,7 @@ pub fn requests() -> Vec<(usize, Request)> {
         tolerances(),
         parameters(),
         courses(),
+        too_fine(),
         outside(),
     ];
     groups.into_iter().flatten().collect()
@@ -191,21 +192,52 @@ fn courses() -> Vec<(usize, Request)> {
     let close: Vec<_> = (0..11).map(|i| f64::from(i) * 1e-7).chain([1.]).collect();
     let beside = |row: &[f64]| few(Request::flat_beside(row));
     let gaps = [0., power_of_two(-28), power_of_two(-14), 1.];
+    let spike_of_five = uniform(row(&[0., 0., 1., 0., 0.]), power_of_two(-45));
     vec![
-        (7, uniform(row(&[0., 1e300]), 1e-10)),
+        (7, uniform(row(&[-1e308, 1e308]), 6e293)),
         (8, corner(20, 3)),
         (9, beside(&[0., 1., 0.]).with_parameters(&[0., 1e-100, 1.])),
         (10, beside(&[0., 1., 0., 1.]).with_parameters(&gaps)),
         (10, row(&spike).with_parameters(&close)),
-        (11, row(&[0., 0., 1e305])),
         (11, beside(&[-1.7e308, 1.7e308])),
-        (13, row(&[0., 1e300, 0.])),
+        (13, uniform(row(&[0., 1e306, 0.]), 1e305)),
         (14, corner(0, 40)),
         (14, limits(uniform(waves(2, 7), 1e-4), 2, 200)),
-        (14, row(&[0., 1e17 / 3.])),
         (15, corner(20, 5)),
-        (16, limits(row(&[0., 0., 1e16]), 200, 300)),
-        (17, row(&[1e300, 1e300])),
+        (16, limits(spike_of_five, 200, 100)),
+        (17, row(&[229572142130613.56; 2])),
+    ]
+}
+
+/// Document 02's 26: the bound itself and the numbers next to it, either sign, one tolerance and a list,
+/// after 4 and before 5, and an axis that is not smoothed. The source ends the first six with 17, 0, 7, 13,
+/// 14 and 16.
+fn too_fine() -> Vec<(usize, Request)> {
+    let bound = power_of_two(48);
+    let above = bound.next_up();
+    let beside = |v: f64| rows(&[&[0., 0.], &[v, v]]);
+    vec![
+        (26, row(&[above.next_up(); 2])),
+        (26, row(&[above; 2])),
+        (26, uniform(row(&[0., 1e300]), 1e-10)),
+        (26, row(&[0., 1e300, 0.])),
+        (26, row(&[0., 1e17 / 3.])),
+        (26, limits(row(&[0., 0., 1e16]), 200, 300)),
+        (26, row(&[0., 0., 1e305])),
+        (0, row(&[0., bound])),
+        (0, row(&[0., -bound])),
+        (26, row(&[0., -above])),
+        (26, uniform(row(&[412345678.901, 412345679.233]), 1e-6)),
+        (0, uniform(row(&[0., bound * 5e-324]), 5e-324)),
+        (26, uniform(row(&[0., bound * 1e-323]), 5e-324)),
+        (26, each(beside(above), &[2., 1.])),
+        (0, each(beside(bound), &[1e-3, 1.])),
+        (26, each(axes(beside(above), &[1, 0]), &[1., 2.])),
+        (0, axes(beside(1e300), &[0])),
+        (4, uniform(row(&[above; 2]), 0.)),
+        (4, each(beside(above), &[1.])),
+        (26, row(&[above; 2]).with_parameters(&[1., 1.])),
+        (26, row(&[above; 2]).with_parameters(&[])),
     ]
 }
 

@@ -25,6 +25,9 @@ mod handed;
 #[cfg(test)]
 #[path = "../../../../oracle/src/generate/known.rs"]
 mod known;
+#[path = "../../../../oracle/src/port.rs"]
+#[allow(dead_code)]
+mod port;
 #[path = "../../../../oracle/src/query.rs"]
 #[allow(dead_code)]
 mod query;

@@ -1,5 +1,5 @@
 //! Requests, queries and certified figures: each answer of the crate must be the source's, bit for bit. What the
-//! source does not have is answered from document 01: 18 and 20, range handling, the figure.
+//! source does not have is answered from documents 01 and 02: 18, 20 and 26, range handling, the figure.
 
 use crate::case::Curve;
 use crate::certificate::{Certificate, Question};
@@ -15,7 +15,7 @@ use pamitoye::{OutOfRangeMode, Path, PathDerivatives, PathError, Workspace};
 #[derive(Default)]
 struct Seen {
     accepted: usize,
-    refused: [usize; 25],
+    refused: [usize; 27],
     values: usize,
     figures: usize,
     no_figure: usize,
@@ -40,7 +40,7 @@ impl Seen {
     }
 }
 
-/// Document 01's 18 and 20, or the source's answer.
+/// Document 01's 18 and 20, document 02's 26, or the source's answer.
 fn wanted(request: &Request) -> Result<Built, Refusal> {
     let config = &request.config;
     if request.d > 16 || request.n.max(config.max_segments) > 20_000 || config.max_refinements > 200
@@ -50,7 +50,7 @@ fn wanted(request: &Request) -> Result<Built, Refusal> {
     if request.points.len() != request.d * request.n {
         return Err(20.into());
     }
-    reach::build(request).map_err(Refusal::from)
+    request.answer_with_room()
 }
 
 /// Compares the crate's answer to a request, and to queries and certificates of its curve, with the source's.
@@ -266,7 +266,7 @@ fn drawn(seed: u64, count: usize) {
     seen.print();
     assert!(seen.accepted > count / 3 && seen.figures > count / 3);
     let refused = [
-        1, 2, 3, 4, 5, 6, 7, 8, 9, 10, 11, 13, 14, 15, 16, 17, 18, 20,
+        1, 2, 3, 4, 5, 6, 7, 8, 9, 10, 11, 13, 14, 15, 16, 17, 18, 20, 26,
     ];
     for number in refused {
         assert!(seen.refused[number] > 0, "none is refused with {number}");

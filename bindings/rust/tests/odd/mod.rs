@@ -4,7 +4,7 @@
 use crate::path::OutOfRangeMode;
 use crate::path::smoothing::SmoothingTolerance;
 use crate::random::Random;
-use crate::request::{self, Request, draw};
+use crate::request::{self, Request, draw_any};
 
 /// A number of any kind.
 fn odd(r: &mut Random) -> f64 {
@@ -23,7 +23,7 @@ fn odd(r: &mut Random) -> f64 {
 
 /// The oracle's request, at times with numbers or sizes of any kind.
 pub fn request(r: &mut Random) -> Request {
-    let mut request = draw(r);
+    let mut request = draw_any(r);
     if r.chance(50) {
         request.config.out_of_range_mode = OutOfRangeMode::Clamp;
     }

@@ -215,6 +215,9 @@ fn remedy(options: &Options, lane: &Lane, error: &PathError) -> Option<String> {
         PathError::ErrorAboveTolerance => {
             format!("{LARGER}, or coordinates from which a common offset is subtracted")
         }
+        PathError::ToleranceTooFine => {
+            format!("coordinates from which a common offset is subtracted, or {LARGER}")
+        }
         PathError::AboveDomain => "the lane in parts, or lower limits".to_string(),
         PathError::OutOfRangeS { .. } => {
             "--from and --to within the parameters, or --mode clamp".to_string()

@@ -49,9 +49,11 @@ loop-again : tie.Need-loop-again Inv-loop μ-loop
 unfolding exceeds
 loop-again c =
     let g = c .before .before .before .before .before .before .args in
-    let l = c .before .before .before .before .loop in
-    (omega arith, any-next (λ i. lt (g .most) (absoluteFloat (at (g .points .now) (i * g .d + g .axis)))) (l .i) (l .inv .1)
-    (told (c .before) false (c .if1 .left)))
+    let l = c .before .before .before .before .loop in (
+      omega arith,
+      any-next (λ i. lt (g .most) (absoluteFloat (at (g .points .now) (i * g .d + g .axis)))) (l .i) (l .inv .1)
+          (told (c .before) false (c .if1 .left)),
+    )
 
 returns-2 : tie.Need-returns-2 Inv-loop μ-loop
 returns-2 c =

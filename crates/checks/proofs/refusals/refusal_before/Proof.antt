@@ -45,8 +45,7 @@ too-fine-requires : tie.Need-too-fine-requires
 too-fine-requires c κs =
     let r = c .before .before in
     let l = lane (r .before .before .before .before .before) in
-    let s = r .before .before .before .before .before .before .before .before .before .before in
-    (
+    let s = r .before .before .before .before .before .before .before .before .before .before in (
       (s .pre .0, s .pre .1, s .pre .2, omega (arith, all-axes l (formed r))),
       (
         λ a h. good-axes l (formed r) a h .0,
