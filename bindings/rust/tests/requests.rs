@@ -122,7 +122,7 @@ fn no_request_panics() {
                 accepted += 1;
             }
             Err(error) => {
-                assert!((1..=20).contains(&error.number()));
+                assert!(matches!(error.number(), 1..=20 | 26));
                 assert!(!error.to_string().is_empty());
             }
         }
