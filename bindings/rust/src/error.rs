@@ -109,6 +109,15 @@ impl PathError {
         }
     }
 
+    /// Whether the same request with a higher limit may get another answer: for 8 and 15 with more `max_segments`, for
+    /// 14 with more `max_refinements`. No other refusal changes, as is proved (docs/CLAIMS.md, "Two calls").
+    pub fn higher_limit_may_help(&self) -> bool {
+        matches!(
+            self,
+            Self::InitialSegments | Self::SegmentsUsedUp | Self::RefinementsUsedUp { .. }
+        )
+    }
+
     /// The refusal of a request with this number. `ratio` is looked at for 14 alone.
     pub(crate) fn of_request(number: u64, ratio: f64) -> Self {
         match number {
@@ -223,6 +232,8 @@ mod tests {
             assert_eq!(PathError::of_request(number, 2.5).number(), number);
             assert_eq!(PathError::of_certificate(number).number(), number);
         }
+        let helped = (0..100).filter(|n| PathError::of_request(*n, 2.5).higher_limit_may_help());
+        assert_eq!(helped.collect::<Vec<_>>(), [8, 14, 15]);
         let used_up = PathError::of_request(14, 2.5);
         assert_eq!(used_up, PathError::RefinementsUsedUp { ratio: 2.5 });
         assert_eq!(PathError::of_certificate(3), PathError::NotSelected);

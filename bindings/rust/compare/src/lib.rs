@@ -8,6 +8,8 @@ pub(crate) use standin::DMatrixView;
 
 pub mod measure;
 pub mod memory;
+#[cfg(test)]
+mod pairs;
 mod sides;
 #[cfg(test)]
 mod tests;

@@ -41,7 +41,7 @@ impl Seen {
 }
 
 /// Document 01's 18 and 20, document 02's 26, or the source's answer.
-fn wanted(request: &Request) -> Result<Built, Refusal> {
+pub fn wanted(request: &Request) -> Result<Built, Refusal> {
     let config = &request.config;
     if request.d > 16 || request.n.max(config.max_segments) > 20_000 || config.max_refinements > 200
     {
@@ -82,7 +82,7 @@ fn compare(r: &mut Random, request: &Request, seen: &mut Seen) {
 }
 
 /// Report, range, breaks and coefficients.
-fn equal(path: &Path, built: &Built) -> bool {
+pub fn equal(path: &Path, built: &Built) -> bool {
     let (report, curve) = (path.smoothing_report().unwrap(), &built.curve);
     let counts = [
         report.segments,

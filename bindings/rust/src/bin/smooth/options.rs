@@ -29,6 +29,10 @@ standard input is read.
 
 Of a segment: u = (parameter - first) / (last - first), v = (u - left) / (right - left), value = p0 + p1 v + .. + p5 v^5.
 
+When a lane is refused, its number tells whether another try with a higher limit may help: 8 and 15 may change with a
+higher --max-segments, 14 with a higher --max-refinements. No other refusal changes with a limit, and a lane that is
+smoothed stays as it is, in every digit.
+
 examples:
   smooth --tolerance 0.05 lane.csv
   smooth --tolerance 0.05,0.2 --axes x,z --parameters time --picture lane.svg lane.csv

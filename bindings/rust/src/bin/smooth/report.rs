@@ -170,6 +170,7 @@ fn table(rows: &[[String; 5]]) -> String {
 pub fn refusal(options: &Options, lane: &Lane, error: &PathError) -> String {
     let mut text = input(lane);
     let _ = writeln!(text, "refused ({}): {error}", error.number());
+    let _ = writeln!(text, "{}", limit(options, error));
     if let Some(remedy) = remedy(options, lane, error) {
         let _ = writeln!(text, "try: {remedy}");
     }
@@ -177,6 +178,24 @@ pub fn refusal(options: &Options, lane: &Lane, error: &PathError) -> String {
 }
 
 const LARGER: &str = "a larger --tolerance";
+
+/// Whether a higher limit may help.
+fn limit(options: &Options, error: &PathError) -> String {
+    let config = &options.config;
+    let (name, at, most) = match error {
+        PathError::RefinementsUsedUp { .. } => {
+            ("--max-refinements", config.max_refinements, MAX_REFINEMENTS)
+        }
+        _ => ("--max-segments", config.max_segments, MAX_SEGMENTS),
+    };
+    if !error.higher_limit_may_help() {
+        "no higher limit changes this".to_string()
+    } else if at < most {
+        format!("a higher limit may help: {name}")
+    } else {
+        format!("a higher limit may help, but {name} is at its highest, {most}")
+    }
+}
 
 fn remedy(options: &Options, lane: &Lane, error: &PathError) -> Option<String> {
     let config = &options.config;

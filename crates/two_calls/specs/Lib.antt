@@ -1,0 +1,2 @@
+-- Two calls of an entry point, each by its contract.
+pub mod Building

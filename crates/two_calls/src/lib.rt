@@ -1,0 +1,1 @@
+// Definitions and theorems only: what the answers to two calls have in common.
