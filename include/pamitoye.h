@@ -107,7 +107,7 @@ enum pamitoye_number {
     PAMITOYE_POINT_CELLS = 20,
     /* a query is a NaN or, without clamp, outside start to end */
     PAMITOYE_OUTSIDE = 22,
-    /* the order is above 3 */
+    /* the order is above 3; when certifying, the depth is above 6 */
     PAMITOYE_ORDER_ABOVE_THREE = 23,
     /* the curve is not well formed */
     PAMITOYE_MALFORMED = 24,
@@ -260,7 +260,9 @@ uint64_t pamitoye_evaluate_all_formed(
  * waypoints of d coordinates (points, even and parameters as for pamitoye_build). On 0 *given tells
  * whether there is a figure, and if so it is *figure: nowhere is the exact distance, nothing
  * rounded, above it. Where there is none *figure is unchanged. A refusal writes neither.
- * Numbers: 18 (of d and n), 20, 1, 5, 6, 24, 3, in this order. */
+ * depth, 0 to 6, is how often a piece of the curve may be halved to tighten the figure; a deeper
+ * figure is never larger than a shallower one, and is given where that is.
+ * Numbers: 23 (of depth), 18 (of d and n), 20, 1, 5, 6, 24, 3, in this order. */
 uint64_t pamitoye_certify(
     size_t d, size_t k, const size_t axes[16], double start, double end, bool clamp,
     size_t segments, size_t other_segments,
@@ -270,7 +272,7 @@ uint64_t pamitoye_certify(
     const double *other_coefficients, size_t other_coefficients_len,
     const double *points, size_t points_len, size_t n,
     bool even, const double *parameters, size_t parameters_len,
-    size_t axis, bool *given, double *figure);
+    size_t axis, size_t depth, bool *given, double *figure);
 
 /* Which lane is cut first. Lanes are numbered from 0, and pairs[i] says that lane pairs[i][0] is cut
  * before lane pairs[i][1]; pairs_len counts pairs. On 0 the first cells of order, one for each lane,

@@ -3,7 +3,7 @@
 
 For each case of a list, and the line that answers it:
 - the answer is computed again from document 01 ("The certified figure") with Python's floats, its sums and differences
-  from document 02 (request 7) with exact fractions, and must be the same;
+  from document 02 (request 7) with exact fractions, halved to the case's depth (request 8), and must be the same;
 - where it is a figure, the distance between curve and line is computed in exact fractions at many parameters, and must
   never be above the figure.
 A table tells how far the figure lies above the largest distance found. The exit status is 1 if an answer is wrong.
@@ -46,7 +46,7 @@ class Question:
         self.d, self.k, self.segments, self.other_segments, self.n = whole[:5]
         packed = struct.pack("<4I", *whole[5:9])
         self.axes = list(packed[:self.k])
-        self.mode, self.axis = divmod(whole[15], 256)
+        self.axis, self.mode, self.depth = whole[15] % 256, whole[15] // 256 % 256, whole[15] // 65536
         self.start, self.end = cells[:2]
         at, slices = 2, []
         for count in whole[9:15]:
@@ -100,7 +100,9 @@ def normalised(parameters):
 
 
 def refusal(q):
-    """The number of the first check that fails, or 0. "Certifying: 18, 20, 1, 5, 6, 24, 3." """
+    """The number of the first check that fails, or 0. Request 8's 23, then "Certifying: 18, 20, 1, 5, 6, 24, 3." """
+    if q.depth > 6:
+        return 23
     if q.d > 16 or q.n > 20000:
         return 18
     if len(q.points) != q.d * q.n:
@@ -186,6 +188,27 @@ def powers_of(x):
 
 # The figure.
 
+def halves(pairs):
+    """Request 8: two halves by de Casteljau's midpoints, "add, then divide by 2"."""
+    left, right, row = [], [], pairs
+    while row:
+        left.append(row[0])
+        right.append(row[-1])
+        row = [divide(add(x, y), whole(2)) for x, y in zip(row, row[1:])]
+    return left, right[::-1]
+
+
+def halved(pairs, depth):
+    """The figure of six pairs, or None."""
+    if None in pairs:
+        return None
+    own = max(0.0, *(abs(end) for pair in pairs for end in pair))
+    if depth == 0:
+        return own
+    figures = [halved(half, depth - 1) for half in halves(pairs)]
+    return own if None in figures else min(own, max(figures))
+
+
 class Axis:
     """What is certified: breaks, coefficients, normalised parameters and waypoints of the axis."""
 
@@ -221,14 +244,14 @@ class Axis:
         return [total(divide(multiply(power[j], whole(math.comb(k, j))), whole(math.comb(5, j))) for j in range(k + 1))
                 for k in range(6)]
 
-    def figure(self):
+    def figure(self, depth):
         """The figure, or None."""
         figure = 0.0
         for pair in self.pairs():
-            for ends in self.bernstein(*pair):
-                if ends is None:
-                    return None
-                figure = max(figure, abs(ends[0]), abs(ends[1]))
+            own = halved(self.bernstein(*pair), depth)
+            if own is None:
+                return None
+            figure = max(figure, own)
         return figure
 
 
@@ -238,7 +261,7 @@ def certify(q):
     if number:
         return f"certify refused {number}", None
     axis = Axis(q)
-    figure = axis.figure()
+    figure = axis.figure(q.depth)
     if figure is None:
         return "certify none", None
     return f"certify figure {struct.pack('>d', figure).hex().upper()}", axis

@@ -70,7 +70,7 @@ int main(void) {
     double figure = 0;
     expect_done("certify", pamitoye_certify(D, k, axes, start, end, false, counts[0], counts[1],
         breaks, breaks_len, coefficients, coefficients_len, other_breaks, 0, other_coefficients, 0,
-        points, D * N, N, true, no_list, 0, 0, &given, &figure));
+        points, D * N, N, true, no_list, 0, 0, 0, &given, &figure));
     if (given)
         printf("certified %.17g\n", figure);
     else

@@ -215,14 +215,20 @@ static void certificates(const struct built *b, const double *points) {
     bool given = true;
     double figure = MARK;
     expect("certify, points cut", pamitoye_certify(NUMBERS(*b), SLICES(*b), points, D * N - 1, N,
-        false, parameters, N, 0, &given, &figure), PAMITOYE_POINT_CELLS);
+        false, parameters, N, 0, 0, &given, &figure), PAMITOYE_POINT_CELLS);
     expect("certify an axis that is not smoothed", pamitoye_certify(NUMBERS(*b), SLICES(*b), points,
-        D * N, N, false, parameters, N, 1, &given, &figure), PAMITOYE_BAD_AXES);
+        D * N, N, false, parameters, N, 1, 0, &given, &figure), PAMITOYE_BAD_AXES);
+    expect("certify, depth 7", pamitoye_certify(NUMBERS(*b), SLICES(*b), points, D * N, N, false,
+        parameters, N, 2, 7, &given, &figure), PAMITOYE_ORDER_ABOVE_THREE);
     check("given and figure are unchanged", given && figure == MARK);
     given = false;
     expect("certify", pamitoye_certify(NUMBERS(*b), SLICES(*b), points, D * N, N, false, parameters,
-        N, 2, &given, &figure), PAMITOYE_DONE);
+        N, 2, 0, &given, &figure), PAMITOYE_DONE);
     check("a figure at or above the error", given && figure >= b->errors[0] && figure < 0.5);
+    const double own = figure;
+    expect("certify, depth 6", pamitoye_certify(NUMBERS(*b), SLICES(*b), points, D * N, N, false,
+        parameters, N, 2, 6, &given, &figure), PAMITOYE_DONE);
+    check("a deeper figure is not larger", given && figure <= own);
 }
 
 /* A pair more than the library takes. */

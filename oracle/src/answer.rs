@@ -551,7 +551,7 @@ fn certify(mut input: Input) -> Result<Answer, String> {
         parameters,
         word,
     ] = whole;
-    let (axis, mode) = (word % 256, word / 256);
+    let (axis, mode, depth) = (word % 256, word / 256 % 256, word / 65_536);
     require(mode <= 1, || format!("parameter mode {mode}"))?;
     let counts = [d, k, segments, others];
     let question = Question {
@@ -561,6 +561,7 @@ fn certify(mut input: Input) -> Result<Answer, String> {
         listed: mode == 1,
         parameters: input.cells(parameters)?.to_vec(),
         axis,
+        depth,
     };
     input.end()?;
     Ok(match question.certify() {

@@ -319,7 +319,7 @@ impl Case {
             &pack(&curve.axes),
             &curve.counts(),
             &[question.points.len(), question.parameters.len()],
-            &pack(&[question.axis, usize::from(question.listed)])[..1],
+            &pack(&[question.axis, usize::from(question.listed), question.depth])[..1],
         ];
         let cells = curve.cells();
         let cells = [&cells[..], &question.points, &question.parameters];

@@ -1,5 +1,5 @@
 //! The certified figure, computed straight from document 01 ("The certified figure"), its sums and
-//! differences from document 02, request 7. The source has no such step. Here every waypoint interval is paired with every segment, in plain loops.
+//! differences from document 02, request 7, its halving from request 8. The source has no such step. Here every waypoint interval is paired with every segment, in plain loops.
 
 use crate::handed::HandedCurve;
 use std::array::from_fn;
@@ -15,6 +15,7 @@ pub struct Question {
     pub listed: bool,
     pub parameters: Vec<f64>,
     pub axis: usize,
+    pub depth: usize,
 }
 
 /// "the certificate a figure or none", or a refusal by its number.
@@ -36,16 +37,17 @@ struct Axis {
 
 impl Question {
     pub fn certify(&self) -> Certificate {
-        match self.checked().map(|axis| axis.figure()) {
+        match self.checked().map(|axis| axis.figure(self.depth)) {
             Ok(Some(figure)) => Certificate::Figure(figure),
             Ok(None) => Certificate::None,
             Err(number) => Certificate::Refused(number),
         }
     }
 
-    /// "Certifying: 18, 20, 1, 5, 6, 24, 3."
+    /// "depth above 6 is 23, first among the certificate's"; then "Certifying: 18, 20, 1, 5, 6, 24, 3."
     fn checked(&self) -> Result<Axis, usize> {
         let (curve, d, n) = (&self.curve, self.curve.d, self.n);
+        refuse(23, self.depth > 6)?;
         refuse(18, d > 16 || n > 20_000)?;
         refuse(20, self.points.len() != d * n)?;
         let finite = self.points.iter().all(|v| v.is_finite());
@@ -86,23 +88,52 @@ fn rise(list: &[f64]) -> bool {
 }
 
 impl Axis {
-    /// "The figure is the largest absolute end", over all intersections.
-    fn figure(&self) -> Option<f64> {
+    /// "The figure is the largest absolute end", over all intersections, each halved to the depth.
+    fn figure(&self, depth: usize) -> Option<f64> {
         let mut figure = 0f64;
         for (s, y) in self.s.windows(2).zip(self.y.windows(2)) {
             for (ab, p) in self.breaks.windows(2).zip(&self.coefficients) {
                 let left = if ab[0] < s[0] { s[0] } else { ab[0] };
                 let right = if s[1] < ab[1] { s[1] } else { ab[1] };
                 if left < right {
-                    for pair in bernstein((ab[0], ab[1]), p, (left, right), s, y) {
-                        let [low, high] = pair.0?;
-                        figure = figure.max(low.abs()).max(high.abs());
-                    }
+                    let pairs = bernstein((ab[0], ab[1]), p, (left, right), s, y);
+                    figure = figure.max(halved(pairs, depth)?);
                 }
             }
         }
         Some(figure)
     }
+}
+
+/// The figure of six Bernstein pairs: "the smaller of its own and the larger of its two halves; if a
+/// half has none, its own".
+fn halved(pairs: [Pair; 6], depth: usize) -> Option<f64> {
+    let mut own = 0f64;
+    for pair in pairs {
+        let [low, high] = pair.0?;
+        own = own.max(low.abs()).max(high.abs());
+    }
+    if depth == 0 {
+        return Some(own);
+    }
+    let [left, right] = halves(pairs).map(|half| halved(half, depth - 1));
+    Some(match (left, right) {
+        (Some(left), Some(right)) => own.min(left.max(right)),
+        _ => own,
+    })
+}
+
+/// "two halves by de Casteljau's midpoints, in the same end arithmetic (add, then divide by 2)"
+fn halves(mut row: [Pair; 6]) -> [[Pair; 6]; 2] {
+    let (mut left, mut right) = (row, row);
+    for last in (0..5).rev() {
+        for i in 0..=last {
+            row[i] = (row[i] + row[i + 1]) / Pair::of(2.);
+        }
+        left[5 - last] = row[0];
+        right[last] = row[last];
+    }
+    [left, right]
 }
 
 /// The Bernstein pairs of the curve's segment [a, b] less the line, on [left, right].
@@ -186,7 +217,11 @@ fn down(x: f64, y: f64) -> f64 {
     let sum = x + y;
     let (large, small) = if x.abs() < y.abs() { (y, x) } else { (x, y) };
     let lacking = small - (sum - large);
-    if lacking < 0. { sum.next_down() } else { sum + 0. }
+    if lacking < 0. {
+        sum.next_down()
+    } else {
+        sum + 0.
+    }
 }
 
 /// "the smallest not below"

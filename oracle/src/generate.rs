@@ -16,10 +16,10 @@ use crate::random::Random;
 use crate::refusal::Refusal;
 use crate::request::{self, Request};
 
-/// Groups beside those named after a kind: three with lists in any order, one with the curves of
-/// `build` alone, and requests with little room. For `partition_point` with a list in any order the
+/// Groups beside those named after a kind: three with lists in any order, certificates with the
+/// curves of `build` alone and with a depth, and requests with little room. For `partition_point` with a list in any order the
 /// answer depends on how the standard library halves it.
-const SPECIAL: [(&str, fn(&mut Random) -> Case); 5] = [
+const SPECIAL: [(&str, fn(&mut Random) -> Case); 6] = [
     ("partition_point_le_unsorted", |r| {
         leaves::partition_point(r, Kind::PartitionPointLe, false)
     }),
@@ -28,6 +28,7 @@ const SPECIAL: [(&str, fn(&mut Random) -> Case); 5] = [
     }),
     ("regions_unsorted", |r| splines::regions(r, false)),
     ("certify_built", certificates::certify_built),
+    ("certify_deep", certificates::certify_deep),
     ("build_small", builds::build_small),
 ];
 

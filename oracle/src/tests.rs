@@ -262,6 +262,7 @@ fn corner() -> Question {
         listed: false,
         parameters: Vec::new(),
         axis: 1,
+        depth: 0,
     }
 }
 
@@ -272,7 +273,8 @@ fn number(question: &Question) -> usize {
     }
 }
 
-/// Faults put in one by one, the last to be met first, give "18, 20, 1, 5, 6, 24, 3" from the end.
+/// Faults put in one by one, the last to be met first, give "18, 20, 1, 5, 6, 24, 3" from the end, and then
+/// request 8's 23.
 #[test]
 fn certifying_checks_in_order() {
     let mut question = corner();
@@ -292,6 +294,44 @@ fn certifying_checks_in_order() {
     assert_eq!(number(&question), 20);
     question.n = 20_001;
     assert_eq!(number(&question), 18);
+    question.depth = 7;
+    assert_eq!(number(&question), 23);
+}
+
+/// A deeper figure is there where a shallower one is, and is never larger; a bulge's comes close to its
+/// height.
+#[test]
+fn deeper_figures_are_no_larger() {
+    let mut bulge = corner();
+    bulge.points.fill(0.);
+    bulge.curve.coefficients = vec![0., 0., 16., -32., 16., 0.];
+    let mut last = f64::INFINITY;
+    for depth in 0..=6 {
+        bulge.depth = depth;
+        let Certificate::Figure(figure) = bulge.certify() else {
+            panic!("no figure");
+        };
+        assert!(figure <= last && figure > 1.);
+        last = figure;
+    }
+    assert!(last < 1.001);
+    for case in generate::group("certify", 17, 300).unwrap() {
+        let answers: Vec<_> = (0..=6)
+            .map(|depth| {
+                let mut deeper = case.clone();
+                deeper.whole[15] |= depth << 16;
+                answer(&deeper).unwrap()
+            })
+            .collect();
+        for pair in answers.windows(2) {
+            match (&pair[0], &pair[1]) {
+                (Answer::Figure(Some(x)), Answer::Figure(Some(y))) => assert!(y <= x),
+                (Answer::Figure(None), Answer::Figure(None)) => {}
+                (Answer::Refused(x), Answer::Refused(y)) => assert_eq!(x.number, y.number),
+                _ => panic!("another answer at another depth"),
+            }
+        }
+    }
 }
 
 #[test]
@@ -337,6 +377,9 @@ fn certify_cases_reach_every_answer() {
         assert!(found[number] > 20, "refused {number}: {}", found[number]);
     }
     assert!(figures > 800 && none > 50);
+    let deep = generate::group("certify_deep", 90, 300).unwrap();
+    let refused = |case| matches!(answer(case).unwrap(), Answer::Refused(r) if r.number == 23);
+    assert!(deep.iter().filter(|case| refused(case)).count() > 20);
 }
 
 /// Whatever the whole numbers are, there is an answer or a message.
@@ -565,7 +608,7 @@ fn seed_cases_are_finite() {
 
 /// Recorded; a change of a generator changes them, and the stored list with them.
 const REQUESTS_1_200: u64 = 0x1D20_11BE_0FC4_2712;
-const GROUPS_1_20: u64 = 0xE26F_63B3_AEE4_B008;
+const GROUPS_1_20: u64 = 0x1F4E_13A7_DE74_B322;
 
 #[test]
 fn refusal_14_prints_its_ratio() {

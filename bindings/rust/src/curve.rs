@@ -349,10 +349,11 @@ impl Curve {
         }
     }
 
-    /// The certified figure of an axis against the line through these points, if there is one.
+    /// The certified figure of an axis at a depth, against the line through these points, if there is one.
     pub(crate) fn certify(
         &self,
         axis: usize,
+        depth: usize,
         points: &[f64],
         parameter_list: Option<&[f64]>,
     ) -> Result<Option<f64>, PathError> {
@@ -372,6 +373,7 @@ impl Curve {
                 parameters.as_ptr(),
                 parameters.len(),
                 axis,
+                depth,
                 &mut given,
                 &mut figure,
             )

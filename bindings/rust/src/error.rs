@@ -71,6 +71,8 @@ pub enum PathError {
     },
     /// 23: a derivative above the third is asked for.
     OrderAboveThree,
+    /// 23, when certifying: the depth is above 6.
+    DepthAboveSix,
     /// 24: the curve is not well formed. An accepted request's curve always is.
     Malformed,
     /// A number that this crate does not know: the archive is of another version.
@@ -103,7 +105,7 @@ impl PathError {
             Self::PointCells => 20,
             Self::ToleranceTooFine => 26,
             Self::OutOfRangeS { .. } => 22,
-            Self::OrderAboveThree => 23,
+            Self::OrderAboveThree | Self::DepthAboveSix => 23,
             Self::Malformed => 24,
             Self::Unknown(number) => number,
         }
@@ -151,6 +153,7 @@ impl PathError {
     pub(crate) fn of_certificate(number: u64) -> Self {
         match number {
             3 => Self::NotSelected,
+            23 => Self::DepthAboveSix,
             other => Self::of_request(other, f64::NAN),
         }
     }
@@ -210,6 +213,7 @@ impl fmt::Display for PathError {
                     "parameter {value} at place {index} is not within {s_min} to {s_max}"
                 );
             }
+            Self::DepthAboveSix => "the depth of a certificate is 6 at most",
             Self::OrderAboveThree => "only a value and three derivatives can be asked for",
             Self::Malformed => "the curve is not well formed",
             Self::Unknown(number) => {
@@ -237,6 +241,7 @@ mod tests {
         let used_up = PathError::of_request(14, 2.5);
         assert_eq!(used_up, PathError::RefinementsUsedUp { ratio: 2.5 });
         assert_eq!(PathError::of_certificate(3), PathError::NotSelected);
+        assert_eq!(PathError::of_certificate(23), PathError::DepthAboveSix);
         assert!(used_up.to_string().ends_with("2.5"));
     }
 }

@@ -134,6 +134,7 @@ unsafe extern "C" {
         parameters: *const f64,
         parameters_len: usize,
         axis: usize,
+        depth: usize,
         given: *mut bool,
         figure: *mut f64,
     ) -> u64;

@@ -17,7 +17,7 @@
 //! for (axis, error) in path.smoothing_report().map_or(&[][..], |r| &r.max_errors).iter().enumerate() {
 //!     assert!(*error <= 0.05);
 //!     // What no point of the axis exceeds, proved; the report's error is what an audit in f64 found.
-//!     assert!(path.certify(axis, &points, None)?.is_some_and(|figure| figure < 0.051));
+//!     assert!(path.certify(axis, 0, &points, None)?.is_some_and(|figure| figure < 0.051));
 //! }
 //! # Ok::<(), pamitoye::PathError>(())
 //! ```

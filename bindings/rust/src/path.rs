@@ -218,9 +218,12 @@ impl Path {
     /// rounding, differ by at most the figure. Rounding in a query's answer is not in it. The figure may lie above the
     /// tolerance, and above the error in the report.
     ///
+    /// `depth`, from 0 to 6, is how often each piece of the curve may be halved to tighten its figure. A deeper figure
+    /// is never larger than a shallower one, and is given where that is.
+    ///
     /// # Errors
     ///
-    /// Too many points (18), points that are not whole waypoints (20), points or parameters that a build would refuse
+    /// A depth above 6 (23), too many points (18), points that are not whole waypoints (20), points or parameters that a build would refuse
     /// (1, 5, 6), an axis that is not smoothed (3). `Ok(None)` is no refusal: the end pairs overflowed.
     ///
     /// ```
@@ -228,17 +231,18 @@ impl Path {
     /// let points = [0.0, 0.95, 0.0];
     /// let config = SmoothingConfig { tolerance: 1.0.into(), ..Default::default() };
     /// let path = Path::from_waypoints_fitting(&points, (1, 3), config)?;
-    /// let figure = path.certify(0, &points, None)?.unwrap_or(f64::INFINITY);
+    /// let figure = path.certify(0, 0, &points, None)?.unwrap_or(f64::INFINITY);
     /// assert!((0.95..0.951).contains(&figure));
     /// # Ok::<(), PathError>(())
     /// ```
     pub fn certify(
         &self,
         axis: usize,
+        depth: usize,
         points: &[f64],
         parameters: Option<&[f64]>,
     ) -> Result<Option<f64>, PathError> {
-        self.curve.certify(axis, points, parameters)
+        self.curve.certify(axis, depth, points, parameters)
     }
 
     /// The breaks between the smoothed axes' segments, rising from 0 to 1: the parameter less the first one, over the

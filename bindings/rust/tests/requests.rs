@@ -111,14 +111,14 @@ fn no_request_panics() {
                 queries(&mut r, &path);
                 let parameters = request.config.parameters.as_deref();
                 for axis in [0, 1, request.d, usize::MAX] {
-                    let figure = path.certify(axis, &request.points, parameters);
+                    let figure = path.certify(axis, r.below(7), &request.points, parameters);
                     let selected = path.smoothing_report().unwrap().axes.contains(&axis);
                     assert_eq!(figure.is_ok(), selected);
                 }
                 // Any other points and parameters, too.
                 let points: Vec<f64> = (0..r.below(40)).map(|_| r.float()).collect();
-                let _ = path.certify(r.below(3), &points, Some(&points));
-                let _ = path.certify(r.below(3), &points, None);
+                let _ = path.certify(r.below(3), r.below(9), &points, Some(&points));
+                let _ = path.certify(r.below(3), r.below(9), &points, None);
                 accepted += 1;
             }
             Err(error) => {

@@ -1,7 +1,7 @@
 -- The six coefficients of an intersection as the code has them: a part of a slice. Its figure depends on no others.
 use mathlib.Core.List.{List, [], _∷_}
-use mathlib.Core.Path.{_≡_, ap, refl, sym}
-use Prim.Native.Nat.{ℕ, suc, _+_, _<_, _≤_}
+use mathlib.Core.Path.{_∙_, _≡_, ap, refl, sym}
+use Prim.Native.Nat.{ℕ, zero, suc, _+_, _-_, _<_, _≤_}
 use native.Mathlib.Numerals.{add-one}
 use native.Mathlib.Omega.{arith}
 use lib.Ieee.{Float, nan}
@@ -11,8 +11,10 @@ use Rattle.window.specs.Cells.{+0, at}
 use Rattle.fraction.specs.Pair.{Ends}
 use Rattle.figure.specs.Operations.{ends}
 use Rattle.figure.specs.Intersection.{Intersection, differenceBernstein, differencePower, lineAtLeft, lineRise, offset, power, scale}
-use Rattle.figure.specs.Figure.{absoluteEnd, figure, intersectionFigure, larger}
+use Rattle.figure.specs.Figure.{Figure, absoluteEnd, figure, halvedFigure, intersectionFigure, larger, sixFigure, smaller}
+use Rattle.figure.specs.Halving.{leftHalf, rightHalf}
 use Rattle.figure.proofs.Enclosure.{bernstein-keeps, power-keeps, without-keeps}
+use Rattle.figure.proofs.Halves.{left-keeps, right-keeps}
 use Rattle.arith.proofs.Loops.{each-same}
 use Rattle.certificate.proofs.Sums.{same-keeps}
 
@@ -54,14 +56,40 @@ withCoefficients x p =
       second = x .second;
     }
 
--- the first six count
-pub six-count : (x : Intersection) (p : ℕ → Float) → ((k : ℕ) → k ≤ 5 → p k ≡ x .coefficient k) → intersectionFigure (withCoefficients x p)
-    ≡ intersectionFigure x
+-- the first six pairs count, at every depth
+six-same : (p q : ℕ → Ends) → ((k : ℕ) → k ≤ 5 → p k ≡ q k) → sixFigure p ≡ sixFigure q
+unfolding sixFigure
+six-same p q h =
+    each-same (λ k so-far. larger so-far (absoluteEnd (p k))) (λ k so-far. larger so-far (absoluteEnd (q k))) 0 6 (figure +0)
+    (λ k g l m. ap (λ (e : Ends). larger g (absoluteEnd e)) (h k (omega arith)))
+
+pub halved-same : (depth : ℕ) (p q : ℕ → Ends) → ((k : ℕ) → k ≤ 5 → p k ≡ q k) → halvedFigure depth p ≡ halvedFigure depth q
+unfolding halvedFigure
+halved-same zero p q h = six-same p q h
+halved-same (suc depth) p q h =
+    let f = halved-same depth (leftHalf ends p) (leftHalf ends q) (left-keeps ends ends (_≡_ {A = Ends}) (same-keeps ends) p q h) in
+    let g = halved-same depth (rightHalf ends p) (rightHalf ends q) (right-keeps ends ends (_≡_ {A = Ends}) (same-keeps ends) p q h) in
+    rw (six-same p q h, f, g)
+
+-- one step of the recursion, as the code has it: from the figures of two arrays that hold the halves
+pub halved-step : (depth : ℕ) (p lp rp : ℕ → Ends) (own f g h r : Figure) → (depth ≡ 0 → ⊥) → own ≡ sixFigure p
+    → ((k : ℕ) → k < 6 → lp k ≡ leftHalf ends p k) → ((k : ℕ) → k < 6 → rp k ≡ rightHalf ends p k)
+    → f ≡ halvedFigure (depth - 1) lp → g ≡ halvedFigure (depth - 1) rp → h ≡ larger f g → r ≡ smaller own h → r ≡ halvedFigure depth p
+unfolding halvedFigure
+halved-step zero p lp rp own f g h r above o L R F G H e = absurd (above refl)
+halved-step (suc depth) p lp rp own f g h r above o L R F G H e =
+    let n : suc depth - 1 ≡ depth = omega arith in
+    let F′ = F ∙ ap (λ (d : ℕ). halvedFigure d lp) n ∙ halved-same depth lp (leftHalf ends p) (λ k l. L k (omega arith)) in
+    let G′ = G ∙ ap (λ (d : ℕ). halvedFigure d rp) n ∙ halved-same depth rp (rightHalf ends p) (λ k l. R k (omega arith)) in
+    rw (e, o, H, F′, G′)
+
+-- the first six coefficients count
+pub six-count : (depth : ℕ) (x : Intersection) (p : ℕ → Float) → ((k : ℕ) → k ≤ 5 → p k ≡ x .coefficient k) → intersectionFigure depth
+    (withCoefficients x p)
+    ≡ intersectionFigure depth x
 unfolding intersectionFigure
-six-count x p h =
-    each-same (λ k so-far. larger so-far (absoluteEnd (differenceBernstein ends (withCoefficients x p) k)))
-    (λ k so-far. larger so-far (absoluteEnd (differenceBernstein ends x k))) 0 6 (figure +0)
-    (λ k g l m. ap (λ (e : Ends). larger g (absoluteEnd e)) (pairs k (omega arith)))
+six-count depth x p h =
+    halved-same depth (differenceBernstein ends (withCoefficients x p)) (differenceBernstein ends x) pairs
   where
     powers : (j : ℕ) → j ≤ 5 → differencePower ends (withCoefficients x p) j ≡ differencePower ends x j
     powers j l =

@@ -4,3 +4,4 @@ pub mod Pairs
 pub mod Standing
 pub mod Steps
 pub mod Sums
+pub mod Triangle

@@ -19,73 +19,76 @@ use Rattle.certificate.proofs.Steps.{next-interval, next-segment, rest,
 
 -- At interval i, which lies between two parameters, and segment m, with the largest so far.
 pub record Standing (breaks coefficients : List Float) (k place : ℕ) (points : List Float) (d axis n : ℕ) (spacing : Spacing)
-    (parameters : List Float) (i m : ℕ) (from to : Float) (so-far : Figure) : Type 0 where
+    (parameters : List Float) (depth i m : ℕ) (from to : Float) (so-far : Figure) : Type 0 where
   pub interval : i < n
   pub segment : m + 1 < length breaks
   pub start : from ≡ normalisedOf spacing parameters n i
   pub end : i + 1 < n → to ≡ normalisedOf spacing parameters n (i + 1)
   -- what is left to do gives the figure
-  pub gives : rest (axisOf breaks coefficients k place points d axis n spacing parameters) i m so-far
-      ≡ figureOf (axisOf breaks coefficients k place points d axis n spacing parameters)
+  pub gives : rest depth (axisOf breaks coefficients k place points d axis n spacing parameters) i m so-far
+      ≡ figureOf depth (axisOf breaks coefficients k place points d axis n spacing parameters)
 
 -- the largest so far with that of an intersection, as the code has it
-abbrev counted : Intersection → Figure → Figure
-counted y g = cond (lt (y .left) (y .right)) (larger g (intersectionFigure y)) g
+abbrev counted : ℕ → Intersection → Figure → Figure
+counted depth y g = cond (lt (y .left) (y .right)) (larger g (intersectionFigure depth y)) g
 
-module _ {breaks coefficients : List Float} {k place : ℕ} {points : List Float} {d axis n : ℕ} {spacing : Spacing} {parameters : List Float}
+module _ {breaks coefficients : List Float} {k place : ℕ} {points : List Float} {d axis n : ℕ} {spacing : Spacing}
+    {parameters : List Float} {depth : ℕ}
   where
     -- at interval 0 and segment 0
     pub standing-first : {from to : Float} → 2 ≤ n → 2 ≤ length breaks → from ≡ normalisedOf spacing parameters n 0 → to
         ≡ normalisedOf spacing parameters n 1
-        → Standing breaks coefficients k place points d axis n spacing parameters 0 0 from to (figure +0)
+        → Standing breaks coefficients k place points d axis n spacing parameters depth 0 0 from to (figure +0)
     standing-first l h f t = record {
       interval = omega arith;
       segment = omega arith;
       start = f;
       end = λ _. t;
-      gives = rest-all
-          (axisOf breaks coefficients k place points d axis n spacing parameters);
+      gives = rest-all depth (axisOf breaks coefficients k place points d axis n spacing parameters);
     }
 
-    module _ {i m : ℕ} {from to : Float} {g : Figure} (s : Standing breaks coefficients k place points d axis n spacing parameters i m from to
-        g) where
+    module _ {i m : ℕ} {from to : Float} {g : Figure}
+        (s : Standing breaks coefficients k place points d axis n spacing parameters depth i m from to g) where
       -- after the last interval
-      pub standing-last : n ≤ i + 1 → g ≡ figureOf (axisOf breaks coefficients k place points d axis n spacing parameters)
-      standing-last l = sym (rest-done (axisOf breaks coefficients k place points d axis n spacing parameters) i m g (omega arith)) ∙ s .gives
+      pub standing-last : n ≤ i + 1 → g ≡ figureOf depth (axisOf breaks coefficients k place points d axis n spacing parameters)
+      standing-last l = sym (rest-done depth (axisOf breaks coefficients k place points d axis n spacing parameters) i m g (omega arith))
+          ∙ s .gives
 
       module _ (rising : Rises (length breaks - 1) (at breaks) × Rises (n - 1) (normalisedOf spacing parameters n)) (more : i + 1 < n)
           {y : Intersection} {h : Figure}
           (is-met : y ≡ meeting (at breaks m) (at breaks (m + 1)) (at (take 6 (drop (6 * (m * k + place)) coefficients))) from to
           (at points (i * d + axis)) (at points ((i + 1) * d + axis)))
-          (is-counted : h ≡ counted y g) where
-        visited : h ≡ withIntersection (axisOf breaks coefficients k place points d axis n spacing parameters) i m g
+          (is-counted : h ≡ counted depth y g) where
+        visited : h ≡ withIntersection depth (axisOf breaks coefficients k place points d axis n spacing parameters) i m g
         unfolding withIntersection intersection
         visited =
             let z = intersection (axisOf breaks coefficients k place points d axis n spacing parameters) i m in
-            is-counted ∙ ap (λ (y : Intersection). counted y g) is-met
+            is-counted ∙ ap (λ (y : Intersection). counted depth y g) is-met
             ∙ rw (s .start, s .end more) (ap (λ (f : Figure). cond (lt (z .left) (z .right)) (larger g f) g)
-            (six-count z (at (take 6 (drop (6 * (m * k + place)) coefficients))) (cell-of-six coefficients (6 * (m * k + place)))))
+            (six-count depth z (at (take 6 (drop (6 * (m * k + place)) coefficients))) (cell-of-six coefficients (6 * (m * k + place)))))
 
         -- on to the next segment
-        pub standing-segment : lt (at breaks (m + 1)) to ≡ true → Standing breaks coefficients k place points d axis n spacing parameters i
-            (m + 1) from to h
+        pub standing-segment : lt (at breaks (m + 1)) to ≡ true
+            → Standing breaks coefficients k place points d axis n spacing parameters depth i (m + 1) from to h
         standing-segment t =
             let x = axisOf breaks coefficients k place points d axis n spacing parameters in
             let inside = subst T (sym (rw (s .end more) at t)) tt in
-            let left = segment-remains x (rising .0) (rising .1) i m (omega arith) (omega arith) inside in
+            let left = segment-remains depth x (rising .0) (rising .1) i m (omega arith) (omega arith) inside in
             record {
               interval = s .interval;
               segment = omega arith;
               start = s .start;
               end = s .end;
-              gives = ap (rest x i (m + 1)) visited ∙ sym (next-segment x (rising .0) (rising .1) i m (omega arith) (omega arith) inside g)
+              gives = ap (rest depth x i (m + 1)) visited ∙ sym (next-segment depth x (rising .0) (rising .1) i m (omega arith)
+                  (omega arith) inside g)
                   ∙ s .gives;
             }
 
         -- on to the next interval
-        pub standing-interval : {next : Float} → lt (at breaks (m + 1)) to ≡ false → (i + 1 + 1 < n → next ≡ normalisedOf spacing parameters n
+        pub standing-interval : {next : Float} → lt (at breaks (m + 1)) to ≡ false → (i + 1 + 1 < n → next ≡ normalisedOf spacing
+            parameters n
             (i + 1 + 1))
-            → Standing breaks coefficients k place points d axis n spacing parameters (i + 1) m to next h
+            → Standing breaks coefficients k place points d axis n spacing parameters depth (i + 1) m to next h
         standing-interval t e =
             let x = axisOf breaks coefficients k place points d axis n spacing parameters in
             let outside = subst (λ (b : Bool). T (not b)) (sym (rw (s .end more) at t)) tt in
@@ -94,6 +97,7 @@ module _ {breaks coefficients : List Float} {k place : ℕ} {points : List Float
               segment = s .segment;
               start = s .end more;
               end = e;
-              gives = ap (rest x (i + 1) m) visited ∙ sym (next-interval x (rising .0) (rising .1) i m (omega arith) (omega arith) g outside)
+              gives = ap (rest depth x (i + 1) m) visited ∙ sym (next-interval depth x (rising .0) (rising .1) i m (omega arith)
+                  (omega arith) g outside)
                   ∙ s .gives;
             }

@@ -5,10 +5,11 @@ use Rattle.figure.specs.Figure.{figure, noFigure}
 use Rattle.certificate.specs.declared.certify.Certificate.{Certificate}
 use Rattle.certificate.specs.declared.certify.Certificate.the-variants as answers
 use Rattle.certificate.specs.declared.certify.Refusal.{Refusal}
-use Rattle.certificate.specs.declared.certify.Refusal.the-variants.{AboveDomain, PointCells, BadPoints, BadParameters, BadRange, Malformed, NotSelected}
+use Rattle.certificate.specs.declared.certify.Refusal.the-variants.{TooDeep, AboveDomain, PointCells, BadPoints, BadParameters, BadRange, Malformed, NotSelected}
 
 -- document 01's number of a refusal
 abbrev pub refusalNumber : Refusal → ℕ
+refusalNumber TooDeep = 23
 refusalNumber AboveDomain = 18
 refusalNumber PointCells = 20
 refusalNumber BadPoints = 1

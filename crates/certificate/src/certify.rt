@@ -1,5 +1,5 @@
 // The certificate's entry point: document 01, "The certified figure". "Certifying: 18, 20, 1, 5, 6, 24,
-// 3."
+// 3"; and before them 23, a depth above 6 (request 8).
 ghost use mathlib.Core.Path.{_≡_};
 ghost use Rattle.curve.specs.Form.{slices};
 ghost use lib.Ieee.{Float};
@@ -16,8 +16,9 @@ use request::parameters;
 use request::parameters::Spacing;
 use request::points;
 
-// Why a call is refused: 18, 20, 1, 5, 6, 24, 3.
+// Why a call is refused: 23, 18, 20, 1, 5, 6, 24, 3.
 pub enum Refusal {
+    TooDeep,
     AboveDomain,
     PointCells,
     BadPoints,
@@ -56,11 +57,15 @@ fn checked(
     spacing: Spacing,
     parameters: &[f64],
     axis: usize,
+    depth: usize,
 ) -> Certificate
     ensures { λ r. ⌜ outcomeOf r ≡ certifyOf curve (slices (now (breaks .entry)) (now (coefficients .entry)) (now («other_breaks» .entry))
         (now («other_coefficients» .entry)))
-        (now (points .entry)) n spacing (now (parameters .entry)) axis ⌝ }
+        (now (points .entry)) n spacing (now (parameters .entry)) axis depth ⌝ }
 {
+    if 6 < depth {
+        return Certificate::Refused(Refusal::TooDeep);
+    }
     let d = curve.d;
     if 16 < d {
         return Certificate::Refused(Refusal::AboveDomain);
@@ -106,12 +111,13 @@ fn checked(
         n,
         spacing,
         parameters,
+        depth,
     ))
 }
 
 // The certified figure of the axis, one of the curve's selected axes, against n waypoints and their
-// parameters. The curve stands in four slices beside it. The answer is `certifyOf`'s; and where it is a
-// figure, no point of the axis lies further from its line than that.
+// parameters, with a depth of 0 to 6. The curve stands in four slices beside it. The answer is
+// `certifyOf`'s; and where it is a figure, no point of the axis lies further from its line than that.
 pub fn certify(
     curve: Curve,
     breaks: &[f64],
@@ -123,10 +129,11 @@ pub fn certify(
     spacing: Spacing,
     parameters: &[f64],
     axis: usize,
+    depth: usize,
 ) -> Certificate
     ensures { λ r. ⌜ outcomeOf r ≡ certifyOf curve (slices (now (breaks .entry)) (now (coefficients .entry)) (now («other_breaks» .entry))
         (now («other_coefficients» .entry)))
-        (now (points .entry)) n spacing (now (parameters .entry)) axis ⌝ }
+        (now (points .entry)) n spacing (now (parameters .entry)) axis depth ⌝ }
     ensures { λ r. ⌜ ((F : Float) → outcomeOf r ≡ outcome 0 (figure F) → Certified curve (slices (now (breaks .entry))
         (now (coefficients .entry)) (now («other_breaks» .entry)) (now («other_coefficients» .entry)))
         (now (points .entry)) n spacing (now (parameters .entry)) axis F) ⌝ }
@@ -142,5 +149,6 @@ pub fn certify(
         spacing,
         parameters,
         axis,
+        depth,
     )
 }

@@ -1,13 +1,12 @@
-// The figure of one intersection of a waypoint interval with a segment: document 01, "The certified
-// figure". The six powers of curve minus line, their Bernstein coefficients, and the largest absolute
-// end, all in pairs of ends.
+// One intersection of a waypoint interval with a segment: document 01, "The certified figure". The six
+// powers of curve minus lineand their Bernstein coefficients, all in pairs of ends.
 ghost use mathlib.Core.Path.{_≡_};
 ghost use Prim.Native.Nat.{_-_, _<_, _≤_};
 ghost use Rattle.window.specs.Cells.{at};
 ghost use Rattle.fraction.specs.Binomial.{choose};
 ghost use Rattle.figure.specs.Operations.{ends};
-ghost use Rattle.figure.specs.Intersection.{bernstein, differencePower, lineAtLeft, lineRise, offset, power, raised, scale};
-ghost use Rattle.figure.specs.Figure.{absoluteEnd, intersectionFigure, larger};
+ghost use Rattle.figure.specs.Intersection.{bernstein, differenceBernstein, differencePower, lineAtLeft, lineRise, offset, power, raised, scale};
+ghost use Rattle.figure.specs.Figure.{absoluteEnd, larger};
 ghost use Rattle.certificate.specs.Structs.{Holds, endsOf, figureIn, intersectionOf, pairAt};
 use crate::ends;
 use crate::ends::Ends;
@@ -39,6 +38,11 @@ struct Powers {
     ends: [Ends; 6],
 }
 
+// Six Bernstein coefficients of curve minus line: on an intersection, or on a part of it.
+pub struct Six {
+    pub ends: [Ends; 6],
+}
+
 // C(k, j) at j of row k.
 const CHOOSE: [[f64; 6]; 6] = [
     [1., 0., 0., 0., 0., 0.],
@@ -63,7 +67,7 @@ pub fn larger(x: Figure, y: Figure) -> Figure
 }
 
 // The largest absolute end of a pair.
-fn absolute_end(e: Ends) -> Figure
+pub(crate) fn absolute_end(e: Ends) -> Figure
     ensures { λ r. ⌜ figureIn r ≡ absoluteEnd (endsOf e) ⌝ }
 {
     if e.good {
@@ -188,16 +192,19 @@ fn bernstein(q: Powers, k: usize) -> Ends
     sum
 }
 
-// The largest absolute end over the six Bernstein coefficients.
-pub fn intersection_figure(x: Intersection) -> Figure
-    ensures { λ r. ⌜ figureIn r ≡ intersectionFigure (intersectionOf x) ⌝ }
+// The six Bernstein coefficients of curve minus line.
+pub(crate) fn bernstein_pairs(x: Intersection) -> Six
+    ensures { λ r. ⌜ Holds (r .ends) (differenceBernstein ends (intersectionOf x)) ⌝ }
 {
     let q = difference_powers(x);
-    let mut f = Figure::Known(0.0);
-    let mut k = 0;
-    while k < 6 {
-        f = larger(f, absolute_end(bernstein(q, k)));
-        k += 1;
+    Six {
+        ends: [
+            bernstein(q, 0),
+            bernstein(q, 1),
+            bernstein(q, 2),
+            bernstein(q, 3),
+            bernstein(q, 4),
+            bernstein(q, 5),
+        ],
     }
-    f
 }

@@ -1,6 +1,7 @@
 // The certified figure: how far an axis of a curve can lie from the lines between its waypoints.
 mod directed; // directed.rt: sums rounded downward and upward
 pub mod ends; // ends.rt: pairs of ends
-pub mod intersection; // intersection.rt: the figure of one intersection
+pub mod intersection; // intersection.rt: the six Bernstein pairs of one intersection
+mod halving; // halving.rt: the figure of an intersection, with a depth
 mod walk; // walk.rt: the intersections of an axis, one after the other
 pub mod certify; // certify.rt: the entry point, with its checks

@@ -13,6 +13,7 @@ ghost use Rattle.figure.specs.Distance.{Rises};
 ghost use Rattle.figure.specs.Figure.{figureOf, intersectionFigure, larger, meeting};
 ghost use Rattle.certificate.specs.Structs.{figureIn, intersectionOf};
 use crate::ends;
+use crate::halving;
 use crate::intersection;
 use crate::intersection::Figure;
 use crate::intersection::Intersection;
@@ -68,12 +69,12 @@ fn intersect(
 }
 
 // The largest so far with that of an intersection, if "left below right".
-fn with_intersection(x: Intersection, so_far: Figure) -> Figure
-    ensures { λ r. ⌜ figureIn r ≡ cond (lt (x .left) (x .right)) (larger (figureIn «so_far») (intersectionFigure (intersectionOf x)))
+fn with_intersection(depth: usize, x: Intersection, so_far: Figure) -> Figure
+    ensures { λ r. ⌜ figureIn r ≡ cond (lt (x .left) (x .right)) (larger (figureIn «so_far») (intersectionFigure depth (intersectionOf x)))
         (figureIn «so_far») ⌝ }
 {
     if x.left < x.right {
-        return intersection::larger(so_far, intersection::intersection_figure(x));
+        return intersection::larger(so_far, halving::intersection_figure(depth, x));
     }
     so_far
 }
@@ -101,12 +102,13 @@ pub(crate) fn walk(
     n: usize,
     spacing: Spacing,
     parameters: &[f64],
+    depth: usize,
 ) -> Figure
     requires { ⌜ (place < k) × (k ≤ 16) × (2 ≤ length (now breaks)) × (length (now breaks) ≤ 20001)
         × (length (now coefficients) ≡ 6 * ((length (now breaks) - 1) * k))
         × (axis < d) × (d ≤ 16) × (2 ≤ n) × (n ≤ 20000) × (length (now points) ≡ d * n) × (spacing ≡ Listed → length (now parameters) ≡ n) ⌝ }
     requires { ⌜ Rises (length (now breaks) - 1) (at (now breaks)) × Rises (n - 1) (normalisedOf spacing (now parameters) n) ⌝ }
-    ensures { λ r. ⌜ figureIn r ≡ figureOf (axisOf (now (breaks .entry)) (now (coefficients .entry)) k place (now (points .entry)) d axis n
+    ensures { λ r. ⌜ figureIn r ≡ figureOf depth (axisOf (now (breaks .entry)) (now (coefficients .entry)) k place (now (points .entry)) d axis n
         spacing (now (parameters .entry))) ⌝ }
 {
     let mut so_far = Figure::Known(0.0);
@@ -128,7 +130,7 @@ pub(crate) fn walk(
             from,
             to,
         );
-        so_far = with_intersection(x, so_far);
+        so_far = with_intersection(depth, x, so_far);
         if breaks[m + 1] < to {
             m += 1;
         } else {

@@ -20,8 +20,9 @@ use Rattle.curve.specs.declared.Curve.{Curve}
 use Rattle.curve.specs.declared.Mode.the-variants.{Error}
 use Rattle.curve.specs.First.{firstOf}
 use Rattle.curve.specs.Form.{Slices, slices, axesFormed, setFormed, othersFormed, rangeFormed, wellFormed}
-use Rattle.figure.specs.Certify.{certifyOf, outcome}
-use Rattle.figure.specs.Figure.{figure, figureOf}
+use Rattle.figure.specs.Certify.{CertificateOutcome, certifyOf, outcome}
+use Rattle.figure.specs.Figure.{absoluteEnd, figure, figureOf, halvedFigure, intersectionFigure, larger, sixFigure, smaller}
+use Rattle.figure.specs.Halving.{level}
 use Rattle.figure.specs.Intersection.{bernstein, power}
 
 abbrev float : ℕ → Float
@@ -53,29 +54,52 @@ curve d segments = record {
 abbrev flat : Slices
 flat = slices (+0 ∷ one ∷ []) (zeros 6) [] []
 
--- document 01's number of each answer: two refusals at least are due in each row but the last two
-abbrev number : Curve → List Float → ℕ → Spacing → List Float → ℕ → ℕ
-number c points n spacing parameters axis = certifyOf c flat points n spacing parameters axis .number
-
-pub numbers : number (curve 17 0) (infinite ∷ []) 2 Listed (one ∷ one ∷ []) 1
-    ∷ number (curve 1 0) (infinite ∷ []) 2 Listed (one ∷ one ∷ []) 1
-    ∷ number (curve 1 0) (infinite ∷ +0 ∷ []) 2 Listed (one ∷ one ∷ []) 1
-    ∷ number (curve 1 0) (+0 ∷ +0 ∷ []) 2 Listed (one ∷ one ∷ []) 1
-    ∷ number (curve 1 0) (+0 ∷ +0 ∷ []) 2 Listed wide 1
-    ∷ number (curve 1 0) (+0 ∷ +0 ∷ []) 2 Even [] 1
-    ∷ number (curve 1 1) (+0 ∷ +0 ∷ []) 2 Even [] 1
-    ∷ number (curve 1 1) (+0 ∷ +0 ∷ []) 2 Even [] 0
-    ∷ []
-    ≡ 18 ∷ 20 ∷ 1 ∷ 5 ∷ 6 ∷ 24 ∷ 3 ∷ 0 ∷ []
+-- what the answers below are computed by
+unfoldable pub checks : Unit {0}
 unfolding certifyOf unfit any misplaced miscounted parameterOf unreliable lengthOf normalisedOf wellFormed axesFormed firstOf setFormed
     othersFormed rangeFormed ofBits div ofInt le sub lt eq
+checks = tt
+
+unfoldable pub figures : Unit {0}
+unfolding figureOf intersectionFigure halvedFigure smaller larger absoluteEnd level sixFigure each turns highest lowest bernstein power
+    addPairs dividePairs multiplyPairs subtractPairs finiteEnds outward moved mul add nextDown nextUp isNan toBits neg largestAbsolute
+    downwardSum upwardSum plainZero atMostq _+q_
+figures = tt
+
+-- document 01's number of each answer: two refusals at least are due in each row but the last two
+abbrev number : Curve → List Float → ℕ → Spacing → List Float → ℕ → ℕ → ℕ
+number c points n spacing parameters axis depth = certifyOf c flat points n spacing parameters axis depth .number
+
+pub numbers : number (curve 17 0) (infinite ∷ []) 2 Listed (one ∷ one ∷ []) 1 7
+    ∷ number (curve 17 0) (infinite ∷ []) 2 Listed (one ∷ one ∷ []) 1 6
+    ∷ number (curve 1 0) (infinite ∷ []) 2 Listed (one ∷ one ∷ []) 1 6
+    ∷ number (curve 1 0) (infinite ∷ +0 ∷ []) 2 Listed (one ∷ one ∷ []) 1 6
+    ∷ number (curve 1 0) (+0 ∷ +0 ∷ []) 2 Listed (one ∷ one ∷ []) 1 6
+    ∷ number (curve 1 0) (+0 ∷ +0 ∷ []) 2 Listed wide 1 6
+    ∷ number (curve 1 0) (+0 ∷ +0 ∷ []) 2 Even [] 1 6
+    ∷ number (curve 1 1) (+0 ∷ +0 ∷ []) 2 Even [] 1 6
+    ∷ number (curve 1 1) (+0 ∷ +0 ∷ []) 2 Even [] 0 6
+    ∷ []
+    ≡ 23 ∷ 18 ∷ 20 ∷ 1 ∷ 5 ∷ 6 ∷ 24 ∷ 3 ∷ 0 ∷ []
+unfolding checks
 numbers = refl
 
--- the figure of the curve 1/2 against the line 0
-pub half : certifyOf (curve 1 1) (slices (+0 ∷ one ∷ []) (float 0x3fe0_0000_0000_0000 ∷ zeros 5) [] []) (+0 ∷ +0 ∷ []) 2 Even [] 0
+-- the figure of the curve 1/2 against the line 0, at depth 0
+pub half : certifyOf (curve 1 1) (slices (+0 ∷ one ∷ []) (float 0x3fe0_0000_0000_0000 ∷ zeros 5) [] []) (+0 ∷ +0 ∷ []) 2 Even [] 0 0
     ≡ outcome 0 (figure (float 0x3fe0_0000_0000_0010))
-unfolding certifyOf unfit any misplaced miscounted parameterOf unreliable lengthOf normalisedOf wellFormed axesFormed firstOf setFormed
-    othersFormed rangeFormed ofBits div ofInt le sub lt eq figureOf each turns highest lowest bernstein addPairs dividePairs multiplyPairs
-    subtractPairs power finiteEnds outward moved mul add nextDown nextUp isNan toBits neg largestAbsolute downwardSum upwardSum
-    plainZero atMostq _+q_
+unfolding checks figures
 half = refl
+
+-- Request 8: the curve 16u^2(1 - u)^2, a bulge of height 1, against the line 0. Its Bernstein coefficients are 0, 0, 1.6, 1.6, 0, 0; those
+-- of its halves are at most 1.
+abbrev bulge : ℕ → CertificateOutcome
+bulge depth = certifyOf (curve 1 1) (slices (+0 ∷ one ∷ []) (+0 ∷ +0 ∷ float 0x4030_0000_0000_0000 ∷ float 0xc040_0000_0000_0000
+    ∷ float 0x4030_0000_0000_0000 ∷ +0 ∷ []) [] []) (+0 ∷ +0 ∷ []) 2 Even [] 0 depth
+
+pub whole-bulge : bulge 0 ≡ outcome 0 (figure (float 0x3ff9_9999_9999_99ea))
+unfolding checks figures
+whole-bulge = refl
+
+pub halved-bulge : bulge 1 ≡ outcome 0 (figure (float 0x3ff0_0000_0000_008d))
+unfolding checks figures
+halved-bulge = refl

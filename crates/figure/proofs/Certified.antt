@@ -40,7 +40,8 @@ set-rises m n b c h =
     let below = and-l (t && zero && breaksRise b n) one all in
     record {
       from-zero = and-r t zero (and-l (t && zero) (breaksRise b n) below);
-      rising = λ i l. subst T (sym (every-at (λ i. lt (at b i) (at b (i + 1))) n (is-true (breaksRise b n) (and-r (t && zero) (breaksRise b n) below))
+      rising = λ i l. subst T (sym (every-at (λ i. lt (at b i) (at b (i + 1))) n (is-true (breaksRise b n)
+          (and-r (t && zero) (breaksRise b n) below))
           i l)) tt;
       to-one = and-r (t && zero && breaksRise b n) one all;
     }
@@ -59,8 +60,9 @@ passed : (b : Bool) (k : ℕ) (next : CertificateOutcome) (f : Figure) → cond 
 passed true k next f h = let e : suc k ≡ 0 = ap (λ (o : CertificateOutcome). o .number) h in absurd (omega arith)
 passed false k next f h = (refl, h)
 
-module _ (c : Curve) (s : Slices) (points : List Float) (n : ℕ) (spacing : Spacing) (parameters : List Float) (axis : ℕ) where
+module _ (c : Curve) (s : Slices) (points : List Float) (n : ℕ) (spacing : Spacing) (parameters : List Float) (axis depth : ℕ) where
   pub record Accepted : Type 0 where
+    pub shallow : depth ≤ 6
     pub d-domain : c .d ≤ 16
     pub n-domain : n ≤ 20000
     pub cells : length points ≡ c .d * n
@@ -71,11 +73,12 @@ module _ (c : Curve) (s : Slices) (points : List Float) (n : ℕ) (spacing : Spa
     pub selected : positionOf (c .axes) (c .k) axis < c .k
 
   -- the checks that a certificate passed, and its figure
-  pub accepted : (f : Figure) → certifyOf c s points n spacing parameters axis ≡ outcome 0 f → Accepted
-      × (figureOf (certifiedAxis c s points n spacing parameters axis) ≡ f)
+  pub accepted : (f : Figure) → certifyOf c s points n spacing parameters axis depth ≡ outcome 0 f → Accepted
+      × (figureOf depth (certifiedAxis c s points n spacing parameters axis) ≡ f)
   unfolding certifyOf
   accepted f h =
-      let e18 = passed (ltb 16 (c .d) || ltb 20000 n) 17 _ f h in
+      let e23 = passed (ltb 6 depth) 22 _ f h in
+      let e18 = passed (ltb 16 (c .d) || ltb 20000 n) 17 _ f (e23 .1) in
       let e20 = passed (not (eqb (length points) (c .d * n))) 19 _ f (e18 .1) in
       let e1 = passed (unfit (c .d) n points) 0 _ f (e20 .1) in
       let e5 = passed (misplaced spacing parameters n) 4 _ f (e1 .1) in
@@ -84,6 +87,7 @@ module _ (c : Curve) (s : Slices) (points : List Float) (n : ℕ) (spacing : Spa
       let e3 = passed (not (ltb (positionOf (c .axes) (c .k) axis) (c .k))) 2 _ f (e24 .1) in
       let d = or-none (ltb 16 (c .d)) (ltb 20000 n) (e18 .0) in (
         record {
+          shallow = ltb-false 6 depth (e23 .0);
           d-domain = ltb-false 16 (c .d) (d .0);
           n-domain = ltb-false 20000 n (d .1);
           cells = eqb-true (length points) (c .d * n) (not-false (eqb (length points) (c .d * n)) (e20 .0));
@@ -91,7 +95,8 @@ module _ (c : Curve) (s : Slices) (points : List Float) (n : ℕ) (spacing : Spa
           placed = e5 .0;
           reliable = e6 .0;
           well-formed = not-false (wellFormed c s) (e24 .0);
-          selected = ltb-true (positionOf (c .axes) (c .k) axis) (c .k) (not-false (ltb (positionOf (c .axes) (c .k) axis) (c .k)) (e3 .0));
+          selected = ltb-true (positionOf (c .axes) (c .k) axis) (c .k) (not-false (ltb (positionOf (c .axes) (c .k) axis) (c .k))
+              (e3 .0));
         },
         ap (λ (o : CertificateOutcome). o .certified) (e3 .1),
       )
@@ -134,19 +139,20 @@ module _ (c : Curve) (s : Slices) (points : List Float) (n : ℕ) (spacing : Spa
 -- figure F, then the curve is well formed, breaks and normalised parameters rise from 0 to 1, and the distance rule holds for the axis and
 -- F at every fraction from 0 to 1. By its contract `certify` answers as `certifyOf` does, and the cells of its slices are f64s, as
 -- `Doubles` asks of the parameters.
-pub certificate-theorem : (c : Curve) (s : Slices) (points : List Float) (n : ℕ) (spacing : Spacing) (parameters : List Float) (axis : ℕ)
+pub certificate-theorem : (c : Curve) (s : Slices) (points : List Float) (n : ℕ) (spacing : Spacing) (parameters : List Float)
+    (axis depth : ℕ)
     (F : Float) → Doubles parameters
-    → certifyOf c s points n spacing parameters axis ≡ outcome 0 (figure F) → Certified c s points n spacing parameters axis F
-certificate-theorem c s points n spacing parameters axis F doubles h =
-    let a = accepted c s points n spacing parameters axis (figure F) h in
+    → certifyOf c s points n spacing parameters axis depth ≡ outcome 0 (figure F) → Certified c s points n spacing parameters axis F
+certificate-theorem c s points n spacing parameters axis depth F doubles h =
+    let a = accepted c s points n spacing parameters axis depth (figure F) h in
     let A = a .0 in
     let x = certifiedAxis c s points n spacing parameters axis in
-    let breaks = breaks-rise c s points n spacing parameters axis A in
-    let rise = parameters-rise c s points n spacing parameters axis A doubles in
+    let breaks = breaks-rise c s points n spacing parameters axis depth A in
+    let rise = parameters-rise c s points n spacing parameters axis depth A doubles in
     record {
       well-formed = A .well-formed;
       breaks-rise = breaks;
       parameters-rise = rise;
       everywhere = covered x breaks rise;
-      distance = distance-theorem x F breaks rise (a .1);
+      distance = distance-theorem depth x F breaks rise (a .1);
     }

@@ -1,5 +1,5 @@
 -- The distance theorem: where the definition gives a figure, the distance rule holds (`DistanceRule` in specs/Distance says it in full). It
--- rests on two facts: each pair encloses its exact value (Enclosure), and the figure is at least every absolute end (Largest).
+-- rests on two facts: each pair encloses its exact value (Enclosure), and the figure bounds the exact polynomial of each intersection (Largest).
 --
 -- A segment and an interval that hold t may share the point t alone. Then t is an end of both, and the interval on the other side of t
 -- shares more than a point with the segment; its line has the same value at t, since both pass through the waypoint there. That interval
@@ -38,8 +38,8 @@ line-end s s′ y y′ h =
     combine rationalRing (s ∷ s′ ∷ y ∷ y′ ∷ inverse (s′ -q s) ∷ []) (v2 ⊕ (v1 ⊖ v0) ⊗ v4 ⊗ (v3 ⊖ v2)) v3 (v3 ⊖ v2) ((v1 ⊖ v0) ⊗ v4)
     (con (pos 1)) tt (inverse-is (s′ -q s) (difference-above s s′ h))
 
-module _ (x : Axis) (breaks : Rises (x .segments) (x .break)) (parameters : Rises (x .intervals) (x .parameter)) (F : Float)
-    (given : figureOf x ≡ figure F) where
+module _ (x : Axis) (breaks : Rises (x .segments) (x .break)) (parameters : Rises (x .intervals) (x .parameter)) (depth : ℕ) (F : Float)
+    (given : figureOf depth x ≡ figure F) where
   -- the values of break m, parameter i and waypoint i
   abbrev a : ℕ → ℚ
   a m = value (x .break m)
@@ -73,10 +73,11 @@ module _ (x : Axis) (breaks : Rises (x .segments) (x .break)) (parameters : Rise
   unfolding intersection
   proper m i t h p q =
       let below = overlap x breaks parameters m i (h .segment) (h .interval) p q in
-      difference-within (intersection x i m) (value F) t (overlap-values x breaks parameters m i (h .segment) (h .interval) p q)
+      difference-within (intersection x i m) (negq (value F)) (value F) t (overlap-values x breaks parameters m i (h .segment)
+      (h .interval) p q)
       (highest-has (λ z. value z ≤q t) (x .break m) (x .parameter i) (h .after-break) (h .after-waypoint))
       (lowest-has (λ z. t ≤q value z) (x .break (m + 1)) (x .parameter (i + 1)) (h .before-break) (h .before-waypoint))
-      (intersection-bounds (intersection x i m) (value F) (given-at-least x F given i m (h .interval) (h .segment) below))
+      (intersection-bounds depth (intersection x i m) (value F) (given-at-least depth x F given i m (h .interval) (h .segment) below))
 
   -- the interval starts where the segment ends: the interval before it
   touching-end : (m i : ℕ) (t : ℚ) → Shared m (i + 1) t → a (m + 1) ≤q s (i + 1) → Near m t (lineOf (i + 1) t)
@@ -93,7 +94,8 @@ module _ (x : Axis) (breaks : Rises (x .segments) (x .break)) (parameters : Rise
         after-waypoint = ≤q-trans (s i) (s (i + 1)) t (<q-weaken (s i) (s (i + 1)) strict) (h .after-waypoint);
         before-waypoint = before;
       } in
-      let near = proper m i t shared (<q-≤q-trans (a m) (a (m + 1)) (s (i + 1)) inside k) (<q-≤q-trans (s i) (s (i + 1)) (a (m + 1)) strict
+      let near = proper m i t shared (<q-≤q-trans (a m) (a (m + 1)) (s (i + 1)) inside k)
+      (<q-≤q-trans (s i) (s (i + 1)) (a (m + 1)) strict
       (≤q-trans (s (i + 1)) t (a (m + 1)) (h .after-waypoint) (h .before-break))) in
       subst (λ (z : ℚ). Near m t z)
       (ap (lineOf i) e ∙ line-end (s i) (s (i + 1)) (y i) (y (i + 1)) strict ∙ sym (line-start (s (i + 1)) (s (i + 1 + 1)) (y (i + 1))
@@ -177,18 +179,19 @@ written x F t m i b = (
   ≤q-means-≤f (subtractFractions (curveAt x m t) (lineAt x i t)) (exactFraction F) (b .1),
 )
 
--- The distance theorem: if breaks and normalised parameters rise from 0 to 1, as the checks 24, 5 and 6 ensure, and the definition gives
+-- The distance theorem, at every depth: if breaks and normalised parameters rise from 0 to 1, as the checks 24, 5 and 6 ensure, and the definition gives
 -- the figure F, then the distance rule holds for F.
-pub distance-theorem : (x : Axis) (F : Float) → Rises (x .segments) (x .break) → Rises (x .intervals) (x .parameter) → figureOf x ≡ figure F
+pub distance-theorem : (depth : ℕ) (x : Axis) (F : Float) → Rises (x .segments) (x .break) → Rises (x .intervals) (x .parameter) →
+    figureOf depth x ≡ figure F
     → DistanceRule x F
-distance-theorem x F breaks parameters given =
+distance-theorem depth x F breaks parameters given =
     record {
-      finite-figure = given-finite x F given;
+      finite-figure = given-finite depth x F given;
       finite-breaks = rises-finite (x .segments) (x .break) breaks;
       finite-parameters = rises-finite (x .intervals) (x .parameter) parameters;
-      finite-coefficients = coefficients-finite x breaks parameters F given;
-      finite-waypoints = waypoints-finite x breaks parameters F given;
-      distance = λ t m i m< i< M I. written x F t m i (near x breaks parameters F given m i (cls t) (record {
+      finite-coefficients = coefficients-finite x breaks parameters depth F given;
+      finite-waypoints = waypoints-finite x breaks parameters depth F given;
+      distance = λ t m i m< i< M I. written x F t m i (near x breaks parameters depth F given m i (cls t) (record {
         segment = m<;
         interval = i<;
         after-break = ≤f-gives-≤q (exactFraction (x .break m)) t (M .above);

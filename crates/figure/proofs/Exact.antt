@@ -1,29 +1,31 @@
--- Over exact fractions, the figure's formulas give the Bernstein coefficients of curve minus line on [left, right]; so a bound of the six
--- bounds the difference everywhere there.
+-- Over exact fractions, the figure's formulas give the Bernstein coefficients of curve minus line on [left, right]; so what bounds the
+-- polynomial of the six from 0 to 1 bounds the difference everywhere there.
 use mathlib.Core.List.{[], _∷_}
 use mathlib.Core.Path.{_∙_, _≡_, ap, refl, subst, sym}
 use Prim.Native.Nat.{ℕ, zero, suc, _+_, _-_, _<_, _≤_}
 use native.Mathlib.Nat.{zero-add}
 use native.Mathlib.Omega.{arith}
 use lib.IntN.{pos}
-use Rattle.fraction.specs.Bernstein.{bernsteinCoefficient}
+use Rattle.fraction.specs.Bernstein.{bernsteinCoefficient, deCasteljau}
+use Rattle.fraction.specs.Bernstein as basis
 use Rattle.fraction.specs.Binomial.{choose}
 use Rattle.fraction.specs.Order.{le-one, nonnegative-difference}
 use Rattle.fraction.specs.Polynomial.{expandedCoefficient, polynomial}
-use Rattle.fraction.specs.Rational.{Above, _*q_, _+q_, _-q_, _/q_, _<q_, _≤q_, absolute, inverse, negq, wholeq, ℚ, 𝟘}
+use Rattle.fraction.specs.Rational.{Above, _*q_, _+q_, _-q_, _/q_, _<q_, _≤q_, inverse, wholeq, ℚ, 𝟘}
 use Rattle.fraction.specs.RationalRing.{rationalRing}
-use Rattle.fraction.specs.Ring.{_⊕_, _⊖_, _⊗_, combine, con, opposite, solve, v0, v1, v2, v3, v4, v5}
+use Rattle.fraction.specs.Ring.{_⊕_, _⊖_, _⊗_, combine, con, solve, v0, v1, v2, v3, v4, v5}
 use Rattle.fraction.specs.Sum.{power, sum}
 use Rattle.fraction.specs.Value.{value}
-use Rattle.fraction.proofs.Bernstein.{within}
+use Rattle.fraction.proofs.Bernstein.{de-casteljau, powers-to-bernstein}
 use Rattle.fraction.proofs.Binomial.{choose-above}
 use Rattle.fraction.proofs.Inverse.{inverse-is, inverse-nonnegative}
 use Rattle.fraction.proofs.Polynomial.{expand}
-use Rattle.fraction.proofs.Rational.{<q-weaken, absolute-above, difference-above, rationalOrder, ≤q-trans, ≤q-whole}
+use Rattle.fraction.proofs.Rational.{<q-weaken, difference-above, rationalOrder}
 use Rattle.fraction.proofs.Sum.{sum-equal, sum-last, sum-scale}
 use Rattle.figure.specs.Intersection.{Intersection, bernstein, differenceBernstein, differencePower, lineAtLeft, lineRise, offset, raised, scale, total, without}
 use Rattle.figure.specs.Intersection as intersection
 use Rattle.figure.proofs.Enclosure.{exact}
+use Rattle.figure.proofs.Halves.{Throughout}
 
 -- ---- the sums and powers of the formulas are those of `fraction`
 -- terms that are 0 before the first
@@ -149,29 +151,29 @@ module _ (x : Intersection) where
       (λ k m. ap (λ (z : ℚ). z *q power rationalRing v k) (sym (power-is p (offset exact x) (scale exact x) k m))))
       ∙ ap (λ (z : ℚ). polynomial rationalRing 5 q v -q (y +q z *q d)) (between t s i l r A)
       ∙ ap (λ (z : ℚ). polynomial rationalRing 5 q v -q z)
-      (solve rationalRing (y ∷ ((l -q s) *q i) ∷ ((r -q l) *q i) ∷ v ∷ d ∷ []) (v0 ⊕ (v1 ⊕ v2 ⊗ v3) ⊗ v4) (v0 ⊕ v1 ⊗ v4 ⊕ v2 ⊗ v4 ⊗ v3) tt)
+      (solve rationalRing (y ∷ ((l -q s) *q i) ∷ ((r -q l) *q i) ∷ v ∷ d ∷ []) (v0 ⊕ (v1 ⊕ v2 ⊗ v3) ⊗ v4) (v0 ⊕ v1 ⊗ v4 ⊕ v2 ⊗ v4 ⊗ v3)
+      tt)
       ∙ sym (without-is (lineAtLeft exact x) (lineRise exact x) q v)
 
-  -- if the six exact Bernstein coefficients are at most m in size, so is curve minus line from left to right
-  pub difference-within : (m t : ℚ) → l <q r → l ≤q t → t ≤q r → ((k : ℕ) → k ≤ 5 → absolute (differenceBernstein exact x k) ≤q m)
-      → (negq m ≤q difference t) × (difference t ≤q m)
-  difference-within m t h lt tr b =
+  -- the same by de Casteljau's recursion over the six Bernstein coefficients
+  difference-cut : (t : ℚ) → l <q r → difference t ≡ deCasteljau rationalRing 5 (differenceBernstein exact x) ((t -q l) /q (r -q l))
+  difference-cut t h =
+      let v = (t -q l) /q (r -q l) in
+      let q = differencePower exact x in
+      difference-is t h ∙ sym (powers-to-bernstein 5 q v)
+      ∙ sum-equal rationalRing 5 (λ k. bernsteinCoefficient 5 q k *q basis.bernstein rationalRing 5 k v)
+      (λ k. differenceBernstein exact x k *q basis.bernstein rationalRing 5 k v)
+      (λ k k5. ap (λ (z : ℚ). z *q basis.bernstein rationalRing 5 k v) (sym (bernstein-is q k k5)))
+      ∙ sym (de-casteljau rationalRing 5 (differenceBernstein exact x) v)
+
+  -- what bounds the polynomial of the six exact Bernstein coefficients from 0 to 1 bounds curve minus line from left to right
+  pub difference-within : (a b t : ℚ) → l <q r → l ≤q t → t ≤q r → Throughout a b (differenceBernstein exact x)
+      → (a ≤q difference t) × (difference t ≤q b)
+  difference-within a b t h lt tr w =
       let A = difference-above l r h in
       let I = inverse-nonnegative (r -q l) (<q-weaken 𝟘 (r -q l) A) in
       let v = (t -q l) /q (r -q l) in
-      let q = differencePower exact x in
-      let e = sym (difference-is t h) in
-      let w = within 5 q m v
-      (λ k k5. let B = differenceBernstein exact x k in
-      let c = bernstein-is q k k5 in
-      let g = absolute-above B in (
-        subst (λ (z : ℚ). negq m ≤q z) c (le-one rationalRing _≤q_ rationalOrder (m ∷ B ∷ []) (opposite v0) v1 (con (pos 1)) (opposite v1)
-            v0 tt (≤q-whole 1) (≤q-trans (negq B) (absolute B) m (g .1) (b k k5))),
-        subst (λ (z : ℚ). z ≤q m) c (≤q-trans B (absolute B) m (g .0) (b k k5)),
-      ))
+      subst (λ (z : ℚ). (a ≤q z) × (z ≤q b)) (sym (difference-cut t h)) (w v
       (rationalOrder .nonnegative-mul (t -q l) (inverse (r -q l)) (nonnegative-difference rationalRing _≤q_ rationalOrder l t lt) I)
       (subst (λ (z : ℚ). v ≤q z) (inverse-is (r -q l) A) (le-one rationalRing _≤q_ rationalOrder (t ∷ l ∷ r ∷ inverse (r -q l) ∷ [])
-      ((v0 ⊖ v1) ⊗ v3) ((v2 ⊖ v1) ⊗ v3) v3 v0 v2 tt I tr)) in (
-        subst (λ (z : ℚ). negq m ≤q z) e (w .0),
-        subst (λ (z : ℚ). z ≤q m) e (w .1),
-      )
+      ((v0 ⊖ v1) ⊗ v3) ((v2 ⊖ v1) ⊗ v3) v3 v0 v2 tt I tr)))

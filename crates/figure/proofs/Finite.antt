@@ -10,7 +10,7 @@ use lib.Ieee.{Float, binary64}
 use lib.Ieee.Scale.{finite}
 use Rattle.fraction.specs.Binomial.{choose}
 use Rattle.fraction.specs.Pair.{Ends, addPairs, dividePairs, finiteEnds, isPair, multiplyPairs, none, pair, subtractPairs}
-use Rattle.fraction.specs.Rational.{_<q_, ℚ}
+use Rattle.fraction.specs.Rational.{_<q_}
 use Rattle.fraction.specs.Value.{value}
 use Rattle.fraction.proofs.Rational.{≤q-<q-trans}
 use Rattle.figure.specs.Distance.{Rises}
@@ -18,7 +18,7 @@ use Rattle.figure.specs.Figure.{Axis, absoluteEnd, figure, figureOf, int
 use Rattle.figure.specs.Intersection.{Intersection, bernstein, differenceBernstein, differencePower, lineAtLeft, offset, power, raised, scale, total}
 use Rattle.figure.specs.Operations.{ends}
 use Rattle.figure.proofs.Enclosure.{Strict, add-strict, divide-strict, multiply-strict, subtract-strict}
-use Rattle.figure.proofs.Largest.{AtMost, given-at-least, intersection-ends}
+use Rattle.figure.proofs.Largest.{Known, given-at-least, intersection-pairs}
 use Rattle.figure.proofs.Overlap.{located, overlap}
 use Rattle.figure.proofs.Rising.{rises-strictly, some-step}
 
@@ -67,11 +67,13 @@ module _ (x : Intersection) (t : T (isPair (differenceBernstein ends x 0))) wher
       (raised ends (offset ends x) (k - 0)) in
       let e : 0 + k ≡ k = omega arith in
       let h = subst (λ (j : ℕ). T (isPair (f j))) e
-      (total-terms 0 6 f (sides (multiplyPairs binary64) multiply-strict (total ends 0 6 f) (raised ends (scale ends x) 0) (parts .0) .0) k
+      (total-terms 0 6 f (sides (multiplyPairs binary64) multiply-strict (total ends 0 6 f) (raised ends (scale ends x) 0) (parts .0) .0)
+      k
       l) in
       number-finite (x .coefficient k)
       (sides (multiplyPairs binary64) multiply-strict (ends .whole (choose k 0)) (ends .number (x .coefficient k))
-      (sides (multiplyPairs binary64) multiply-strict (multiplyPairs binary64 (ends .whole (choose k 0)) (ends .number (x .coefficient k)))
+      (sides (multiplyPairs binary64) multiply-strict (multiplyPairs binary64 (ends .whole (choose k 0))
+      (ends .number (x .coefficient k)))
       (raised ends (offset ends x) (k - 0)) h .0) .1)
 
   waypoints : T (finite (x .first)) × T (finite (x .second))
@@ -84,18 +86,18 @@ module _ (x : Intersection) (t : T (isPair (differenceBernstein ends x 0))) wher
       (sides (multiplyPairs binary64) multiply-strict q D (h .1) .1) in
       (number-finite (x .first) (h .0), number-finite (x .second) (g .0))
 
-has-pair : (e : Ends) (m : ℚ) → AtMost (absoluteEnd e) m → T (isPair e)
+has-pair : (e : Ends) → Known (absoluteEnd e) → T (isPair e)
 unfolding absoluteEnd
-has-pair (pair a b) m h = tt
-has-pair none m h = absurd h
+has-pair (pair a b) h = tt
+has-pair none h = absurd h
 
-module _ (x : Axis) (breaks : Rises (x .segments) (x .break)) (parameters : Rises (x .intervals) (x .parameter)) (F : Float)
-    (given : figureOf x ≡ figure F) where
+module _ (x : Axis) (breaks : Rises (x .segments) (x .break)) (parameters : Rises (x .intervals) (x .parameter)) (depth : ℕ) (F : Float)
+    (given : figureOf depth x ≡ figure F) where
   counted : (m i : ℕ) → m < x .segments → i < x .intervals → value (x .break m) <q value (x .parameter (i + 1))
       → value (x .parameter i) <q value (x .break (m + 1)) → T (isPair (differenceBernstein ends (intersection x i m) 0))
   counted m i m< i< p q =
-      has-pair (differenceBernstein ends (intersection x i m) 0) (value F)
-      (intersection-ends (intersection x i m) (value F) (given-at-least x F given i m i< m< (overlap x breaks parameters m i m< i< p q)) 0
+      has-pair (differenceBernstein ends (intersection x i m) 0) (intersection-pairs depth (intersection x i m) (value F)
+      (given-at-least depth x F given i m i< m< (overlap x breaks parameters m i m< i< p q)) 0
       (omega arith))
 
   -- the six coefficients of every segment are finite

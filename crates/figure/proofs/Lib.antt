@@ -2,10 +2,13 @@
 pub mod Answers
 pub mod Certified
 pub mod Covering
+pub mod Deeper
 pub mod Distance
 pub mod Enclosure
 pub mod Exact
 pub mod Finite
+pub mod Halves
 pub mod Largest
 pub mod Overlap
+pub mod Restricted
 pub mod Rising

@@ -32,17 +32,19 @@ abbrev pub certifiedAxis : Curve → Slices → List Float → ℕ → Spacing �
 certifiedAxis c s points n spacing parameters axis =
     axisOf (s .breaks) (s .coefficients) (c .k) (positionOf (c .axes) (c .k) axis) points (c .d) axis n spacing parameters
 
--- "Certifying: 18, 20, 1, 5, 6, 24, 3": 18 d or n above the domain, 20 "point cells differ from d times n", 3 "an axis not selected"
-unfoldable pub certifyOf : Curve → Slices → List Float → ℕ → Spacing → List Float → ℕ → CertificateOutcome
-certifyOf c s points n spacing parameters axis =
-    cond (ltb 16 (c .d) || ltb 20000 n) (outcome 18 noFigure)
+-- Document 02, request 8: "depth above 6 is 23, first among the certificate's". Then "Certifying: 18, 20, 1, 5, 6, 24, 3": 18 d or n above
+-- the domain, 20 "point cells differ from d times n", 3 "an axis not selected".
+unfoldable pub certifyOf : Curve → Slices → List Float → ℕ → Spacing → List Float → ℕ → ℕ → CertificateOutcome
+certifyOf c s points n spacing parameters axis depth =
+    cond (ltb 6 depth) (outcome 23 noFigure)
+    (cond (ltb 16 (c .d) || ltb 20000 n) (outcome 18 noFigure)
     (cond (not (eqb (length points) (c .d * n))) (outcome 20 noFigure)
     (cond (unfit (c .d) n points) (outcome 1 noFigure)
     (cond (misplaced spacing parameters n) (outcome 5 noFigure)
     (cond (unreliable spacing parameters n) (outcome 6 noFigure)
     (cond (not (wellFormed c s)) (outcome 24 noFigure)
     (cond (not (ltb (positionOf (c .axes) (c .k) axis) (c .k))) (outcome 3 noFigure)
-    (outcome 0 (figureOf (certifiedAxis c s points n spacing parameters axis)))))))))
+    (outcome 0 (figureOf depth (certifiedAxis c s points n spacing parameters axis))))))))))
 
 -- What the figure F says: the curve is well formed, its breaks and the normalised parameters rise strictly from 0 to 1, every exact
 -- fraction from 0 to 1 lies in a segment and in an interval, and the distance rule holds: so curve and line are at most F apart at every

@@ -1,12 +1,17 @@
--- The certified figure of an axis: document 01, "The certified figure".
-use Prim.Native.Nat.{ℕ, _+_}
+-- The certified figure of an axis: document 01, "The certified figure"; with a depth: document 02, request 8.
+use Prim.Native.Nat.{ℕ, zero, suc, _+_}
 use mathlib.Core.Bool.{cond}
+use lib.Dec.{T}
 use lib.Ieee.{Float, lt}
+use lib.Ieee.Scale.{finite}
 use Rattle.arith.specs.Loop.{each}
 use Rattle.window.specs.Cells.{+0}
+use Rattle.fraction.specs.Fraction.{_≤f_}
+use Rattle.fraction.specs.Value.{exactFraction}
 use Rattle.fraction.specs.Pair.{Ends, highest, largestAbsolute, lowest, none, pair}
 use Rattle.figure.specs.Operations.{ends}
 use Rattle.figure.specs.Intersection.{Intersection, differenceBernstein}
+use Rattle.figure.specs.Halving.{leftHalf, rightHalf}
 
 -- a figure, or none
 pub data Figure : Type 0 where
@@ -24,10 +29,26 @@ unfoldable pub absoluteEnd : Ends → Figure
 absoluteEnd (pair a b) = figure (largestAbsolute a b)
 absoluteEnd none = noFigure
 
--- the largest absolute end over the six Bernstein pairs of an intersection
-unfoldable pub intersectionFigure : Intersection → Figure
+-- the largest absolute end over six pairs
+unfoldable pub sixFigure : (ℕ → Ends) → Figure
 unfolding larger absoluteEnd
-intersectionFigure x = each (λ k so-far. larger so-far (absoluteEnd (differenceBernstein ends x k))) 0 6 (figure +0)
+sixFigure p = each (λ k so-far. larger so-far (absoluteEnd (p k))) 0 6 (figure +0)
+
+-- "the smaller of its own and the larger of its two halves; if a half has none, its own"; none, where its own is none
+unfoldable pub smaller : Figure → Figure → Figure
+smaller (figure x) (figure y) = figure (lowest x y)
+smaller (figure x) noFigure = figure x
+smaller noFigure g = noFigure
+
+-- The figure of six Bernstein pairs with a depth. At 0 it is their own; above 0 they are "split into two halves .. and each half is treated
+-- with one less depth".
+unfoldable pub halvedFigure : ℕ → (ℕ → Ends) → Figure
+halvedFigure zero p = sixFigure p
+halvedFigure (suc depth) p = smaller (sixFigure p) (larger (halvedFigure depth (leftHalf ends p)) (halvedFigure depth (rightHalf ends p)))
+
+-- the figure of an intersection: that of its six Bernstein pairs
+unfoldable pub intersectionFigure : ℕ → Intersection → Figure
+intersectionFigure depth x = halvedFigure depth (differenceBernstein ends x)
 
 -- The segment from a to b with the coefficients p, and the interval from s to s′ with the waypoints y and y′. left is the larger of a and
 -- s, right the smaller of b and s′; of equal ones (0 and -0 are) either will do, since they enter differences alone, whose ends depend on
@@ -57,20 +78,27 @@ pub record Axis : Type 0 where
   pub parameter : ℕ → Float
   pub waypoint : ℕ → Float
 
-module _ (x : Axis) where
-  -- interval i with segment m
-  unfoldable pub intersection : ℕ → ℕ → Intersection
-  intersection i m = meeting (x .break m) (x .break (m + 1)) (x .coefficient m) (x .parameter i) (x .parameter (i + 1)) (x .waypoint i)
-      (x .waypoint (i + 1))
+-- interval i with segment m
+unfoldable pub intersection : Axis → ℕ → ℕ → Intersection
+intersection x i m = meeting (x .break m) (x .break (m + 1)) (x .coefficient m) (x .parameter i) (x .parameter (i + 1)) (x .waypoint i)
+    (x .waypoint (i + 1))
 
+module _ (depth : ℕ) (x : Axis) where
   -- the largest so far with that of interval i and segment m, if "left below right"
   unfoldable pub withIntersection : ℕ → ℕ → Figure → Figure
   unfolding intersection larger intersectionFigure
-  withIntersection i m so-far = cond (lt (intersection i m .left) (intersection i m .right))
-      (larger so-far (intersectionFigure (intersection i m))) so-far
+  withIntersection i m so-far = cond (lt (intersection x i m .left) (intersection x i m .right))
+      (larger so-far (intersectionFigure depth (intersection x i m))) so-far
 
   -- The figure: the largest over all intersections, interval after interval and in each segment after segment. An absolute end is at least
   -- 0, so the largest is taken from 0 on.
   unfoldable pub figureOf : Figure
   unfolding withIntersection
   figureOf = each (λ i. each (withIntersection i) 0 (x .segments)) 0 (x .intervals) (figure +0)
+
+-- A deeper figure beside a shallower one: both are none; or both are figures, and the deeper one is "never larger". Figures are finite.
+abbrev pub NoLarger : Figure → Figure → Type 0
+NoLarger (figure x) (figure y) = T (finite x) × T (finite y) × (exactFraction x ≤f exactFraction y)
+NoLarger (figure x) noFigure = ⊥
+NoLarger noFigure (figure y) = ⊥
+NoLarger noFigure noFigure = Unit {0}

@@ -16,6 +16,7 @@ fn number(refusal: Refusal) -> u64
     ensures { λ r. ⌜ r ≡ refusalNumber refusal ⌝ }
 {
     match refusal {
+        Refusal::TooDeep => 23,
         Refusal::AboveDomain => 18,
         Refusal::PointCells => 20,
         Refusal::BadPoints => 1,
@@ -46,8 +47,8 @@ fn put_figure(answer: Certificate, given: &mut bool, figure: &mut f64) -> u64
     }
 }
 
-// The certified figure of a selected axis: `certificate::certify`. Where one is given, no point of the
-// axis lies further from its line than that.
+// The certified figure of a selected axis, with a depth of 0 to 6: `certificate::certify`. Where one is
+// given, no point of the axis lies further from its line than that.
 #[no_mangle]
 pub extern "C" fn pamitoye_certify(
     d: usize,
@@ -67,19 +68,20 @@ pub extern "C" fn pamitoye_certify(
     even: bool,
     parameters: &[f64],
     axis: usize,
+    depth: usize,
     given: &mut bool,
     figure: &mut f64,
 ) -> u64
     ensures { λ r. ⌜ r ≡ certifyOf (passedCurve d k (now (axes .entry)) start end clamp segments «other_segments») (slices
         (now (breaks .entry)) (now (coefficients .entry)) (now («other_breaks» .entry)) (now («other_coefficients» .entry)))
-        (now (points .entry)) n (chosenSpacing even) (now (parameters .entry)) axis .number ⌝ }
+        (now (points .entry)) n (chosenSpacing even) (now (parameters .entry)) axis depth .number ⌝ }
     ensures { λ r. ⌜ now (given .exit) ≡ givenAfter r (certifyOf (passedCurve d k (now (axes .entry)) start end clamp segments
         «other_segments») (slices (now (breaks .entry)) (now (coefficients .entry)) (now («other_breaks» .entry))
-        (now («other_coefficients» .entry))) (now (points .entry)) n (chosenSpacing even) (now (parameters .entry)) axis .certified)
+        (now («other_coefficients» .entry))) (now (points .entry)) n (chosenSpacing even) (now (parameters .entry)) axis depth .certified)
         (now (given .entry)) ⌝ }
     ensures { λ _. ⌜ now (figure .exit) ≡ figureAfter (certifyOf (passedCurve d k (now (axes .entry)) start end clamp segments
         «other_segments») (slices (now (breaks .entry)) (now (coefficients .entry)) (now («other_breaks» .entry))
-        (now («other_coefficients» .entry))) (now (points .entry)) n (chosenSpacing even) (now (parameters .entry)) axis .certified)
+        (now («other_coefficients» .entry))) (now (points .entry)) n (chosenSpacing even) (now (parameters .entry)) axis depth .certified)
         (now (figure .entry)) ⌝ }
     ensures { λ r. ⌜ (r ≡ 0 → now (given .exit) ≡ true → Certified (passedCurve d k (now (axes .entry)) start end clamp segments
         «other_segments») (slices (now (breaks .entry)) (now (coefficients .entry)) (now («other_breaks» .entry))
@@ -97,6 +99,7 @@ pub extern "C" fn pamitoye_certify(
         choices::spacing_of(even),
         parameters,
         axis,
+        depth,
     );
     put_figure(answer, given, figure)
 }

@@ -86,6 +86,7 @@ fn find_parts(wholes: &[u64; 16], count: usize) -> Parts
 // Document 01's number of a refusal.
 fn number(refusal: Refusal) -> u64 {
     match refusal {
+        Refusal::TooDeep => 23,
         Refusal::AboveDomain => 18,
         Refusal::PointCells => 20,
         Refusal::BadPoints => 1,
@@ -131,6 +132,7 @@ fn answer(
     n: usize,
     spacing: Spacing,
     axis: usize,
+    depth: usize,
 ) -> Certificate
     requires { ⌜ FollowingParts p (length (now cells)) ⌝ }
 {
@@ -151,11 +153,12 @@ fn answer(
         spacing,
         &cells[g..],
         axis,
+        depth,
     )
 }
 
 // Kind 90, whole numbers d, k, segments of both sets, n, four of axes, six counts of cells, and the
-// axis with the parameter mode: the certified figure.
+// axis with the parameter mode and the depth: the certified figure.
 pub fn certify(head: Head, cells: &[f64], out: &mut [u8], at: usize) -> Line
     ensures { λ r. ⌜ Unanswered (now (out .entry)) at (now (out .exit)) r ⌝ }
 {
@@ -167,8 +170,10 @@ pub fn certify(head: Head, cells: &[f64], out: &mut [u8], at: usize) -> Line
     if cells.len() < 2 {
         return output::unanswered(at);
     }
-    let axis = wholes[15] % 256;
-    let mode = wholes[15] / 256;
+    let word = wholes[15];
+    let axis = word % 256;
+    let mode = word / 256 % 256;
+    let depth = word / 65536;
     if 1 < mode {
         return output::unanswered(at);
     }
@@ -185,6 +190,14 @@ pub fn certify(head: Head, cells: &[f64], out: &mut [u8], at: usize) -> Line
         other_segments: wholes[3] as usize,
     };
     let spacing = spacing_of(mode);
-    let certificate = answer(curve, cells, p, wholes[4] as usize, spacing, axis as usize);
+    let certificate = answer(
+        curve,
+        cells,
+        p,
+        wholes[4] as usize,
+        spacing,
+        axis as usize,
+        depth as usize,
+    );
     line(certificate, out, at)
 }

@@ -23,6 +23,17 @@ const HUGE: [f64; 6] = [
 /// Curves that `build` returns with their own waypoints or others, and curves of any pieces; one in
 /// three is turned away.
 pub fn certify(r: &mut Random) -> Case {
+    Case::certify(&question(r))
+}
+
+/// The same with a depth, at times one that is turned away.
+pub fn certify_deep(r: &mut Random) -> Case {
+    let mut question = question(r);
+    question.depth = r.pick(&[0, 1, 1, 2, 2, 3, 3, 4, 5, 6, 6, 7, 255]);
+    Case::certify(&question)
+}
+
+fn question(r: &mut Random) -> Question {
     let most = 2 * most_cells(r);
     loop {
         let Some(mut question) = (if r.chance(60) {
@@ -42,9 +53,8 @@ pub fn certify(r: &mut Random) -> Case {
                 damage(r, &mut question, number);
             }
         }
-        let case = Case::certify(&question);
-        if case.cells.len() <= most {
-            return case;
+        if Case::certify(&question).cells.len() <= most {
+            return question;
         }
     }
 }
@@ -77,6 +87,7 @@ fn built(r: &mut Random) -> Option<Question> {
         points: request.points,
         listed: request.config.parameters.is_some(),
         parameters: request.config.parameters.unwrap_or_default(),
+        depth: 0,
     })
 }
 
@@ -129,6 +140,7 @@ fn made(r: &mut Random) -> Question {
         listed: r.chance(75),
         parameters: s.iter().map(|v| start + v * length).collect(),
         axis,
+        depth: 0,
     };
     if r.chance(30) {
         straighten(r, &mut question, &s);

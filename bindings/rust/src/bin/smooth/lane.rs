@@ -18,6 +18,8 @@ pub struct Lane {
     /// The line of each waypoint.
     pub lines: Vec<usize>,
     pub tolerance: SmoothingTolerance,
+    /// The depth at which it is certified.
+    pub depth: usize,
 }
 
 impl Lane {
@@ -57,6 +59,7 @@ impl Lane {
             }),
             lines: table.rows.iter().map(|row| row.line).collect(),
             tolerance,
+            depth: options.depth,
         })
     }
 

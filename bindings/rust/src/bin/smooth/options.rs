@@ -24,6 +24,7 @@ standard input is read.
       --count N            how many samples (201)
       --from X, --to X     the samples' range (that of the parameters)
       --mode error|clamp   samples outside that of the parameters: refused, or standing still at the nearer end (error)
+      --depth N            halvings of a piece of the curve, 6 at most, that may tighten the certified figure (0)
       --picture FILE       writes a picture as SVG: waypoints, curve, tolerance, and the distance between curve and line
   -h, --help               prints this
 
@@ -60,6 +61,8 @@ pub struct Options {
     pub segments: Option<PathBuf>,
     pub samples: Option<PathBuf>,
     pub picture: Option<PathBuf>,
+    /// The depth of the certificate.
+    pub depth: usize,
     pub count: usize,
     pub from: Option<f64>,
     pub to: Option<f64>,
@@ -92,6 +95,7 @@ pub fn read(arguments: impl Iterator<Item = OsString>) -> Result<Command, String
         segments: None,
         samples: None,
         picture: None,
+        depth: 0,
         count: 201,
         from: None,
         to: None,
@@ -131,7 +135,7 @@ pub fn read(arguments: impl Iterator<Item = OsString>) -> Result<Command, String
 }
 
 /// The options that have a value.
-const NAMES: [&str; 15] = [
+const NAMES: [&str; 16] = [
     "-t",
     "--tolerance",
     "-a",
@@ -146,6 +150,7 @@ const NAMES: [&str; 15] = [
     "--from",
     "--to",
     "--mode",
+    "--depth",
     "--picture",
 ];
 
@@ -162,6 +167,7 @@ fn set(options: &mut Options, name: &str, value: OsString) -> Result<(), String>
         "--segments" => options.segments = Some(value.into()),
         "--samples" => options.samples = Some(value.into()),
         "--picture" => options.picture = Some(value.into()),
+        "--depth" => options.depth = depth(name, &text)?,
         "--count" => options.count = samples(name, &text)?,
         "--from" => options.from = Some(finite(name, &text)?),
         "--to" => options.to = Some(finite(name, &text)?),
@@ -208,6 +214,13 @@ fn samples(name: &str, text: &str) -> Result<usize, String> {
     match whole(name, text)? {
         count @ 2..=MOST_SAMPLES => Ok(count),
         _ => Err(format!("{name}: {text} is not from 2 to {MOST_SAMPLES}")),
+    }
+}
+
+fn depth(name: &str, text: &str) -> Result<usize, String> {
+    match whole(name, text)? {
+        depth @ 0..=6 => Ok(depth),
+        _ => Err(format!("{name}: {text} is not from 0 to 6")),
     }
 }
 

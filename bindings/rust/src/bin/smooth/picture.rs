@@ -290,10 +290,11 @@ fn heading(svg: &mut Svg, lane: &Lane, sampled: &Sampled, block: &Block, (left, 
     };
     let figure = margin.figure.map_or("none".to_string(), rounded_up);
     let (tolerance, share) = (number(margin.tolerance), margin.share());
+    let depth = report::at_depth(lane);
     line(
         2.,
         "",
-        &format!("tolerance {tolerance}; certified {figure}, {share} of it"),
+        &format!("tolerance {tolerance}; certified{depth} {figure}, {share} of it"),
     );
     if let Some(spot) = sampled.furthest(lane, block.axis) {
         let (at, between) = (

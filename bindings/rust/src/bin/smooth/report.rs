@@ -29,7 +29,7 @@ impl Margin {
             tolerance: tolerance_at(&lane.tolerance, place),
             error: *error,
             figure: path
-                .certify(*axis, &lane.points, lane.parameters())
+                .certify(*axis, lane.depth, &lane.points, lane.parameters())
                 .ok()
                 .flatten(),
         })
@@ -57,6 +57,14 @@ impl Margin {
     /// Whether the tolerance is certified.
     fn within(&self) -> bool {
         self.figure.is_some_and(|figure| figure <= self.tolerance)
+    }
+}
+
+/// The depth of the certificate in words; none for 0.
+pub fn at_depth(lane: &Lane) -> String {
+    match lane.depth {
+        0 => String::new(),
+        depth => format!(" at depth {depth}"),
     }
 }
 
@@ -120,7 +128,11 @@ pub fn accepted(lane: &Lane, path: &Path) -> String {
             "not smoothed, through every waypoint: {names}; {segments}"
         );
     }
-    text += "\ncertified: no point of the axis lies further from its line than this figure, which is proved.\n";
+    let depth = at_depth(lane);
+    let _ = writeln!(
+        text,
+        "\ncertified{depth}: no point of the axis lies further from its line than this figure, which is proved."
+    );
     for margin in margins.iter().filter(|margin| !margin.within()) {
         let name = lane.name_of(margin.axis);
         let _ = writeln!(

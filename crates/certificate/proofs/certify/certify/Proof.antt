@@ -12,7 +12,7 @@ returns c =
     let s = slices (a .breaks .now) (a .coefficients .now) (a .other-breaks .now) (a .other-coefficients .now) in
     let e = c .checked .ensures in (
       e,
-      λ F h. certificate-theorem (a .curve) s (a .points .now) (a .n) (a .spacing) (a .parameters .now) (a .axis) F
+      λ F h. certificate-theorem (a .curve) s (a .points .now) (a .n) (a .spacing) (a .parameters .now) (a .axis) (a .depth) F
           (c .before .shared-slice-known6 .given) (sym e ∙ h),
     )
 

@@ -16,154 +16,175 @@ use Rattle.certificate.proofs.certify.checked.Tie as tie
 
 returns : tie.Need-returns
 unfolding certifyOf
-returns c = rw (lt-ltb 16 _ (c .if1 .taken))
+returns c = rw (lt-ltb 6 _ (c .if1 .taken))
 
 returns-2 : tie.Need-returns-2
 unfolding certifyOf
-returns-2 c = rw (le-ltb 16 _ (c .before .if1 .left), lt-ltb 20000 _ (c .if2 .taken))
-
-mul-if3 : tie.Need-mul-if3
-mul-if3 c =
-    let a = c .before .before .before .before .before .before .before .before .args in
-    let h : a .curve .d * a .n ≤ 16 * 20000 = mul-le-mul (c .before .if1 .left) (c .if2 .left) in
-    omega arith
+returns-2 c = rw (le-ltb 6 _ (c .before .if1 .left), lt-ltb 16 _ (c .if2 .taken))
 
 returns-3 : tie.Need-returns-3
 unfolding certifyOf
-returns-3 c = rw (le-ltb 16 _ (c .before .before .if1 .left), le-ltb 20000 _ (c .before .if2 .left), ne-eqb _ _ (c .if3 .taken))
+returns-3 c = rw (le-ltb 6 _ (c .before .before .if1 .left), le-ltb 16 _ (c .before .if2 .left), lt-ltb 20000 _ (c .if3 .taken))
+
+mul-if4 : tie.Need-mul-if4
+mul-if4 c =
+    let a = c .before .before .before .before .before .before .before .before .before .args in
+    let h : a .curve .d * a .n ≤ 16 * 20000 = mul-le-mul (c .before .if2 .left) (c .if3 .left) in
+    omega arith
 
 returns-4 : tie.Need-returns-4
 unfolding certifyOf
 returns-4 c = rw (
-  le-ltb 16 _ (c .before .before .before .before .if1 .left),
-  le-ltb 20000 _ (c .before .before .before .if2 .left),
-  eq-eqb
-      _ _ (c .before .before .if3 .left),
-  sym (c .before .unfit .ensures) ∙ c .if4 .taken,
+  le-ltb 6 _ (c .before .before .before .if1 .left),
+  le-ltb 16 _ (c .before .before .if2 .left),
+  le-ltb 20000 _ (c .before .if3 .left),
+  ne-eqb _ _ (c .if4 .taken),
 )
-
-misplaced-requires : tie.Need-misplaced-requires
-misplaced-requires c κs =
-    let a = c .before .before .before .before .before .before .before .before .before .before .before .args in (
-      waypoint-count (a .curve .d) (a .n) (a .points .now) (sym (c .before .unfit .ensures) ∙ c .if4 .left),
-      c .before .before .before .if2 .left,
-    )
 
 returns-5 : tie.Need-returns-5
 unfolding certifyOf
 returns-5 c = rw (
-  le-ltb 16 _ (c .before .before .before .before .before .before .if1 .left),
-  le-ltb 20000 _
-      (c .before .before .before .before .before .if2 .left),
-  eq-eqb _ _ (c .before .before .before .before .if3 .left),
-  sym
-      (c .before .before .before .unfit .ensures) ∙ c .before .before .if4 .left,
-  sym (c .before .misplaced .ensures) ∙ c .if5 .taken,
+  le-ltb 6 _ (c .before .before .before .before .before .if1 .left),
+  le-ltb 16 _
+      (c .before .before .before .before .if2 .left),
+  le-ltb 20000 _ (c .before .before .before .if3 .left),
+  eq-eqb
+      _ _ (c .before .before .if4 .left),
+  sym (c .before .unfit .ensures) ∙ c .if5 .taken,
 )
 
-unreliable-requires : tie.Need-unreliable-requires
-unreliable-requires c κs =
-    let a = c .before .before .before .before .before .before .before .before .before .before .before .before .before .args in
-    let count = listed-count (a .spacing) (a .parameters .now) (a .n) (sym (c .before .misplaced .ensures) ∙ c .if5 .left) in (
-      waypoint-count (a .curve .d) (a .n) (a .points .now) (sym (c .before .before .before .unfit .ensures) ∙ c .before .before .if4 .left),
-      c .before .before .before .before .before .if2 .left,
-      λ e. let l = count e in omega arith,
+misplaced-requires : tie.Need-misplaced-requires
+misplaced-requires c κs =
+    let a = c .before .before .before .before .before .before .before .before .before .before .before .before .args in (
+      waypoint-count (a .curve .d) (a .n) (a .points .now) (sym (c .before .unfit .ensures) ∙ c .if5 .left),
+      c .before .before .before .if3 .left,
     )
 
 returns-6 : tie.Need-returns-6
 unfolding certifyOf
 returns-6 c = rw (
-  le-ltb 16 _ (c .before .before .before .before .before .before .before .before .if1 .left),
+  le-ltb 6 _ (c .before .before .before .before .before .before .before .if1 .left),
+  le-ltb 16 _ (c .before .before .before .before .before .before .if2 .left),
   le-ltb 20000 _
-      (c .before .before .before .before .before .before .before .if2 .left),
-  eq-eqb _ _
-      (c .before .before .before .before .before .before .if3 .left),
-  sym (c .before .before .before .before .before .unfit .ensures)
-      ∙ c .before .before .before .before .if4 .left,
-  sym (c .before .before .before .misplaced .ensures)
-      ∙ c .before .before .if5 .left,
-  sym (c .before .unreliable .ensures) ∙ c .if6 .taken,
+      (c .before .before .before .before .before .if3 .left),
+  eq-eqb _ _ (c .before .before .before .before .if4 .left),
+  sym
+      (c .before .before .before .unfit .ensures) ∙ c .before .before .if5 .left,
+  sym (c .before .misplaced .ensures) ∙ c .if6 .taken,
 )
+
+unreliable-requires : tie.Need-unreliable-requires
+unreliable-requires c κs =
+    let a = c .before .before .before .before .before .before .before .before .before .before .before .before .before .before .args in
+    let count = listed-count (a .spacing) (a .parameters .now) (a .n) (sym (c .before .misplaced .ensures) ∙ c .if6 .left) in (
+      waypoint-count (a .curve .d) (a .n) (a .points .now) (sym (c .before .before .before .unfit .ensures) ∙ c .before .before .if5
+          .left),
+      c .before .before .before .before .before .if3 .left,
+      λ e. let l = count e in omega arith,
+    )
 
 returns-7 : tie.Need-returns-7
 unfolding certifyOf
 returns-7 c = rw (
-  le-ltb 16 _ (c .before .before .before .before .before .before .before .before .before .before .if1 .left),
+  le-ltb 6 _ (c .before .before .before .before .before .before .before .before .before .if1 .left),
+  le-ltb 16 _ (c .before .before .before .before .before .before .before .before .if2 .left),
   le-ltb 20000 _
-      (c .before .before .before .before .before .before .before .before .before .if2 .left),
+      (c .before .before .before .before .before .before .before .if3 .left),
   eq-eqb _ _
-      (c .before .before .before .before .before .before .before .before .if3 .left),
+      (c .before .before .before .before .before .before .if4 .left),
+  sym (c .before .before .before .before .before .unfit .ensures)
+      ∙ c .before .before .before .before .if5 .left,
+  sym (c .before .before .before .misplaced .ensures)
+      ∙ c .before .before .if6 .left,
+  sym (c .before .unreliable .ensures) ∙ c .if7 .taken,
+)
+
+returns-8 : tie.Need-returns-8
+unfolding certifyOf
+returns-8 c = rw (
+  le-ltb 6 _ (c .before .before .before .before .before .before .before .before .before .before .before .if1 .left),
+  le-ltb 16 _ (c .before .before .before .before .before .before .before .before .before .before .if2 .left),
+  le-ltb 20000 _
+      (c .before .before .before .before .before .before .before .before .before .if3 .left),
+  eq-eqb _ _
+      (c .before .before .before .before .before .before .before .before .if4 .left),
   sym
       (c .before .before .before .before .before .before .before .unfit .ensures)
-      ∙ c .before .before .before .before .before .before .if4 .left,
+      ∙ c .before .before .before .before .before .before .if5 .left,
   sym (c .before .before .before .before .before .misplaced .ensures)
-      ∙ c .before .before .before .before .if5 .left,
+      ∙ c .before .before .before .before .if6 .left,
   sym (c .before .before .before .unreliable .ensures)
-      ∙ c .before .before .if6 .left,
-  sym (c .before .well-formed .ensures) ∙ not-true _ (c .if7 .taken),
+      ∙ c .before .before .if7 .left,
+  sym (c .before .well-formed .ensures) ∙ not-true _ (c .if8 .taken),
 )
 
 position-requires : tie.Need-position-requires
 position-requires c κs =
     let a = c .before .before .before .before .before .before .before .before .before .before .before .before .before .before .before
+    .before
     .before .before .before .before .args in
     let f = formed (a .curve) (slices (a .breaks .now) (a .coefficients .now) (a .other-breaks .now) (a .other-coefficients .now))
-    (sym (c .before .before .before .well-formed .ensures) ∙ not-false _ (c .before .before .if7 .left)) in
+    (sym (c .before .before .before .well-formed .ensures) ∙ not-false _ (c .before .before .if8 .left)) in
     omega (arith, f .k-high, f .d-high)
 
-returns-8 : tie.Need-returns-8
+returns-9 : tie.Need-returns-9
 unfolding certifyOf
-returns-8 c = rw (
+returns-9 c = rw (
+  le-ltb 6 _ (c .before .before .before .before .before .before .before .before .before .before .before .before .before
+      .before .before .if1 .left),
   le-ltb 16 _ (c .before .before .before .before .before .before .before .before .before .before .before .before .before
-      .before .if1 .left),
-  le-ltb 20000 _ (c .before .before .before .before .before .before .before .before .before .before .before .before
       .before .if2 .left),
-  eq-eqb _ _ (c .before .before .before .before .before .before .before .before .before .before .before
+  le-ltb 20000 _ (c .before .before .before .before .before .before .before .before .before .before .before .before
       .before .if3 .left),
+  eq-eqb _ _ (c .before .before .before .before .before .before .before .before .before .before .before
+      .before .if4 .left),
   sym (c .before .before .before .before .before .before .before .before .before .before .before .unfit .ensures)
-      ∙ c .before .before .before .before .before .before .before .before .before .before .if4 .left,
+      ∙ c .before .before .before .before .before .before .before .before .before .before .if5 .left,
   sym
       (c .before .before .before .before .before .before .before .before .before .misplaced .ensures)
-      ∙ c .before .before .before .before .before .before .before .before .if5 .left,
+      ∙ c .before .before .before .before .before .before .before .before .if6 .left,
   sym
       (c .before .before .before .before .before .before .before .unreliable .ensures)
-      ∙ c .before .before .before .before .before .before .if6 .left,
+      ∙ c .before .before .before .before .before .before .if7 .left,
   sym (c .before .before .before .before .before .well-formed .ensures)
-      ∙ not-false _ (c .before .before .before .before .if7 .left),
+      ∙ not-false _ (c .before .before .before .before .if8 .left),
   ← c .before .position .ensures,
-  le-ltb _ _ (c .if8 .taken),
+  le-ltb _ _ (c .if9 .taken),
 )
 
 walk-requires : tie.Need-walk-requires
 walk-requires c κs =
     let a = c .before .before .before .before .before .before .before .before .before .before .before .before .before .before .before
+    .before
     .before .before .before .before .before .before .args in
     let s = (slices (a .breaks .now) (a .coefficients .now) (a .other-breaks .now) (a .other-coefficients .now)) in
-    let A : Accepted (a .curve) s (a .points .now) (a .n) (a .spacing) (a .parameters .now) (a .axis) =
+    let A : Accepted (a .curve) s (a .points .now) (a .n) (a .spacing) (a .parameters .now) (a .axis) (a .depth) =
     record {
+      shallow = c .before .before .before .before .before .before .before .before .before .before .before .before .before .before .before
+          .if1 .left;
       d-domain = c .before .before .before .before .before .before .before .before .before .before .before .before .before
-          .before .if1 .left;
-      n-domain = c .before .before .before .before .before .before .before .before .before .before .before .before .before .if2 .left;
-      cells = c .before .before .before .before .before .before .before .before .before .before .before .before .if3 .left;
+          .before .if2 .left;
+      n-domain = c .before .before .before .before .before .before .before .before .before .before .before .before .before .if3 .left;
+      cells = c .before .before .before .before .before .before .before .before .before .before .before .before .if4 .left;
       points-fit = sym (c .before .before .before .before .before .before .before .before .before .before .before .unfit .ensures)
-          ∙ c .before .before .before .before .before .before .before .before .before .before .if4 .left;
+          ∙ c .before .before .before .before .before .before .before .before .before .before .if5 .left;
       placed = sym (c .before .before .before .before .before .before .before .before .before .misplaced .ensures)
-          ∙ c .before .before .before .before .before .before .before .before .if5 .left;
+          ∙ c .before .before .before .before .before .before .before .before .if6 .left;
       reliable = sym (c .before .before .before .before .before .before .before .unreliable .ensures)
-          ∙ c .before .before .before .before .before .before .if6 .left;
+          ∙ c .before .before .before .before .before .before .if7 .left;
       well-formed = sym (c .before .before .before .before .before .well-formed .ensures)
-          ∙ not-false _ (c .before .before .before .before .if7 .left);
-      selected = rw (← c .before .position .ensures) (c .if8 .left);
+          ∙ not-false _ (c .before .before .before .before .if8 .left);
+      selected = rw (← c .before .position .ensures) (c .if9 .left);
     }
     in
-    let l = lengths (a .curve) s (a .points .now) (a .n) (a .spacing) (a .parameters .now) (a .axis) A in (
+    let l = lengths (a .curve) s (a .points .now) (a .n) (a .spacing) (a .parameters .now) (a .axis) (a .depth) A in (
       (
-        c .if8 .left,
+        c .if9 .left,
         l .0,
         l .1,
         l .2,
         l .3,
-        axis-below (a .curve) s (a .points .now) (a .n) (a .spacing) (a .parameters .now) (a .axis) A,
+        axis-below (a .curve) s (a .points .now) (a .n) (a .spacing) (a .parameters .now) (a .axis) (a .depth) A,
         A .d-domain,
         waypoint-count (a .curve .d) (a .n) (a .points .now) (A .points-fit),
         A .n-domain,
@@ -171,35 +192,39 @@ walk-requires c κs =
         listed-count (a .spacing) (a .parameters .now) (a .n) (A .placed),
       ),
       (
-        breaks-rise (a .curve) s (a .points .now) (a .n) (a .spacing) (a .parameters .now) (a .axis) A,
-        parameters-rise (a .curve) s (a .points .now) (a .n) (a .spacing) (a .parameters .now) (a .axis) A
-            (c .before .before .before .before .before .before .before .before .before .before .before .before .before .before
+        breaks-rise (a .curve) s (a .points .now) (a .n) (a .spacing) (a .parameters .now) (a .axis) (a .depth) A,
+        parameters-rise (a .curve) s (a .points .now) (a .n) (a .spacing) (a .parameters .now) (a .axis) (a .depth) A
+            (c .before .before .before .before .before .before .before .before .before .before .before .before .before .before .before
             .before .shared-slice-known6 .given),
       ),
     )
 
-returns-9 : tie.Need-returns-9
+returns-10 : tie.Need-returns-10
 unfolding certifyOf
-returns-9 c = rw (
+returns-10 c = rw (
+  le-ltb 6 _ (c .before .before .before .before .before .before .before .before .before .before .before .before .before
+      .before .before .before .before .if1 .left),
   le-ltb 16 _ (c .before .before .before .before .before .before .before .before .before .before .before .before .before
-      .before .before .before .if1 .left),
+      .before .before .before .if2 .left),
   le-ltb 20000 _
-      (c .before .before .before .before .before .before .before .before .before .before .before .before .before .before .before .if2 .left),
+      (c .before .before .before .before .before .before .before .before .before .before .before .before .before .before .before .if3
+      .left),
   eq-eqb _ _ (c .before .before .before .before .before .before .before .before .before .before .before .before .before
-      .before .if3 .left),
+      .before .if4 .left),
   sym (c .before .before .before .before .before .before .before .before .before .before .before .before
-      .before .unfit .ensures) ∙ c .before .before .before .before .before .before .before .before .before .before .before .before .if4 .left,
+      .before .unfit .ensures) ∙ c .before .before .before .before .before .before .before .before .before .before .before .before .if5
+      .left,
   sym (c .before .before .before .before .before .before .before .before .before .before .before .misplaced .ensures)
-      ∙ c .before .before .before .before .before .before .before .before .before .before .if5 .left,
+      ∙ c .before .before .before .before .before .before .before .before .before .before .if6 .left,
   sym
       (c .before .before .before .before .before .before .before .before .before .unreliable .ensures)
-      ∙ c .before .before .before .before .before .before .before .before .if6 .left,
+      ∙ c .before .before .before .before .before .before .before .before .if7 .left,
   sym
       (c .before .before .before .before .before .before .before .well-formed .ensures)
-      ∙ not-false _ (c .before .before .before .before .before .before .if7 .left),
+      ∙ not-false _ (c .before .before .before .before .before .before .if8 .left),
   ← c .before .before .before .position .ensures,
   lt-ltb _ _
-      (c .before .before .if8 .left),
+      (c .before .before .if9 .left),
 ) (c .answer .ensures ∙ ap (outcome 0) (c .before .walk .ensures))
 
 pub checked-spec : {M : Type 1} → statement M
@@ -208,18 +233,19 @@ checked-spec =
     (tie.spec
     returns
     returns-2
-    mul-if3
     returns-3
-    (λ c κs. search needs)
+    mul-if4
     returns-4
-    misplaced-requires
-    returns-5
-    unreliable-requires
-    returns-6
     (λ c κs. search needs)
+    returns-5
+    misplaced-requires
+    returns-6
+    unreliable-requires
     returns-7
-    position-requires
+    (λ c κs. search needs)
     returns-8
+    position-requires
+    returns-9
     walk-requires
     (λ c κs. search needs)
-    returns-9)
+    returns-10)

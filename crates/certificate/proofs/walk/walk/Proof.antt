@@ -11,11 +11,11 @@ use Rattle.certificate.proofs.walk.walk.Statement.{statement}
 use Rattle.certificate.proofs.walk.walk.Tie as tie
 
 abbrev Inv-loop : tie.InvT-loop
-Inv-loop breaks coefficients k place points d axis n spacing parameters so-far₀ i₀ m₀ from₀ to₀ so-far i m from to = Standing breaks
-    coefficients k place points d axis n spacing parameters i m from to (figureIn so-far)
+Inv-loop breaks coefficients k place points d axis n spacing parameters depth so-far₀ i₀ m₀ from₀ to₀ so-far i m from to = Standing breaks
+    coefficients k place points d axis n spacing parameters depth i m from to (figureIn so-far)
 
 abbrev μ-loop : tie.MeasureT-loop
-μ-loop breaks coefficients k place points d axis n spacing parameters so-far₀ i₀ m₀ from₀ to₀ so-far i m from to = n - i +
+μ-loop breaks coefficients k place points d axis n spacing parameters depth so-far₀ i₀ m₀ from₀ to₀ so-far i m from to = n - i +
     (length breaks - m)
 
 normalised-requires : tie.Need-normalised-requires Inv-loop μ-loop

@@ -12,13 +12,13 @@ returns c =
     let a = c .before .before .before .before .args in
     let g = figureIn (a .so-far) in
     c .larger .ensures ∙ ap (larger g) (c .before .intersection-figure .ensures)
-    ∙ sym (ap (λ (b : Bool). cond b (larger g (intersectionFigure (intersectionOf (a .x)))) g) (c .before .before .if1 .taken))
+    ∙ sym (ap (λ (b : Bool). cond b (larger g (intersectionFigure (a .depth) (intersectionOf (a .x)))) g) (c .before .before .if1 .taken))
 
 returns-2 : tie.Need-returns-2
 returns-2 c =
     let a = c .before .before .args in
     let g = figureIn (a .so-far) in
-    sym (ap (λ (b : Bool). cond b (larger g (intersectionFigure (intersectionOf (a .x)))) g) (c .if1 .left))
+    sym (ap (λ (b : Bool). cond b (larger g (intersectionFigure (a .depth) (intersectionOf (a .x)))) g) (c .if1 .left))
 
 pub with-intersection-spec : {M : Type 1} → statement M
 with-intersection-spec = tie.close (tie.spec (λ c κs. search needs) (λ c κs. search needs) returns returns-2)

@@ -1,0 +1,33 @@
+-- `intersection::bernstein_pairs` meets its contract.
+use mathlib.Core.Path.{_∙_}
+use native.Mathlib.Omega.{arith}
+use borrow.Author.Needs.{needs}
+use Rattle.figure.specs.Intersection.{differencePower}
+use Rattle.figure.specs.Operations.{ends}
+use Rattle.certificate.specs.Structs.{intersectionOf}
+use Rattle.certificate.proofs.Sums.{holds-bernstein, holds-six}
+use Rattle.certificate.proofs.intersection.bernstein_pairs.Statement.{statement}
+use Rattle.certificate.proofs.intersection.bernstein_pairs.Tie as tie
+
+returns : tie.Need-returns
+returns c =
+    let b4 = c .before in
+    let b3 = b4 .before in
+    let b2 = b3 .before in
+    let b1 = b2 .before in
+    let b0 = b1 .before in
+    let q = b0 .before in
+    let p = differencePower ends (intersectionOf (q .before .args .x)) in
+    let h = holds-bernstein (q .difference-powers .result .ends) p (q .difference-powers .ensures) in
+    holds-six _ _ _ _ _ _ _
+    (b0 .bernstein .ensures ∙ h 0 (omega arith))
+    (b1 .bernstein2 .ensures ∙ h 1 (omega arith))
+    (b2 .bernstein3 .ensures ∙ h 2 (omega arith))
+    (b3 .bernstein4 .ensures ∙ h 3 (omega arith))
+    (b4 .bernstein5 .ensures ∙ h 4 (omega arith))
+    (c .bernstein6 .ensures ∙ h 5 (omega arith))
+
+pub bernstein-pairs-spec : {M : Type 1} → statement M
+bernstein-pairs-spec =
+    tie.close
+    (tie.spec (λ c κs. search needs) (λ c κs. search needs) (λ c κs. search needs) (λ c κs. search needs) (λ c κs. search needs) (λ c κs. search needs) (λ c κs. search needs) returns)

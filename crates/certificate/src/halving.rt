@@ -1,0 +1,106 @@
+// The figure of an intersection with a depth: request 8, "Halving a stubborn interval". Its six Bernstein
+// coefficients are split into two halves by de Casteljau's midpoints, and each half is treated with one
+// less depth.
+ghost use mathlib.Core.Path.{_≡_};
+ghost use Rattle.figure.specs.Operations.{ends};
+ghost use Rattle.figure.specs.Halving.{leftHalf, midpoint, rightHalf};
+ghost use Rattle.figure.specs.Figure.{halvedFigure, intersectionFigure, sixFigure, smaller};
+ghost use Rattle.certificate.specs.Structs.{Holds, endsOf, figureIn, intersectionOf, pairAt};
+use crate::ends;
+use crate::ends::Ends;
+use crate::intersection;
+use crate::intersection::Figure;
+use crate::intersection::Intersection;
+use crate::intersection::Six;
+
+// Both halves.
+struct Halves {
+    left: Six,
+    right: Six,
+}
+
+// "add, then divide by 2"
+fn midpoint(x: Ends, y: Ends) -> Ends
+    ensures { λ r. ⌜ endsOf r ≡ midpoint ends (endsOf x) (endsOf y) ⌝ }
+{
+    ends::divide(ends::add(x, y), ends::both(2.0))
+}
+
+// The edges of de Casteljau's triangle.
+fn halve(b: Six) -> Halves
+    ensures { λ r. ⌜ Holds (r .left .ends) (leftHalf ends (pairAt (b .ends))) × Holds (r .right .ends) (rightHalf ends (pairAt (b .ends))) ⌝ }
+{
+    let e = b.ends;
+    let p01 = midpoint(e[0], e[1]);
+    let p12 = midpoint(e[1], e[2]);
+    let p23 = midpoint(e[2], e[3]);
+    let p34 = midpoint(e[3], e[4]);
+    let p45 = midpoint(e[4], e[5]);
+    let p02 = midpoint(p01, p12);
+    let p13 = midpoint(p12, p23);
+    let p24 = midpoint(p23, p34);
+    let p35 = midpoint(p34, p45);
+    let p03 = midpoint(p02, p13);
+    let p14 = midpoint(p13, p24);
+    let p25 = midpoint(p24, p35);
+    let p04 = midpoint(p03, p14);
+    let p15 = midpoint(p14, p25);
+    let p05 = midpoint(p04, p15);
+    Halves {
+        left: Six {
+            ends: [e[0], p01, p02, p03, p04, p05],
+        },
+        right: Six {
+            ends: [p05, p15, p25, p35, p45, e[5]],
+        },
+    }
+}
+
+// The largest absolute end over the six.
+fn six_figure(b: Six) -> Figure
+    ensures { λ r. ⌜ figureIn r ≡ sixFigure (pairAt (b .ends)) ⌝ }
+{
+    let mut f = Figure::Known(0.0);
+    let mut k = 0;
+    while k < 6 {
+        f = intersection::larger(f, intersection::absolute_end(b.ends[k]));
+        k += 1;
+    }
+    f
+}
+
+// The smaller of its own and that of its halves; its own, where they have none.
+fn smaller(own: Figure, halves: Figure) -> Figure
+    ensures { λ r. ⌜ figureIn r ≡ smaller (figureIn own) (figureIn halves) ⌝ }
+{
+    let Figure::Known(x) = own else {
+        return Figure::None;
+    };
+    let Figure::Known(y) = halves else {
+        return own;
+    };
+    Figure::Known(ends::lower(x, y))
+}
+
+// Its own figure at depth 0; above, with those of its halves, one less deep.
+fn halved_figure(depth: usize, b: Six) -> Figure
+    ensures { λ r. ⌜ figureIn r ≡ halvedFigure depth (pairAt (b .ends)) ⌝ }
+{
+    let own = six_figure(b);
+    if depth == 0 {
+        return own;
+    }
+    let h = halve(b);
+    let left = h.left;
+    let right = h.right;
+    let f = halved_figure(depth - 1, left);
+    let g = halved_figure(depth - 1, right);
+    smaller(own, intersection::larger(f, g))
+}
+
+// The figure of an intersection.
+pub fn intersection_figure(depth: usize, x: Intersection) -> Figure
+    ensures { λ r. ⌜ figureIn r ≡ intersectionFigure depth (intersectionOf x) ⌝ }
+{
+    halved_figure(depth, intersection::bernstein_pairs(x))
+}
