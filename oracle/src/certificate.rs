@@ -1,5 +1,6 @@
 //! The certified figure, computed straight from document 01 ("The certified figure"), its sums and
-//! differences from document 02, request 7, its halving from request 8. The source has no such step. Here every waypoint interval is paired with every segment, in plain loops.
+//! differences from document 02, request 7, its halving from request 8. The source has no such
+//! step. Here every waypoint interval is paired with every segment, in plain loops.
 
 use crate::handed::HandedCurve;
 use std::array::from_fn;

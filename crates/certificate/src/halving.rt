@@ -1,10 +1,10 @@
-// The figure of an intersection with a depth: request 8, "Halving a stubborn interval". Its six Bernstein
-// coefficients are split into two halves by de Casteljau's midpoints, and each half is treated with one
-// less depth.
+// The figure of an intersection with a depth: document 02, request 8, "Halving a stubborn interval". Its
+// six Bernstein coefficients are split into two halves by de Casteljau's midpoints, and each half is
+// treated with one less depth.
 ghost use mathlib.Core.Path.{_≡_};
 ghost use Rattle.figure.specs.Operations.{ends};
 ghost use Rattle.figure.specs.Halving.{leftHalf, midpoint, rightHalf};
-ghost use Rattle.figure.specs.Figure.{halvedFigure, intersectionFigure, sixFigure, smaller};
+ghost use Rattle.figure.specs.Figure.{halvedFigure, intersectionFigure, larger, sixFigure, smaller};
 ghost use Rattle.certificate.specs.Structs.{Holds, endsOf, figureIn, intersectionOf, pairAt};
 use crate::ends;
 use crate::ends::Ends;
@@ -28,7 +28,8 @@ fn midpoint(x: Ends, y: Ends) -> Ends
 
 // The edges of de Casteljau's triangle.
 fn halve(b: Six) -> Halves
-    ensures { λ r. ⌜ Holds (r .left .ends) (leftHalf ends (pairAt (b .ends))) × Holds (r .right .ends) (rightHalf ends (pairAt (b .ends))) ⌝ }
+    ensures { λ r. ⌜ Holds (r .left .ends) (leftHalf ends (pairAt (b .ends)))
+        × Holds (r .right .ends) (rightHalf ends (pairAt (b .ends))) ⌝ }
 {
     let e = b.ends;
     let p01 = midpoint(e[0], e[1]);
@@ -98,9 +99,21 @@ fn halved_figure(depth: usize, b: Six) -> Figure
     smaller(own, intersection::larger(f, g))
 }
 
-// The figure of an intersection.
-pub fn intersection_figure(depth: usize, x: Intersection) -> Figure
-    ensures { λ r. ⌜ figureIn r ≡ intersectionFigure depth (intersectionOf x) ⌝ }
+// The largest so far with the figure of an intersection. Where its own is not above the largest so far,
+// no depth makes a difference, and it is not halved.
+pub(crate) fn with_figure(depth: usize, x: Intersection, so_far: Figure) -> Figure
+    ensures { λ r. ⌜ figureIn r ≡ larger (figureIn «so_far») (intersectionFigure depth (intersectionOf x)) ⌝ }
 {
-    halved_figure(depth, intersection::bernstein_pairs(x))
+    let b = intersection::bernstein_pairs(x);
+    let own = six_figure(b);
+    let Figure::Known(largest) = so_far else {
+        return Figure::None;
+    };
+    let Figure::Known(most) = own else {
+        return Figure::None;
+    };
+    if largest < most {
+        return intersection::larger(so_far, halved_figure(depth, b));
+    }
+    so_far
 }

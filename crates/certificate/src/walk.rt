@@ -14,7 +14,6 @@ ghost use Rattle.figure.specs.Figure.{figureOf, intersectionFigure, larger, mee
 ghost use Rattle.certificate.specs.Structs.{figureIn, intersectionOf};
 use crate::ends;
 use crate::halving;
-use crate::intersection;
 use crate::intersection::Figure;
 use crate::intersection::Intersection;
 use request::parameters;
@@ -74,7 +73,7 @@ fn with_intersection(depth: usize, x: Intersection, so_far: Figure) -> Figure
         (figureIn «so_far») ⌝ }
 {
     if x.left < x.right {
-        return intersection::larger(so_far, halving::intersection_figure(depth, x));
+        return halving::with_figure(depth, x, so_far);
     }
     so_far
 }
@@ -108,8 +107,8 @@ pub(crate) fn walk(
         × (length (now coefficients) ≡ 6 * ((length (now breaks) - 1) * k))
         × (axis < d) × (d ≤ 16) × (2 ≤ n) × (n ≤ 20000) × (length (now points) ≡ d * n) × (spacing ≡ Listed → length (now parameters) ≡ n) ⌝ }
     requires { ⌜ Rises (length (now breaks) - 1) (at (now breaks)) × Rises (n - 1) (normalisedOf spacing (now parameters) n) ⌝ }
-    ensures { λ r. ⌜ figureIn r ≡ figureOf depth (axisOf (now (breaks .entry)) (now (coefficients .entry)) k place (now (points .entry)) d axis n
-        spacing (now (parameters .entry))) ⌝ }
+    ensures { λ r. ⌜ figureIn r ≡ figureOf depth (axisOf (now (breaks .entry)) (now (coefficients .entry)) k place (now (points .entry)) d
+        axis n spacing (now (parameters .entry))) ⌝ }
 {
     let mut so_far = Figure::Known(0.0);
     let mut i = 0;

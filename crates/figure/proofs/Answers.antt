@@ -1,5 +1,5 @@
 -- Answers computed from the definition alone: each refusal, with what the checks after it would refuse too, so that their order shows; and
--- one figure.
+-- three figures.
 use mathlib.Core.Path.{_≡_, refl}
 use mathlib.Core.List.{List, [], _∷_}
 use Prim.Native.Nat.{ℕ}
@@ -90,16 +90,17 @@ pub half : certifyOf (curve 1 1) (slices (+0 ∷ one ∷ []) (float 0x3fe0_0000_
 unfolding checks figures
 half = refl
 
--- Request 8: the curve 16u^2(1 - u)^2, a bulge of height 1, against the line 0. Its Bernstein coefficients are 0, 0, 1.6, 1.6, 0, 0; those
--- of its halves are at most 1.
+-- Request 8: the curve 12u^4(1 - u), a bulge of height 0.983 at 0.8, against the line 0. Its Bernstein coefficients are 0, 0, 0, 0, 2.4, 0;
+-- the largest of its right half is 1.2, of its left half 0.375.
 abbrev bulge : ℕ → CertificateOutcome
-bulge depth = certifyOf (curve 1 1) (slices (+0 ∷ one ∷ []) (+0 ∷ +0 ∷ float 0x4030_0000_0000_0000 ∷ float 0xc040_0000_0000_0000
-    ∷ float 0x4030_0000_0000_0000 ∷ +0 ∷ []) [] []) (+0 ∷ +0 ∷ []) 2 Even [] 0 depth
+bulge depth = certifyOf (curve 1 1)
+    (slices (+0 ∷ one ∷ []) (+0 ∷ +0 ∷ +0 ∷ +0 ∷ float 0x4028_0000_0000_0000 ∷ float 0xc028_0000_0000_0000 ∷ []) [] []) (+0 ∷ +0 ∷ []) 2
+    Even [] 0 depth
 
-pub whole-bulge : bulge 0 ≡ outcome 0 (figure (float 0x3ff9_9999_9999_99ea))
+pub whole-bulge : bulge 0 ≡ outcome 0 (figure (float 0x4003_3333_3333_3343))
 unfolding checks figures
 whole-bulge = refl
 
-pub halved-bulge : bulge 1 ≡ outcome 0 (figure (float 0x3ff0_0000_0000_008d))
+pub halved-bulge : bulge 1 ≡ outcome 0 (figure (float 0x3ff3_3333_3333_33c0))
 unfolding checks figures
 halved-bulge = refl

@@ -1,4 +1,5 @@
--- "a deeper figure is never larger than a shallower one on the same curve, axis, points and parameters; if depth 0 has none, none is given" (request 8).
+-- "a deeper figure is never larger than a shallower one on the same curve, axis, points and parameters; if depth 0 has none, none is
+-- given": document 02, request 8.
 use mathlib.Core.Bool.{Bool, _||_, cond, false, not, true}
 use mathlib.Core.List.{List}
 use mathlib.Core.Path.{_∙_, _≡_, ap, refl, subst}
@@ -33,7 +34,7 @@ use Rattle.figure.proofs.Largest.{Enclosed, Sound, halved-sound, larger
 use Rattle.figure.proofs.Overlap.{highest-has, lowest-has}
 
 -- the same as `NoLarger`, in ℚ
-abbrev Under : Figure → Figure → Type 0
+abbrev pub Under : Figure → Figure → Type 0
 Under (figure x) (figure y) = T (finite x) × T (finite y) × (value x ≤q value y)
 Under (figure x) noFigure = ⊥
 Under noFigure (figure y) = ⊥
@@ -119,7 +120,7 @@ halved-depths (suc d) j p c E =
     (under-trans (halvedFigure (suc (d + j)) p) (halvedFigure (d + j) p) (halvedFigure j p) (halved-deeper (d + j) p c E)
     (halved-depths d j p c E))
 
-intersection-deeper : (j k : ℕ) (x : Intersection) → j ≤ k → Under (intersectionFigure k x) (intersectionFigure j x)
+pub intersection-deeper : (j k : ℕ) (x : Intersection) → j ≤ k → Under (intersectionFigure k x) (intersectionFigure j x)
 unfolding intersectionFigure
 intersection-deeper j k x l =
     let e : k - j + j ≡ k = omega arith in
@@ -178,7 +179,8 @@ refused-alike : (b : Bool) (n : ℕ) (x y : CertificateOutcome) → Deeper x y �
 refused-alike true n x y h = record { number = refl; certified = tt }
 refused-alike false n x y h = h
 
--- The same of two certificates of one curve, axis, points and parameters, at depths up to 6. By its contract `certify` answers as `certifyOf` does.
+-- The same of two certificates of one curve, axis, points and parameters, at depths up to 6. By its contract `certify` answers as
+-- `certifyOf` does.
 pub deeper-certificate : (c : Curve) (s : Slices) (points : List Float) (n : ℕ) (spacing : Spacing) (parameters : List Float)
     (axis j k : ℕ) → j ≤ k → k ≤ 6
     → Deeper (certifyOf c s points n spacing parameters axis k) (certifyOf c s points n spacing parameters axis j)

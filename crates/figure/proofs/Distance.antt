@@ -1,5 +1,6 @@
 -- The distance theorem: where the definition gives a figure, the distance rule holds (`DistanceRule` in specs/Distance says it in full). It
--- rests on two facts: each pair encloses its exact value (Enclosure), and the figure bounds the exact polynomial of each intersection (Largest).
+-- rests on two facts: each pair encloses its exact value (Enclosure), and the figure bounds the exact polynomial of each intersection
+-- (Largest).
 --
 -- A segment and an interval that hold t may share the point t alone. Then t is an end of both, and the interval on the other side of t
 -- shares more than a point with the segment; its line has the same value at t, since both pass through the waypoint there. That interval
@@ -179,11 +180,10 @@ written x F t m i b = (
   ≤q-means-≤f (subtractFractions (curveAt x m t) (lineAt x i t)) (exactFraction F) (b .1),
 )
 
--- The distance theorem, at every depth: if breaks and normalised parameters rise from 0 to 1, as the checks 24, 5 and 6 ensure, and the definition gives
--- the figure F, then the distance rule holds for F.
-pub distance-theorem : (depth : ℕ) (x : Axis) (F : Float) → Rises (x .segments) (x .break) → Rises (x .intervals) (x .parameter) →
-    figureOf depth x ≡ figure F
-    → DistanceRule x F
+-- The distance theorem, at every depth: if breaks and normalised parameters rise from 0 to 1, as the checks 24, 5 and 6 ensure, and the
+-- definition gives the figure F, then the distance rule holds for F.
+pub distance-theorem : (depth : ℕ) (x : Axis) (F : Float) → Rises (x .segments) (x .break) → Rises (x .intervals) (x .parameter)
+    → figureOf depth x ≡ figure F → DistanceRule x F
 distance-theorem depth x F breaks parameters given =
     record {
       finite-figure = given-finite depth x F given;

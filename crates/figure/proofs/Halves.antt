@@ -1,5 +1,5 @@
--- Halving six Bernstein coefficients. Over exact fractions the halves are the Bernstein coefficients of the same polynomial on [0, 1/2] and on [1/2, 1];
--- and what the operations keep, both halves keep: so halves of end pairs enclose the exact halves.
+-- Halving six Bernstein coefficients. Over exact fractions the halves give the same polynomial on [0, 1/2] and on [1/2, 1]; and what the
+-- operations keep, both halves keep: so halves of end pairs enclose the exact halves.
 use mathlib.Core.List.{[], _∷_}
 use mathlib.Core.Logic.{inl, inr}
 use mathlib.Core.Path.{_∙_, _≡_, ap, fun-ext, refl, subst, sym}
@@ -52,7 +52,7 @@ module _ {A : Type 0} (o : Operations A) where
 
 -- ---- over exact fractions
 -- 1/2
-abbrev half : ℚ
+abbrev pub half : ℚ
 half = inverse (wholeq (pos 2))
 
 two-above : Above (wholeq (pos 2))
@@ -62,7 +62,7 @@ two-above = tt
 half-is : wholeq (pos 2) *q half ≡ 𝟙
 half-is = inverse-is (wholeq (pos 2)) two-above
 
-abbrev cut : ℕ → (ℕ → ℚ) → ℚ → ℚ
+abbrev pub cut : ℕ → (ℕ → ℚ) → ℚ → ℚ
 cut = deCasteljau rationalRing
 
 -- it depends on the coefficients 0 to n
@@ -121,7 +121,8 @@ pub right-is : (c : ℕ → ℚ) (u : ℚ) → cut 5 (rightHalf exact c) u ≡ c
 right-is c u = cut-same 5 (rightHalf exact c) (λ k. level exact (monus 5 k) c k) u (λ k l. ap (λ (r : ℕ). level exact r c k)
     (sym (monus-is 5 k))) ∙ cut-right 5 c u
 
--- The theorem: with eq. 1.8's polynomials, the left half's coefficients give at u what c give at u/2, and the right half's what c give at (1 + u)/2.
+-- The theorem: with eq. 1.8's polynomials, the left half's coefficients give at u what c give at u/2, and the right half's what c give at
+-- (1 + u)/2.
 pub left-half : (c : ℕ → ℚ) (u : ℚ) → bernsteinForm rationalRing 5 (leftHalf exact c) u ≡ bernsteinForm rationalRing 5 c
     (u /q wholeq (pos 2))
 left-half c u = sym (de-casteljau rationalRing 5 (leftHalf exact c) u) ∙ left-is c u ∙ de-casteljau rationalRing 5 c (u *q half)

@@ -1,13 +1,13 @@
--- The halves, coefficient by coefficient: of the Bernstein coefficients of a polynomial, the left half are those of the polynomial on [0, 1/2], at u/2, and
--- the right half those of the polynomial on [1/2, 1], at 1/2 + u/2. It follows from `left-is` and `right-is`, since six coefficients are
--- determined by the polynomial's values, as those at 0, 1, 2, -1, 3, -2.
+-- The halves, coefficient by coefficient: of the Bernstein coefficients of a polynomial, the left half are those of the polynomial on
+-- [0, 1/2], at u/2, and the right half those of the polynomial on [1/2, 1], at 1/2 + u/2. It follows from `left-is` and `right-is`, since
+-- six coefficients are determined by the polynomial's values, as those at 0, 1, 2, -1, 3, -2.
 use mathlib.Core.List.{List, [], _∷_}
 use mathlib.Core.Path.{_∙_, _≡_, ap, fun-ext, sym}
 use Prim.Native.Nat.{ℕ, zero, suc, _≤_}
 use native.Mathlib.Omega.{arith}
 use lib.Dec.{T}
 use lib.IntN.{negsuc, pos, ℤ}
-use Rattle.fraction.specs.Bernstein.{bernsteinCoefficient, deCasteljau}
+use Rattle.fraction.specs.Bernstein.{bernsteinCoefficient}
 use Rattle.fraction.specs.Polynomial.{expandedCoefficient, polynomial}
 use Rattle.fraction.specs.Rational.{Above, _*q_, _+q_, atMostq, inverse, wholeq, ℚ, 𝟘}
 use Rattle.fraction.specs.RationalRing.{rationalRing}
@@ -17,10 +17,7 @@ use Rattle.fraction.proofs.Inverse.{inverse-is}
 use Rattle.fraction.proofs.Polynomial.{expand}
 use Rattle.figure.specs.Halving.{leftHalf, rightHalf}
 use Rattle.figure.proofs.Enclosure.{exact}
-use Rattle.figure.proofs.Halves.{left-is, right-is}
-
-abbrev cut : ℕ → (ℕ → ℚ) → ℚ → ℚ
-cut = deCasteljau rationalRing
+use Rattle.figure.proofs.Halves.{cut, half, left-is, right-is}
 
 -- ---- six coefficients are determined by the values
 -- de Casteljau's recursion as an expression
@@ -68,9 +65,6 @@ module _ (c d : ℕ → ℚ) (h : (u : ℚ) → cut 5 c u ≡ cut 5 d u) where
   determined (suc (suc (suc (suc (suc (suc k)))))) l = absurd (omega arith)
 
 -- ---- the halves
-abbrev half : ℚ
-half = inverse (wholeq (pos 2))
-
 -- a polynomial by its Bernstein coefficients
 by-cut : (p : ℕ → ℚ) (u : ℚ) → cut 5 (bernsteinCoefficient 5 p) u ≡ polynomial rationalRing 5 p u
 by-cut p u = de-casteljau rationalRing 5 (bernsteinCoefficient 5 p) u ∙ powers-to-bernstein 5 p u

@@ -17,7 +17,7 @@ use Rattle.curve.specs.Form.{Slices, wellFormed}
 use Rattle.curve.specs.Places.{positionOf}
 use Rattle.figure.specs.Axis.{axisOf}
 use Rattle.figure.specs.Distance.{Covered, DistanceRule, Rises}
-use Rattle.figure.specs.Figure.{Axis, Figure, figure, figureOf, noFigure}
+use Rattle.figure.specs.Figure.{Axis, Figure, figureOf, noFigure}
 
 -- document 01's number, 0 where nothing is refused; and the figure, or none
 pub record CertificateOutcome : Type 0 where

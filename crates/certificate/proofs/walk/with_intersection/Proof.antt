@@ -9,10 +9,10 @@ use Rattle.certificate.proofs.walk.with_intersection.Tie as tie
 
 returns : tie.Need-returns
 returns c =
-    let a = c .before .before .before .before .args in
+    let a = c .before .before .before .args in
     let g = figureIn (a .so-far) in
-    c .larger .ensures ∙ ap (larger g) (c .before .intersection-figure .ensures)
-    ∙ sym (ap (λ (b : Bool). cond b (larger g (intersectionFigure (a .depth) (intersectionOf (a .x)))) g) (c .before .before .if1 .taken))
+    c .with-figure .ensures
+    ∙ sym (ap (λ (b : Bool). cond b (larger g (intersectionFigure (a .depth) (intersectionOf (a .x)))) g) (c .before .if1 .taken))
 
 returns-2 : tie.Need-returns-2
 returns-2 c =
@@ -21,4 +21,4 @@ returns-2 c =
     sym (ap (λ (b : Bool). cond b (larger g (intersectionFigure (a .depth) (intersectionOf (a .x)))) g) (c .if1 .left))
 
 pub with-intersection-spec : {M : Type 1} → statement M
-with-intersection-spec = tie.close (tie.spec (λ c κs. search needs) (λ c κs. search needs) returns returns-2)
+with-intersection-spec = tie.close (tie.spec (λ c κs. search needs) returns returns-2)
