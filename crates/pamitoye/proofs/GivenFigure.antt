@@ -5,7 +5,7 @@ use Prim.Native.Nat.{ℕ}
 use borrow.Author.Tests.{eq-eqb}
 use lib.Ieee.{Float}
 use Rattle.certificate.specs.declared.certify.Refusal.{Refusal}
-use Rattle.certificate.specs.declared.certify.Refusal.the-variants.{AboveDomain, PointCells, BadPoints, BadParameters, BadRange, Malformed, NotSelected}
+use Rattle.certificate.specs.declared.certify.Refusal.the-variants.{TooDeep, AboveDomain, PointCells, BadPoints, BadParameters, BadRange, Malformed, NotSelected}
 use Rattle.figure.specs.Figure.{Figure, figure, noFigure}
 use Rattle.figure.specs.Certify.{outcome}
 use Rattle.certificate.specs.Outcome.{refusalNumber}
@@ -20,6 +20,7 @@ given-figure k noFigure b x {n} {g} number given told fine there =
 
 -- a refusal leaves it as it was
 pub given-kept : (r : Refusal) (b : Bool) → b ≡ givenAfter (refusalNumber r) noFigure b
+given-kept TooDeep b = refl
 given-kept AboveDomain b = refl
 given-kept PointCells b = refl
 given-kept BadPoints b = refl
