@@ -230,22 +230,26 @@ fn up(x: f64, y: f64) -> f64 {
     0. - down(-x, -y)
 }
 
+/// "no figure, as before, where an end is not finite"
+fn added(x: Pair, y: Pair) -> Pair {
+    let (Some([a, b]), Some([c, d])) = (x.0, y.0) else {
+        return Pair(None);
+    };
+    let ends = [down(a, c), up(b, d)];
+    Pair(ends.iter().all(|v| v.is_finite()).then_some(ends))
+}
+
 impl Add for Pair {
     type Output = Self;
-    /// "no figure, as before, where an end is not finite"
     fn add(self, other: Self) -> Self {
-        let (Some([a, b]), Some([c, d])) = (self.0, other.0) else {
-            return Self(None);
-        };
-        let ends = [down(a, c), up(b, d)];
-        Self(ends.iter().all(|v| v.is_finite()).then_some(ends))
+        added(self, other)
     }
 }
 
 impl Sub for Pair {
     type Output = Self;
     fn sub(self, other: Self) -> Self {
-        self + Self(other.0.map(|[low, high]| [-high, -low]))
+        added(self, Self(other.0.map(|[low, high]| [-high, -low])))
     }
 }
 
