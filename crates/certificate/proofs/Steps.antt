@@ -152,8 +152,8 @@ module _ (depth : ℕ) (x : Axis) (breaks : Rises (x .segments) (x .break)) (par
         (withIntersection depth x i) (m +
         1) (x .segments) (withIntersection depth x i m g) later)
       where
-        later : (k : ℕ) → m + 1 ≤ k → k < x .segments → withIntersection depth x i k (withIntersection depth x i m g) ≡ withIntersection
-            depth x i m g
+        later : (k : ℕ) → m + 1 ≤ k → k < x .segments → withIntersection depth x i k (withIntersection depth x i m g)
+            ≡ withIntersection depth x i m g
         later k l h =
             interval-before i k i< h (withIntersection depth x i m g)
             (≤q-trans (s (i + 1)) (a (m + 1)) (a k) (value-le-of-not-lt (x .parameter (i + 1)) (x .break (m + 1))

@@ -21,21 +21,21 @@ abbrev Middle : pairs.Ends → pairs.Ends → Ends → Type 0
 Middle p q r = endsOf r ≡ midpoint ends p q
 
 -- one place of a further level
-step : (c : ℕ → pairs.Ends) (n i : ℕ) (p q r : Ends) → endsOf p ≡ level ends n c i → endsOf q ≡ level ends n c (suc i) → Middle
-    (endsOf p) (endsOf q) r → endsOf r ≡ level ends (suc n) c i
+step : (c : ℕ → pairs.Ends) (n i : ℕ) (p q r : Ends) → endsOf p ≡ level ends n c i → endsOf q ≡ level ends n c (suc i)
+    → Middle (endsOf p) (endsOf q) r → endsOf r ≡ level ends (suc n) c i
 unfolding level
 step c n i p q r a b e = rw (e, a, b)
 
 pub triangle : (l : List Ends) (p01 p12 p23 p34 p45 p02 p13 p24 p35 p03 p14 p25 p04 p15 p05 : Ends)
-    → Middle (pairAt l 0) (pairAt l 1) p01 → Middle (pairAt l 1) (pairAt l 2) p12 → Middle (pairAt l 2) (pairAt l 3) p23 → Middle
-    (pairAt l 3) (pairAt l 4) p34 → Middle (pairAt l 4) (pairAt l 5) p45
-    → Middle (endsOf p01) (endsOf p12) p02 → Middle (endsOf p12) (endsOf p23) p13 → Middle (endsOf p23) (endsOf p34) p24 → Middle
-    (endsOf p34) (endsOf p45) p35
+    → Middle (pairAt l 0) (pairAt l 1) p01 → Middle (pairAt l 1) (pairAt l 2) p12 → Middle (pairAt l 2) (pairAt l 3) p23
+    → Middle (pairAt l 3) (pairAt l 4) p34 → Middle (pairAt l 4) (pairAt l 5) p45
+    → Middle (endsOf p01) (endsOf p12) p02 → Middle (endsOf p12) (endsOf p23) p13 → Middle (endsOf p23) (endsOf p34) p24
+    → Middle (endsOf p34) (endsOf p45) p35
     → Middle (endsOf p02) (endsOf p13) p03 → Middle (endsOf p13) (endsOf p24) p14 → Middle (endsOf p24) (endsOf p35) p25
     → Middle (endsOf p03) (endsOf p14) p04 → Middle (endsOf p14) (endsOf p25) p15
     → Middle (endsOf p04) (endsOf p15) p05
-    → Holds (cell l 0 ∷ p01 ∷ p02 ∷ p03 ∷ p04 ∷ p05 ∷ []) (leftHalf ends (pairAt l)) × Holds
-    (p05 ∷ p15 ∷ p25 ∷ p35 ∷ p45 ∷ cell l 5 ∷ []) (rightHalf ends (pairAt l))
+    → Holds (cell l 0 ∷ p01 ∷ p02 ∷ p03 ∷ p04 ∷ p05 ∷ []) (leftHalf ends (pairAt l))
+    × Holds (p05 ∷ p15 ∷ p25 ∷ p35 ∷ p45 ∷ cell l 5 ∷ []) (rightHalf ends (pairAt l))
 unfolding level
 triangle l p01 p12 p23 p34 p45 p02 p13 p24 p35 p03 p14 p25 p04 p15 p05 e01 e12 e23 e34 e45 e02 e13 e24 e35 e03 e14 e25 e04 e15 e05 =
     let c = pairAt l in

@@ -129,14 +129,14 @@ intersection-deeper j k x l =
     (bernstein-encloses x))
 
 -- ---- all intersections
-turns-under : (f g : ℕ → Figure → Figure) → ((i : ℕ) (a b : Figure) → Under a b → Under (f i a) (g i b)) → (n i : ℕ) (a b : Figure) →
-    Under a b → Under (turns f n i a) (turns g n i b)
+turns-under : (f g : ℕ → Figure → Figure) → ((i : ℕ) (a b : Figure) → Under a b → Under (f i a) (g i b)) → (n i : ℕ) (a b : Figure)
+    → Under a b → Under (turns f n i a) (turns g n i b)
 unfolding turns
 turns-under f g h zero i a b u = u
 turns-under f g h (suc n) i a b u = turns-under f g h n (i + 1) (f i a) (g i b) (h i a b u)
 
-each-under : (f g : ℕ → Figure → Figure) → ((i : ℕ) (a b : Figure) → Under a b → Under (f i a) (g i b)) → (n : ℕ) (a b : Figure) → Under
-    a b → Under (each f 0 n a) (each g 0 n b)
+each-under : (f g : ℕ → Figure → Figure) → ((i : ℕ) (a b : Figure) → Under a b → Under (f i a) (g i b)) → (n : ℕ) (a b : Figure)
+    → Under a b → Under (each f 0 n a) (each g 0 n b)
 unfolding each
 each-under f g h n = turns-under f g h (n - 0) 0
 
@@ -197,12 +197,12 @@ deeper-certificate c s points n spacing parameters axis j k l m =
     (record { number = refl; certified = deeper-theorem j k (certifiedAxis c s points n spacing parameters axis) l }))))))))
 
 -- where the shallower gives the figure F, the deeper gives a figure that is at most F
-figure-kept : (x y : CertificateOutcome) (F : Float) → Deeper x y → y ≡ outcome 0 (figure F) → (G : Float) × (x ≡ outcome 0 (figure G)) ×
-    (exactFraction G ≤f exactFraction F)
+figure-kept : (x y : CertificateOutcome) (F : Float) → Deeper x y → y ≡ outcome 0 (figure F) → (G : Float) × (x ≡ outcome 0 (figure G))
+    × (exactFraction G ≤f exactFraction F)
 figure-kept x y F h e = go (x .certified) (ap (λ (o : CertificateOutcome). o .number) e) (rw e at (h .certified)) refl
   where
-    go : (f : Figure) → y .number ≡ 0 → NoLarger f (figure F) → x .certified ≡ f → (G : Float) × (x ≡ outcome 0 (figure G)) ×
-        (exactFraction G ≤f exactFraction F)
+    go : (f : Figure) → y .number ≡ 0 → NoLarger f (figure F) → x .certified ≡ f → (G : Float) × (x ≡ outcome 0 (figure G))
+        × (exactFraction G ≤f exactFraction F)
     go (figure G) z u t = (G, ap (λ (n : ℕ). outcome n (x .certified)) (h .number ∙ z) ∙ ap (outcome 0) t, u .2)
     go noFigure z u t = absurd u
 

@@ -123,12 +123,12 @@ right-is c u = cut-same 5 (rightHalf exact c) (λ k. level exact (monus 5 k) c k
 
 -- The theorem: with eq. 1.8's polynomials, the left half's coefficients give at u what c give at u/2, and the right half's what c give at
 -- (1 + u)/2.
-pub left-half : (c : ℕ → ℚ) (u : ℚ) → bernsteinForm rationalRing 5 (leftHalf exact c) u ≡ bernsteinForm rationalRing 5 c
-    (u /q wholeq (pos 2))
+pub left-half : (c : ℕ → ℚ) (u : ℚ) → bernsteinForm rationalRing 5 (leftHalf exact c) u
+    ≡ bernsteinForm rationalRing 5 c (u /q wholeq (pos 2))
 left-half c u = sym (de-casteljau rationalRing 5 (leftHalf exact c) u) ∙ left-is c u ∙ de-casteljau rationalRing 5 c (u *q half)
 
-pub right-half : (c : ℕ → ℚ) (u : ℚ) → bernsteinForm rationalRing 5 (rightHalf exact c) u ≡ bernsteinForm rationalRing 5 c
-    ((𝟙 +q u) /q wholeq (pos 2))
+pub right-half : (c : ℕ → ℚ) (u : ℚ) → bernsteinForm rationalRing 5 (rightHalf exact c) u
+    ≡ bernsteinForm rationalRing 5 c ((𝟙 +q u) /q wholeq (pos 2))
 right-half c u =
     sym (de-casteljau rationalRing 5 (rightHalf exact c) u) ∙ right-is c u ∙ de-casteljau rationalRing 5 c (half +q u *q half)
     ∙ ap (bernsteinForm rationalRing 5 c) (solve rationalRing (u ∷ half ∷ []) (v1 ⊕ v0 ⊗ v1) ((con (pos 1) ⊕ v0) ⊗ v1) tt)

@@ -94,8 +94,8 @@ module _ (m : ℚ) (f : ℕ → Figure → Figure) where
             (rest .at-most (f a g) (now .sound g h) l);
       }
 
-  turns-reach : (n a : ℕ) → ((i : ℕ) → i < a + n → Grows m (f i)) → (g : Figure) → Sound g → AtMost (turns f n a g) m → (j : ℕ) → a ≤ j →
-      j
+  turns-reach : (n a : ℕ) → ((i : ℕ) → i < a + n → Grows m (f i)) → (g : Figure) → Sound g → AtMost (turns f n a g) m → (j : ℕ) → a ≤ j
+      → j
       < a + n → Reached m (f j)
   unfolding turns
   turns-reach zero a G g h l j aj jn = absurd (omega arith)

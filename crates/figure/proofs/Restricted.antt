@@ -45,8 +45,8 @@ above = tt
 
 module _ (c d : ℕ → ℚ) (h : (u : ℚ) → cut 5 c u ≡ cut 5 d u) where
   -- coefficient k, if 1200 times it is such a combination
-  by-values : (k : ℕ) (p q r s t u : ℤ) → T (check (con (pos 1200) ⊗ var k) (combination p q r s t u)) → lookup rationalRing (six c) k ≡
-      lookup rationalRing (six d) k
+  by-values : (k : ℕ) (p q r s t u : ℤ) → T (check (con (pos 1200) ⊗ var k) (combination p q r s t u)) → lookup rationalRing (six c) k
+      ≡ lookup rationalRing (six d) k
   by-values k p q r s t u e =
       let w = con (pos 1200) ⊗ var k in
       let v = combination p q r s t u in

@@ -1,4 +1,5 @@
--- The proof of the cycle of calls {halved_figure}: `certificate::halving::halved_figure` calls itself for each half. The measure is the depth.
+-- The proof of the cycle of calls {halved_figure}: `certificate::halving::halved_figure` calls itself for each half. The measure is the
+-- depth.
 use mathlib.Core.Path.{_≡_}
 use Prim.Native.Nat.{ℕ, _-_, _<_}
 use native.Mathlib.Omega.{arith}
