@@ -1,2 +1,5 @@
 pub mod Calls
 pub mod HigherLimits
+pub mod AcceptedCalls
+pub mod UnsmoothedRows
+pub mod Figures

@@ -1,7 +1,9 @@
-//! Pairs of requests, built by the crate and by the source: what a higher limit changes (document 02, request 11).
+//! Pairs of requests, built by the crate and by the source: what a higher limit changes (document 02, request 11), and
+//! that rows which are not smoothed do not matter (request 10).
 
+use crate::path::smoothing::SmoothingTolerance;
 use crate::path::smoothing::reach::Built;
-use crate::random::Random;
+use crate::random::{Random, power_of_two};
 use crate::refusal::Refusal;
 use crate::request::{self, Request};
 use crate::sides::{alike, build, same};
@@ -133,4 +135,106 @@ fn higher_limits_more() {
     assert!([8, 14, 15].iter().all(|number| changed(&seen, *number)));
     let others = (0..27).filter(|number| ![8, 14, 15].contains(number));
     assert!(others.into_iter().all(|number| !changed(&seen, number)));
+}
+
+/// A request with some axes that are not smoothed.
+fn with_other_axes(r: &mut Random) -> Option<Request> {
+    let mut request = request::draw_any(r);
+    let d = request.d;
+    if request.config.axes.is_none() && d > 1 {
+        let mut axes = request::selection(r, d);
+        axes.truncate(d - 1);
+        if let SmoothingTolerance::PerAxis(list) = &mut request.config.tolerance {
+            list.truncate(axes.len());
+        }
+        request.config.axes = Some(axes);
+    }
+    let listed = request.config.axes.as_ref().map_or(d, Vec::len);
+    (listed < d && request.points.len() == d * request.n).then_some(request)
+}
+
+/// The same request with other finite numbers in the rows that are not smoothed.
+fn with_other_rows(r: &mut Random, request: &Request) -> Request {
+    let (mut other, style) = (request.clone(), r.below(5));
+    let factor = r.signed() * power_of_two(r.between(0, 40) as i32 - 20);
+    let one = r.below(request.points.len().max(1));
+    let selected = request.config.axes.clone().unwrap_or_default();
+    for (i, x) in other.points.iter_mut().enumerate() {
+        if selected.contains(&(i % request.d)) {
+            continue;
+        }
+        *x = match style {
+            0 => *x * factor,
+            1 => r.signed() * factor,
+            2 => r.pick(&[0., -0., 5e-324, -5e-324, 1e-310, 1e300, -1e300, 1.7e308]),
+            3 if i != one => *x,
+            _ => -*x,
+        };
+    }
+    other
+}
+
+/// Accepted pairs that differ in rows which are not smoothed: the same selected segments, the same report and, at each
+/// depth, the same figures of the selected axes.
+fn other_rows(seed: u64, count: usize) {
+    let mut r = Random::new(seed);
+    let (mut pairs, mut changed, mut figures) = (0, 0, 0);
+    while pairs < count {
+        let Some(first) = with_other_axes(&mut r) else {
+            continue;
+        };
+        let second = with_other_rows(&mut r, &first);
+        let (Ok(a), Ok(b)) = (answer(&first), answer(&second)) else {
+            continue;
+        };
+        assert!(selected_agree(&a, &b), "{first:?}\n{second:?}");
+        let parameters = first.config.parameters.as_deref();
+        for axis in &a.smoothing_report().unwrap().axes {
+            let depth = r.below(7);
+            let figure = |path: &Path, points| path.certify(*axis, depth, points, parameters);
+            match (figure(&a, &first.points), figure(&b, &second.points)) {
+                (Ok(Some(x)), Ok(Some(y))) => assert!(same(x, y), "{first:?}\n{second:?}"),
+                (x, y) => assert_eq!(x, y, "{first:?}\n{second:?}"),
+            }
+            figures += 1;
+        }
+        pairs += 1;
+        changed += usize::from(!alike(&first.points, &second.points));
+    }
+    println!("{pairs} pairs, {changed} with other rows changed, {figures} figures");
+    assert!(changed > count / 2);
+}
+
+/// Accepted pairs that differ in their limits, either way: the same cells and counts.
+fn other_limits(seed: u64, count: usize) {
+    let mut r = Random::new(seed);
+    let (mut pairs, mut lower) = (0, 0);
+    while pairs < count {
+        let first = limited(&mut r);
+        let mut second = raised(&mut r, &first);
+        if r.chance(50) {
+            let needed = build(&first).map_or(0, |path| path.breaks().len() - 1);
+            second.config.max_segments = needed.max(1);
+        }
+        if let (Ok(a), Ok(b)) = (answer(&first), answer(&second)) {
+            assert!(agree(&a, &b), "{first:?}\n{second:?}");
+            pairs += 1;
+            lower += usize::from(second.config.max_segments < first.config.max_segments);
+        }
+    }
+    println!("{pairs} pairs with other limits, {lower} with fewer segments allowed");
+}
+
+#[test]
+fn rows_that_are_not_smoothed_do_not_matter() {
+    other_rows(21, 1000);
+    other_limits(22, 1000);
+}
+
+/// Many more, for a run by hand.
+#[test]
+#[ignore = "takes minutes"]
+fn rows_that_are_not_smoothed_more() {
+    other_rows(23, 10_000);
+    other_limits(24, 10_000);
 }
