@@ -3,3 +3,5 @@ pub mod HigherLimits
 pub mod AcceptedCalls
 pub mod UnsmoothedRows
 pub mod Figures
+pub mod EvenParameters
+pub mod OtherRows

@@ -8,6 +8,7 @@ use Prim.Native.Nat.{ℕ, _+_, _*_, _≤_, _<_}
 use lib.ListN.{getD}
 use lib.Ieee.{Float}
 use Rattle.window.specs.Cells.{at}
+use Rattle.request.specs.declared.parameters.Spacing.the-variants.{Listed}
 use Rattle.curve.specs.declared.Curve.{Curve}
 use Rattle.curve.specs.declared.Mode.{Mode}
 use Rattle.smoothing.specs.Answer as answers
@@ -72,6 +73,17 @@ pub record Agree {l : Lane} {m m′ : Limits} (first : BuildCall l m) (second : 
 abbrev pub SelectedRowsSame : Lane → List Float → Type 0
 SelectedRowsSame l points = (i a : ℕ) → i < l .n → a < axisCount l
     → at (l .points) (i * l .d + getD (smoothedAxes l) a 0) ≡ at points (i * l .d + getD (smoothedAxes l) a 0)
+
+-- "Two .. requests with equal d, n, axes, tolerances .. and, bit for bit, equal selected rows and listed or even parameters"; a list beside
+-- even parameters may be any
+pub record OtherRows (l l′ : Lane) : Type 0 where
+  pub d : l .d ≡ l′ .d
+  pub n : l .n ≡ l′ .n
+  pub axes : l .axes ≡ l′ .axes
+  pub tolerance : l .tolerance ≡ l′ .tolerance
+  pub spacing : l .spacing ≡ l′ .spacing
+  pub listed : l .spacing ≡ Listed → l .parameters ≡ l′ .parameters
+  pub selected : SelectedRowsSame l (l′ .points)
 
 -- "the same selected segments, the same report": one report, and one list of breaks, of coefficients and of errors in the first cells of
 -- both calls' slices

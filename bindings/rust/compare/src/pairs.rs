@@ -178,12 +178,15 @@ fn with_other_rows(r: &mut Random, request: &Request) -> Request {
 /// depth, the same figures of the selected axes.
 fn other_rows(seed: u64, count: usize) {
     let mut r = Random::new(seed);
-    let (mut pairs, mut changed, mut figures) = (0, 0, 0);
+    let (mut pairs, mut figures) = (0, 0);
     while pairs < count {
         let Some(first) = with_other_axes(&mut r) else {
             continue;
         };
         let second = with_other_rows(&mut r, &first);
+        if bits(&first.points) == bits(&second.points) {
+            continue;
+        }
         let (Ok(a), Ok(b)) = (answer(&first), answer(&second)) else {
             continue;
         };
@@ -199,10 +202,12 @@ fn other_rows(seed: u64, count: usize) {
             figures += 1;
         }
         pairs += 1;
-        changed += usize::from(!alike(&first.points, &second.points));
     }
-    println!("{pairs} pairs, {changed} with other rows changed, {figures} figures");
-    assert!(changed > count / 2);
+    println!("{pairs} pairs with other rows, {figures} figures");
+}
+
+fn bits(cells: &[f64]) -> Vec<u64> {
+    cells.iter().map(|x| x.to_bits()).collect()
 }
 
 /// Accepted pairs that differ in their limits, either way: the same cells and counts.
@@ -215,6 +220,10 @@ fn other_limits(seed: u64, count: usize) {
         if r.chance(50) {
             let needed = build(&first).map_or(0, |path| path.breaks().len() - 1);
             second.config.max_segments = needed.max(1);
+        }
+        let (x, y) = (&first.config, &second.config);
+        if (x.max_segments, x.max_refinements) == (y.max_segments, y.max_refinements) {
+            continue;
         }
         if let (Ok(a), Ok(b)) = (answer(&first), answer(&second)) {
             assert!(agree(&a, &b), "{first:?}\n{second:?}");
