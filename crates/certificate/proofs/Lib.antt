@@ -1,5 +1,7 @@
 -- The laws.
+pub mod BitSteps
 pub mod Coefficients
+pub mod Outward
 pub mod Pairs
 pub mod Skipped
 pub mod Standing

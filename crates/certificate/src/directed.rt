@@ -2,6 +2,7 @@
 ghost use mathlib.Core.Path.{_≡_};
 ghost use lib.Ieee.{binary64};
 ghost use Rattle.fraction.specs.DirectedSum.{downwardSum, plainZero, upwardSum};
+use crate::neighbours;
 
 // +0 for either zero.
 fn plain(x: f64) -> f64
@@ -14,13 +15,17 @@ fn plain(x: f64) -> f64
 }
 
 // The largest f64 that is not above the exact x + y. Where the rounded sum is above it, one of two
-// differences shows that, and the answer is the number before.
+// differences shows that, and the answer is the number before. That is computed first, so that no branch
+// is left, which would be hard to foresee.
 pub(crate) fn sum_down(x: f64, y: f64) -> f64
     ensures { λ r. ⌜ r ≡ downwardSum binary64 x y ⌝ }
 {
     let r = x + y;
-    if y < r - x || x < r - y {
-        return plain(float::next_down(r));
+    let p = r - x;
+    let q = r - y;
+    let down = neighbours::next_down(r);
+    if y < p || x < q {
+        return plain(down);
     }
     plain(r)
 }

@@ -1,12 +1,13 @@
 // Pairs of ends: an interval of numbers, or none. A sum or a difference takes the exact results of two
 // ends, rounded downward and upward. A product or a quotient takes all combinations of ends, each rounded
 // once, then the lowest and the highest of them, then the next number outward.
-ghost use mathlib.Core.Bool.{cond};
+ghost use mathlib.Core.Bool.{_&&_, cond};
 ghost use mathlib.Core.Path.{_≡_};
 ghost use lib.Ieee.{binary64};
 ghost use Rattle.fraction.specs.Pair.{addPairs, dividePairs, finiteEnds, highest, largestAbsolute, lowest, multiplyPairs, none, outward, point, subtractPairs};
 ghost use Rattle.certificate.specs.Structs.{endsOf};
 use crate::directed;
+use crate::neighbours;
 
 // The pair from `low` to `high`, if `good`; otherwise none.
 pub struct Ends {
@@ -26,17 +27,24 @@ pub fn both(x: f64) -> Ends
     }
 }
 
-// The pair, if `good`; otherwise none.
+// Both. It compiles to an `and`, with no branch.
+fn and(a: bool, b: bool) -> bool
+    ensures { λ r. ⌜ r ≡ (a && b) ⌝ }
+{
+    if a {
+        return b;
+    }
+    false
+}
+
+// The pair, if `good`; otherwise none. Only the flag is written: no branch waits for it.
 fn kept(good: bool, e: Ends) -> Ends
     ensures { λ r. ⌜ endsOf r ≡ cond good (endsOf e) none ⌝ }
 {
-    if good {
-        return e;
-    }
     Ends {
-        low: 0.0,
-        high: 0.0,
-        good: false,
+        low: e.low,
+        high: e.high,
+        good: and(good, e.good),
     }
 }
 
@@ -71,14 +79,18 @@ pub fn higher(x: f64, y: f64) -> f64
     x
 }
 
-// The lowest and the highest of four combinations, if finite, each moved outward.
+// The lowest and the highest of four combinations, if finite, each moved outward. Two tests after the
+// move are enough.
 fn widened(p: f64, q: f64, r: f64, s: f64) -> Ends
     ensures { λ e. ⌜ endsOf e ≡ outward binary64 p q r s ⌝ }
 {
-    let low = lower(lower(p, q), lower(r, s));
-    let high = higher(higher(p, q), higher(r, s));
-    let e = finite_ends(float::next_down(low), float::next_up(high));
-    kept(float::is_finite(low), kept(float::is_finite(high), e))
+    let low = neighbours::next_down(lower(lower(p, q), lower(r, s)));
+    let high = neighbours::next_up(higher(higher(p, q), higher(r, s)));
+    Ends {
+        low,
+        high,
+        good: and(-1.0 / 0.0 < low, high < 1.0 / 0.0),
+    }
 }
 
 // x + y: the sum of the low ends downward, that of the high ends upward.

@@ -1,4 +1,5 @@
 // The certified figure: how far an axis of a curve can lie from the lines between its waypoints.
+mod neighbours; // neighbours.rt: the next number down and up
 mod directed; // directed.rt: sums rounded downward and upward
 pub mod ends; // ends.rt: pairs of ends
 pub mod intersection; // intersection.rt: the six Bernstein pairs of one intersection

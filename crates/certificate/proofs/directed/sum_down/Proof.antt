@@ -9,17 +9,17 @@ use Rattle.certificate.proofs.directed.sum_down.Tie as tie
 
 returns : tie.Need-returns
 returns c =
-    let j = c .before .before in
-    let s = j .before in
+    let j = c .before in
+    let s = j .before .before in
     let by-test = downward-by-test binary64 (s .args .x) (s .args .y) (rw (s .good .0 .1) tt) (rw (s .good .1 .0 .1) tt) in
     elim (j .if1 .came) [
-      | inl t ↦ rw (by-test, t .taken, c .plain .ensures, c .before .next-down .ensures)
-      | inr t ↦ rw (by-test, t .1 .taken, or-true _, c .plain .ensures, c .before .next-down .ensures)
+      | inl t ↦ rw (by-test, t .taken, c .plain .ensures, j .before .next-down .ensures)
+      | inr t ↦ rw (by-test, t .1 .taken, or-true _, c .plain .ensures, j .before .next-down .ensures)
     ]
 
 returns-2 : tie.Need-returns-2
 returns-2 c =
-    let s = c .before .before .before in
+    let s = c .before .before .before .before in
     let by-test = downward-by-test binary64 (s .args .x) (s .args .y) (rw (s .good .0 .1) tt) (rw (s .good .1 .0 .1) tt) in
     rw (by-test, c .before .before .if1 .left, c .before .if2 .left, c .plain2 .ensures)
 
