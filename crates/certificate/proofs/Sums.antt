@@ -2,7 +2,7 @@
 use mathlib.Core.Bool.{false}
 use mathlib.Core.List.{List, [], _∷_}
 use mathlib.Core.Path.{_∙_, _≡_, ap, refl}
-use Prim.Native.Nat.{ℕ, zero, suc, _+_, _<_}
+use Prim.Native.Nat.{ℕ, zero, suc, _+_, _-_, _<_}
 use native.Mathlib.Numerals.{add-one}
 use native.Mathlib.Omega.{arith}
 use lib.Ieee.{Float, binary64, nan, round}
@@ -10,7 +10,7 @@ use lib.ListN.{getD}
 use Rattle.fraction.specs.Binomial.{choose}
 use Rattle.fraction.specs.Pair as pairs
 use Rattle.figure.specs.Operations.{Operations, ends}
-use Rattle.figure.specs.Intersection.{bernstein, raised, total}
+use Rattle.figure.specs.Intersection.{bernstein, power, raised, total}
 use Rattle.certificate.specs.Structs.{Holds, endsOf, pairAt}
 use Rattle.certificate.specs.declared.ends.Ends.{Ends}
 use Rattle.figure.proofs.Enclosure.{Keeps, bernstein-keeps}
@@ -28,10 +28,13 @@ module _ {A : Type 0} (o : Operations A) where
   unfolding total
   total-more first n m i f s t r a b p q e = rw (e, p, q, ← a, ← b)
 
-  -- one more factor
-  pub raised-more : (u : A) (k : ℕ) (s r : A) → s ≡ raised o u k → r ≡ o .times s u → r ≡ raised o u (k + 1)
-  unfolding raised
-  raised-more u k s r p e = rw (add-one, e, p)
+  -- the terms are the same
+  total-same : (first n : ℕ) (f g : ℕ → A) → ((i : ℕ) → i < n → f (first + i) ≡ g (first + i)) → total o first n f ≡ total o first n g
+  unfolding total
+  total-same first zero f g h = refl
+  total-same first (suc n) f g h =
+      ap (λ (s : A). o .plus s (f (first + n))) (total-same first n f g (λ i l. h i (omega arith)))
+      ∙ ap (o .plus (total o first n g)) (h n (omega arith))
 
 -- each operation keeps equality
 pub same-keeps : {A : Type 0} (o : Operations A) → Keeps o o (_≡_ {A = A})
@@ -61,6 +64,15 @@ holds-six p q r s t u f a b c d e g (suc (suc (suc (suc (suc (suc j)))))) l = ab
 pub holds-bernstein : (l : List Ends) (f : ℕ → pairs.Ends) → Holds l f → (k : ℕ) → k < 6 → bernstein ends (pairAt l) k ≡ bernstein ends f k
 holds-bernstein l f h k m = bernstein-keeps ends ends (_≡_ {A = pairs.Ends}) (same-keeps ends) (pairAt l) f k (omega arith)
     (λ j n. h j (omega arith))
+
+-- power j, of the powers of u that it holds and of w^j
+pub held-power : (p : ℕ → Float) (l : List Ends) (u w v : pairs.Ends) (j : ℕ) → j < 6 → Holds l (raised ends u) → v ≡ raised ends w j
+    → ends .times (total ends j (6 - j) (λ k. ends .times (ends .times (ends .whole (choose k j)) (ends .number (p k))) (pairAt l (k - j)))) v
+    ≡ power ends (λ k. ends .number (p k)) u w j
+unfolding power
+held-power p l u w v j m h e =
+    rw e (ap (λ (s : pairs.Ends). ends .times s (raised ends w j)) (total-same ends j (6 - j) _ _
+    (λ i n. ap (ends .times (ends .times (ends .whole (choose (j + i) j)) (ends .number (p (j + i))))) (h (j + i - j) (omega arith)))))
 
 -- ---- the table of binomials
 -- f i, f (i + 1), .., n of them

@@ -128,6 +128,32 @@ pub fn multiply(x: Ends, y: Ends) -> Ends
     kept(x.good, kept(y.good, e))
 }
 
+// a * b, of two numbers, the second one of which is read.
+pub fn product(a: f64, b: f64) -> Ends
+    ensures { λ r. ⌜ endsOf r ≡ multiplyPairs binary64 (point a) (finiteEnds b b) ⌝ }
+{
+    let v = a * b;
+    kept(float::is_finite(b), widened(v, v, v, v))
+}
+
+// x * c, of a number.
+pub fn multiply_by(x: Ends, c: f64) -> Ends
+    ensures { λ r. ⌜ endsOf r ≡ multiplyPairs binary64 (endsOf x) (point c) ⌝ }
+{
+    let v = x.low * c;
+    let w = x.high * c;
+    kept(x.good, widened(v, v, w, w))
+}
+
+// x / c, of a number; none, where it is not above 0.
+pub fn divide_by(x: Ends, c: f64) -> Ends
+    ensures { λ r. ⌜ endsOf r ≡ dividePairs binary64 (endsOf x) (point c) ⌝ }
+{
+    let v = x.low / c;
+    let w = x.high / c;
+    kept(x.good, kept(0.0 < c, widened(v, v, w, w)))
+}
+
 // None, where the divisor's low end is not above 0.
 pub fn divide(x: Ends, y: Ends) -> Ends
     ensures { λ r. ⌜ endsOf r ≡ dividePairs binary64 (endsOf x) (endsOf y) ⌝ }

@@ -23,7 +23,7 @@ struct Halves {
 fn midpoint(x: Ends, y: Ends) -> Ends
     ensures { λ r. ⌜ endsOf r ≡ midpoint ends (endsOf x) (endsOf y) ⌝ }
 {
-    ends::divide(ends::add(x, y), ends::both(2.0))
+    ends::divide_by(ends::add(x, y), 2.0)
 }
 
 // The edges of de Casteljau's triangle.

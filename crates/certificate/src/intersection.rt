@@ -1,11 +1,13 @@
 // One intersection of a waypoint interval with a segment: document 01, "The certified figure". The six
 // powers of curve minus lineand their Bernstein coefficients, all in pairs of ends.
+ghost use mathlib.Core.Bool.{false};
 ghost use mathlib.Core.Path.{_≡_};
 ghost use Prim.Native.Nat.{_-_, _<_, _≤_};
+ghost use lib.Ieee.{binary64, round};
 ghost use Rattle.window.specs.Cells.{at};
 ghost use Rattle.fraction.specs.Binomial.{choose};
 ghost use Rattle.figure.specs.Operations.{ends};
-ghost use Rattle.figure.specs.Intersection.{bernstein, differenceBernstein, differencePower, lineAtLeft, lineRise, offset, power, raised, scale};
+ghost use Rattle.figure.specs.Intersection.{bernstein, differenceBernstein, differencePower, lineAtLeft, lineRise, offset, raised, scale, total};
 ghost use Rattle.figure.specs.Figure.{absoluteEnd, larger};
 ghost use Rattle.certificate.specs.Structs.{Holds, endsOf, figureIn, intersectionOf, pairAt};
 use crate::ends;
@@ -77,11 +79,11 @@ pub(crate) fn absolute_end(e: Ends) -> Figure
 }
 
 // A binomial coefficient.
-fn binomial(k: usize, j: usize) -> Ends
+fn binomial(k: usize, j: usize) -> f64
     requires { ⌜ (k < 6) × (j < 6) ⌝ }
-    ensures { λ r. ⌜ endsOf r ≡ ends .whole (choose k j) ⌝ }
+    ensures { λ r. ⌜ r ≡ round binary64 false (choose k j) 1 ⌝ }
 {
-    ends::both(CHOOSE[k][j])
+    CHOOSE[k][j]
 }
 
 // a - b, of two numbers that are read.
@@ -122,40 +124,42 @@ fn line_rise(x: Intersection) -> Ends
     ends::multiply(part, difference(x.second, x.first))
 }
 
-// u^k: "Powers multiply up from 1".
-fn raise(u: Ends, k: usize) -> Ends
-    ensures { λ r. ⌜ endsOf r ≡ raised ends (endsOf u) k ⌝ }
+// u^0 .. u^5: "Powers multiply up from 1".
+fn powers_of(u: Ends) -> Powers
+    ensures { λ r. ⌜ Holds (r .ends) (raised ends (endsOf u)) ⌝ }
 {
-    let mut e = ends::both(1.0);
-    let mut i = 0;
-    while i < k {
-        e = ends::multiply(e, u);
-        i += 1;
+    let u0 = ends::both(1.0);
+    let u1 = ends::multiply(u0, u);
+    let u2 = ends::multiply(u1, u);
+    let u3 = ends::multiply(u2, u);
+    let u4 = ends::multiply(u3, u);
+    let u5 = ends::multiply(u4, u);
+    Powers {
+        ends: [u0, u1, u2, u3, u4, u5],
     }
-    e
 }
 
-// C(k, j)·p·u^(k - j).
+// C(k, j)·p·u, of which u is the power k - j.
 fn term(p: f64, u: Ends, k: usize, j: usize) -> Ends
     requires { ⌜ (k < 6) × (j ≤ k) ⌝ }
-    ensures { λ r. ⌜ endsOf r ≡ ends .times (ends .times (ends .whole (choose k j)) (ends .number p)) (raised ends (endsOf u) (k - j)) ⌝ }
+    ensures { λ r. ⌜ endsOf r ≡ ends .times (ends .times (ends .whole (choose k j)) (ends .number p)) (endsOf u) ⌝ }
 {
-    let c = ends::multiply(binomial(k, j), ends::finite_ends(p, p));
-    ends::multiply(c, raise(u, k - j))
+    ends::multiply(ends::product(binomial(k, j), p), u)
 }
 
-// Power j: the sum of the terms from k = j on, times w^j.
-fn power(p: [f64; 6], u: Ends, w: Ends, j: usize) -> Ends
+// Power j: the sum of the terms from k = j on, times w, which is w^j. u holds the powers of u.
+fn power(p: [f64; 6], u: Powers, w: Ends, j: usize) -> Ends
     requires { ⌜ j < 6 ⌝ }
-    ensures { λ r. ⌜ endsOf r ≡ power ends (λ k. ends .number (at p k)) (endsOf u) (endsOf w) j ⌝ }
+    ensures { λ r. ⌜ endsOf r ≡ ends .times (total ends j (6 - j) (λ k. ends .times (ends .times (ends .whole (choose k j))
+        (ends .number (at p k))) (pairAt (u .ends) (k - j)))) (endsOf w) ⌝ }
 {
     let mut sum = ends::both(0.0);
     let mut k = j;
     while k < 6 {
-        sum = ends::add(sum, term(p[k], u, k, j));
+        sum = ends::add(sum, term(p[k], u.ends[k - j], k, j));
         k += 1;
     }
-    ends::multiply(sum, raise(w, j))
+    ends::multiply(sum, w)
 }
 
 // The powers of curve minus line.
@@ -163,16 +167,17 @@ fn difference_powers(x: Intersection) -> Powers
     ensures { λ r. ⌜ Holds (r .ends) (differencePower ends (intersectionOf x)) ⌝ }
 {
     let p = x.coefficients;
-    let u = offset(x);
-    let w = scale(x);
+    let u = powers_of(offset(x));
+    let ws = powers_of(scale(x));
+    let w = ws.ends;
     Powers {
         ends: [
-            ends::subtract(power(p, u, w, 0), line_at_left(x)),
-            ends::subtract(power(p, u, w, 1), line_rise(x)),
-            power(p, u, w, 2),
-            power(p, u, w, 3),
-            power(p, u, w, 4),
-            power(p, u, w, 5),
+            ends::subtract(power(p, u, w[0], 0), line_at_left(x)),
+            ends::subtract(power(p, u, w[1], 1), line_rise(x)),
+            power(p, u, w[2], 2),
+            power(p, u, w[3], 3),
+            power(p, u, w[4], 4),
+            power(p, u, w[5], 5),
         ],
     }
 }
@@ -185,8 +190,8 @@ fn bernstein(q: Powers, k: usize) -> Ends
     let mut sum = ends::both(0.0);
     let mut j = 0;
     while j < k + 1 {
-        let c = ends::multiply(q.ends[j], binomial(k, j));
-        sum = ends::add(sum, ends::divide(c, binomial(5, j)));
+        let c = ends::multiply_by(q.ends[j], binomial(k, j));
+        sum = ends::add(sum, ends::divide_by(c, binomial(5, j)));
         j += 1;
     }
     sum

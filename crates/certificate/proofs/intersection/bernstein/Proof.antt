@@ -36,10 +36,10 @@ loop-again c =
     let l = at-loop .loop in
     let a = at-loop .before .before .args in
     let f = terms (pairAt (a .t1 .ends)) (a .k) in
-    let t : endsOf (d .divide .result) ≡ f (l .j) = rw (
-      d .divide .ensures,
+    let t : endsOf (d .divide-by .result) ≡ f (l .j) = rw (
+      d .divide-by .ensures,
       d .before .binomial2 .ensures,
-      m .multiply .ensures,
+      m .multiply-by .ensures,
       b .binomial .ensures,
     ) in
     (omega arith, total-more ends 0 (l .j) (l .j + 1) (l .j) f _ _ _ (omega arith) (omega arith) (l .inv .1) t (c .add .ensures))

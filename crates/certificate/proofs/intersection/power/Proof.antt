@@ -8,22 +8,23 @@ use lib.Ieee.{Float, ofBits, round}
 use Rattle.window.specs.Cells.{at}
 use Rattle.fraction.specs.Binomial.{choose}
 use Rattle.fraction.specs.Pair as pairs
-use Rattle.figure.specs.Intersection.{power, raised, total}
+use Rattle.figure.specs.Intersection.{total}
 use Rattle.figure.specs.Operations.{ends}
-use Rattle.certificate.specs.Structs.{endsOf}
+use Rattle.certificate.specs.Structs.{endsOf, pairAt}
+use Rattle.certificate.specs.declared.ends.Ends.{Ends}
 use Rattle.certificate.proofs.Sums.{total-more, total-none}
 use Rattle.certificate.proofs.intersection.power.Statement.{statement}
 use Rattle.certificate.proofs.intersection.power.Tie as tie
 
 -- the terms of power j
-abbrev terms : List Float → pairs.Ends → ℕ → ℕ → pairs.Ends
-terms p u j k = ends .times (ends .times (ends .whole (choose k j)) (ends .number (at p k))) (raised ends u (k - j))
+abbrev terms : List Float → List Ends → ℕ → ℕ → pairs.Ends
+terms p u j k = ends .times (ends .times (ends .whole (choose k j)) (ends .number (at p k))) (pairAt u (k - j))
 
 abbrev Inv-loop : tie.InvT-loop
-Inv-loop u w j p sum₀ k₀ sum k = (j ≤ k) × (k ≤ 6) × (endsOf sum ≡ total ends j (k - j) (terms p (endsOf u) j))
+Inv-loop w j p u sum₀ k₀ sum k = (j ≤ k) × (k ≤ 6) × (endsOf sum ≡ total ends j (k - j) (terms p (u .ends) j))
 
 abbrev μ-loop : tie.MeasureT-loop
-μ-loop u w j p sum₀ k₀ sum k = 6 - k
+μ-loop w j p u sum₀ k₀ sum k = 6 - k
 
 loop-holds : tie.Need-loop-holds Inv-loop μ-loop
 unfolding ofBits round
@@ -31,25 +32,24 @@ loop-holds c = (omega arith, omega arith, c .both .ensures ∙ total-none ends _
 
 loop-again : tie.Need-loop-again Inv-loop μ-loop
 loop-again c =
-    let at-loop = c .before .before .before in
+    let at-loop = c .before .before .before .before in
     let l = at-loop .loop in
     let a = at-loop .before .before .args in (
       omega arith,
       omega arith,
-      total-more ends (a .j) (l .k - a .j) (l .k + 1 - a .j) (l .k) (terms (a .t1) (endsOf (a .u)) (a .j)) _ _ _
+      total-more ends (a .j) (l .k - a .j) (l .k + 1 - a .j) (l .k) (terms (a .t1) (a .t2 .ends) (a .j)) _ _ _
           (omega arith) (omega arith) (l .inv .2) (c .before .term .ensures) (c .add .ensures),
     )
 
 returns : tie.Need-returns Inv-loop μ-loop
-unfolding power
 returns c =
-    let at-loop = c .before .before .before in
+    let at-loop = c .before .before in
     let e : at-loop .loop .k ≡ 6 = omega arith in
-    rw (c .multiply .ensures, c .before .raise .ensures, at-loop .loop .inv .2, e)
+    rw (c .multiply .ensures, at-loop .loop .inv .2, e)
 
 pub power-spec : {M : Type 1} → statement M
 power-spec =
     tie.close
-    (tie.spec Inv-loop μ-loop (λ c κs. search needs) loop-holds (λ c. omega arith) (λ c. omega arith) (λ c κs. omega arith)
-    (λ c κs. search needs) (λ c. omega arith) (λ c. omega arith)
-    loop-again (λ c κs. search needs) (λ c κs. search needs) returns)
+    (tie.spec Inv-loop μ-loop (λ c κs. search needs) loop-holds (λ c. omega arith) (λ c. omega arith) (λ c. omega arith) (λ c. omega arith)
+    (λ c. omega arith) (λ c κs. omega arith) (λ c κs. search needs) (λ c. omega arith) (λ c. omega arith) loop-again (λ c κs. search needs)
+    returns)
