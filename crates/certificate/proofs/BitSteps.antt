@@ -7,9 +7,9 @@ use native.Mathlib.Decide.{decLt}
 use native.Mathlib.Omega.{arith}
 use lib.Dec.{T}
 use lib.Ieee.{Float, binary64, div, fin, fits, inf, isNan, lt, nan, neg, ofBits, toBits}
-use Rattle.fraction.specs.NextNumber.{downBits, nextDown, nextUp, upBits}
+use Rattle.fraction.specs.NextNumber.{downBits, nextDown, upBits}
 use Rattle.fraction.proofs.NextNumber.{down-when-negative, down-when-plus-zero, down-when-positive, next-down-infinity, next-down-nan}
-use Rattle.fraction.proofs.NextNumber.{next-up-infinity, next-up-nan, up-when-minus-zero, up-when-negative, up-when-positive}
+use Rattle.fraction.proofs.NextNumber.{up-when-minus-zero, up-when-negative, up-when-positive}
 use Rattle.fraction.proofs.Value.{Encoded, encoded}
 
 -- z is b, but t for f
@@ -77,26 +77,19 @@ up-step b z p l = elim (decLt 0x8000_0000_0000_0000 b) [
     low (inr h) g = absurd (omega arith)
 
 -- ---- the tests against an infinity
--- the code's -1/0 and 1/0
-abbrev pub plusInfinity : Float
-plusInfinity = div binary64 (ofBits binary64 0x3ff0_0000_0000_0000) (ofBits binary64 0)
-
+-- the code's -1/0
 abbrev pub minusInfinity : Float
 minusInfinity = div binary64 (neg (ofBits binary64 0x3ff0_0000_0000_0000)) (ofBits binary64 0)
-
-pub plus-infinity-is : plusInfinity ≡ inf false
-unfolding div ofBits
-plus-infinity-is = refl
 
 pub minus-infinity-is : minusInfinity ≡ inf true
 unfolding div neg ofBits
 minus-infinity-is = refl
 
--- x is above -∞
-module _ (x : Float) (h : lt minusInfinity x ≡ true) where
-  above : lt (inf true) x ≡ true
-  above = ap (λ (z : Float). lt z x) (sym minus-infinity-is) ∙ h
+pub above-infinity : (x : Float) → lt minusInfinity x ≡ true → lt (inf true) x ≡ true
+above-infinity x h = ap (λ (z : Float). lt z x) (sym minus-infinity-is) ∙ h
 
+-- x is above -∞
+module _ (x : Float) (above : lt (inf true) x ≡ true) where
   pub above-number : isNan x ≡ false
   unfolding isNan lt
   above-number = go x above
@@ -136,10 +129,7 @@ not-above x h = go x (ap (λ (z : Float). lt z x) (sym minus-infinity-is) ∙ h)
     go (fin s m e) h = absurd (true≢false h)
 
 -- x is below +∞
-module _ (x : Float) (h : lt x plusInfinity ≡ true) where
-  below : lt x (inf false) ≡ true
-  below = ap (lt x) (sym plus-infinity-is) ∙ h
-
+module _ (x : Float) (below : lt x (inf false) ≡ true) where
   pub below-number : isNan x ≡ false
   unfolding isNan lt
   below-number = go x below
@@ -166,13 +156,3 @@ module _ (x : Float) (h : lt x plusInfinity ≡ true) where
               → Below (toBits binary64 (fin s m e))
           by true p e l = (inr (omega arith), omega arith)
           by false p e l = (inl (omega arith), omega arith)
-
-pub not-below : (x : Float) → lt x plusInfinity ≡ false → x ≡ nextUp binary64 x
-unfolding lt
-not-below x h = go x (ap (lt x) (sym plus-infinity-is) ∙ h)
-  where
-    go : (x : Float) → lt x (inf false) ≡ false → x ≡ nextUp binary64 x
-    go nan h = sym (next-up-nan binary64)
-    go (inf false) h = sym (next-up-infinity binary64)
-    go (inf true) h = absurd (true≢false h)
-    go (fin s m e) h = absurd (true≢false h)

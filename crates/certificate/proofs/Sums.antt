@@ -65,6 +65,12 @@ pub holds-bernstein : (l : List Ends) (f : ℕ → pairs.Ends) → Holds l f →
 holds-bernstein l f h k m = bernstein-keeps ends ends (_≡_ {A = pairs.Ends}) (same-keeps ends) (pairAt l) f k (omega arith)
     (λ j n. h j (omega arith))
 
+-- the first one
+pub bernstein-zero : (q : ℕ → pairs.Ends) → ends .plus (ends .whole 0) (ends .over (ends .times (q 0) (ends .whole 1)) (ends .whole 1))
+    ≡ bernstein ends q 0
+unfolding bernstein
+bernstein-zero q = refl
+
 -- power j, of the powers of u that it holds and of w^j
 pub held-power : (p : ℕ → Float) (l : List Ends) (u w v : pairs.Ends) (j : ℕ) → j < 6 → Holds l (raised ends u) → v ≡ raised ends w j
     → ends .times (total ends j (6 - j) (λ k. ends .times (ends .times (ends .whole (choose k j)) (ends .number (p k))) (pairAt l (k - j)))) v

@@ -3,7 +3,7 @@ use Prim.Native.Nat.{ℕ, _<_}
 use mathlib.Core.Bool.{cond, false}
 use mathlib.Core.List.{List}
 use mathlib.Core.Path.{_≡_}
-use lib.Ieee.{nan}
+use lib.Ieee.{Float, binary64, nan, ofBits}
 use lib.ListN.{getD}
 use Rattle.window.specs.Cells.{at}
 use Rattle.fraction.specs.Pair.{none, pair}
@@ -15,6 +15,13 @@ use Rattle.certificate.specs.declared.ends.Ends.{Ends}
 use Rattle.certificate.specs.declared.intersection.Figure.{Figure}
 use Rattle.certificate.specs.declared.intersection.Figure.the-variants.{Known, None}
 use Rattle.certificate.specs.declared.intersection.Intersection.{Intersection}
+
+-- the lowest and the largest f64: -1.7976931348623157e308 and 1.7976931348623157e308
+abbrev pub lowestNumber : Float
+lowestNumber = ofBits binary64 0xffef_ffff_ffff_ffff
+
+abbrev pub largestNumber : Float
+largestNumber = ofBits binary64 0x7fef_ffff_ffff_ffff
 
 -- the ends, if the struct says that there are any
 abbrev pub endsOf : Ends → pairs.Ends

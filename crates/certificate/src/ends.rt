@@ -3,9 +3,9 @@
 // once, then the lowest and the highest of them, then the next number outward.
 ghost use mathlib.Core.Bool.{_&&_, cond};
 ghost use mathlib.Core.Path.{_≡_};
-ghost use lib.Ieee.{binary64};
+ghost use lib.Ieee.{binary64, lt};
 ghost use Rattle.fraction.specs.Pair.{addPairs, dividePairs, finiteEnds, highest, largestAbsolute, lowest, multiplyPairs, none, outward, point, subtractPairs};
-ghost use Rattle.certificate.specs.Structs.{endsOf};
+ghost use Rattle.certificate.specs.Structs.{endsOf, largestNumber, lowestNumber};
 use crate::directed;
 use crate::neighbours;
 
@@ -79,17 +79,35 @@ pub fn higher(x: f64, y: f64) -> f64
     x
 }
 
-// The lowest and the highest of four combinations, if finite, each moved outward. Two tests after the
-// move are enough.
+// Whether both can be moved outward and stay finite: the one is above the lowest number, the other below
+// the largest.
+fn movable(low: f64, high: f64) -> bool
+    ensures { λ r. ⌜ r ≡ (lt lowestNumber low && lt high largestNumber) ⌝ }
+{
+    if -1.7976931348623157e308 < low {
+        return high < 1.7976931348623157e308;
+    }
+    false
+}
+
+// The lowest and the highest of four combinations, if finite, each moved outward. One test of each is
+// enough, since a lowest of +infinity leaves a highest of +infinity.
 fn widened(p: f64, q: f64, r: f64, s: f64) -> Ends
     ensures { λ e. ⌜ endsOf e ≡ outward binary64 p q r s ⌝ }
 {
-    let low = neighbours::next_down(lower(lower(p, q), lower(r, s)));
-    let high = neighbours::next_up(higher(higher(p, q), higher(r, s)));
+    let low = lower(lower(p, q), lower(r, s));
+    let high = higher(higher(p, q), higher(r, s));
+    if movable(low, high) {
+        return Ends {
+            low: neighbours::step_down(low),
+            high: neighbours::step_up(high),
+            good: true,
+        };
+    }
     Ends {
-        low,
-        high,
-        good: and(-1.0 / 0.0 < low, high < 1.0 / 0.0),
+        low: 0.0,
+        high: 0.0,
+        good: false,
     }
 }
 

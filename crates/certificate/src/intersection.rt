@@ -182,13 +182,21 @@ fn difference_powers(x: Intersection) -> Powers
     }
 }
 
-// Bernstein coefficient k: the sum over j up to k of power j·C(k, j)/C(5, j).
-fn bernstein(q: Powers, k: usize) -> Ends
-    requires { ⌜ k < 6 ⌝ }
+// Bernstein coefficient 0 of power 0. The sums of the others begin with it too: C(k, 0) is 1.
+fn first(p: Ends) -> Ends
+    ensures { λ r. ⌜ endsOf r ≡ ends .plus (ends .whole 0) (ends .over (ends .times (endsOf p) (ends .whole 1)) (ends .whole 1)) ⌝ }
+{
+    let c = ends::multiply_by(p, 1.0);
+    ends::add(ends::both(0.0), ends::divide_by(c, 1.0))
+}
+
+// Bernstein coefficient k: the sum over j up to k of power j·C(k, j)/C(5, j), from j = 1 on.
+fn bernstein(q: Powers, first: Ends, k: usize) -> Ends
+    requires { ⌜ (k < 6) × (endsOf first ≡ bernstein ends (pairAt (q .ends)) 0) ⌝ }
     ensures { λ r. ⌜ endsOf r ≡ bernstein ends (pairAt (q .ends)) k ⌝ }
 {
-    let mut sum = ends::both(0.0);
-    let mut j = 0;
+    let mut sum = first;
+    let mut j = 1;
     while j < k + 1 {
         let c = ends::multiply_by(q.ends[j], binomial(k, j));
         sum = ends::add(sum, ends::divide_by(c, binomial(5, j)));
@@ -202,14 +210,15 @@ pub(crate) fn bernstein_pairs(x: Intersection) -> Six
     ensures { λ r. ⌜ Holds (r .ends) (differenceBernstein ends (intersectionOf x)) ⌝ }
 {
     let q = difference_powers(x);
+    let b = first(q.ends[0]);
     Six {
         ends: [
-            bernstein(q, 0),
-            bernstein(q, 1),
-            bernstein(q, 2),
-            bernstein(q, 3),
-            bernstein(q, 4),
-            bernstein(q, 5),
+            b,
+            bernstein(q, b, 1),
+            bernstein(q, b, 2),
+            bernstein(q, b, 3),
+            bernstein(q, b, 4),
+            bernstein(q, b, 5),
         ],
     }
 }

@@ -1,9 +1,9 @@
-// The next number down and up, without a branch that depends on the sign: one step of the bits. A branch
-// is left for an infinity or a NaN.
+// The next number down and up, without a branch that depends on the sign: one step of the bits.
+ghost use mathlib.Core.Bool.{false, true};
 ghost use mathlib.Core.Logic.{_⊎_};
 ghost use mathlib.Core.Path.{_≡_};
 ghost use Prim.Native.Nat.{_<_, _≤_};
-ghost use lib.Ieee.{binary64};
+ghost use lib.Ieee.{binary64, inf, lt};
 ghost use Rattle.fraction.specs.NextNumber.{downBits, nextDown, nextUp, upBits};
 
 // b, but the pattern `to` for the pattern `from`.
@@ -33,22 +33,28 @@ fn up_bits(b: u64) -> u64
     z + 1 - 2 * (z >> 63)
 }
 
+// The greatest number below x, which is above -infinity.
+pub(crate) fn step_down(x: f64) -> f64
+    requires { ⌜ lt (inf true) x ≡ true ⌝ }
+    ensures { λ r. ⌜ r ≡ nextDown binary64 x ⌝ }
+{
+    f64::from_bits(down_bits(f64::to_bits(x)))
+}
+
+// The least number above x, which is below +infinity.
+pub(crate) fn step_up(x: f64) -> f64
+    requires { ⌜ lt x (inf false) ≡ true ⌝ }
+    ensures { λ r. ⌜ r ≡ nextUp binary64 x ⌝ }
+{
+    f64::from_bits(up_bits(f64::to_bits(x)))
+}
+
 // The greatest number below x; the lowest goes to -infinity. -infinity and a NaN stay.
 pub(crate) fn next_down(x: f64) -> f64
     ensures { λ r. ⌜ r ≡ nextDown binary64 x ⌝ }
 {
     if -1.0 / 0.0 < x {
-        return f64::from_bits(down_bits(f64::to_bits(x)));
-    }
-    x
-}
-
-// The least number above x; the largest goes to +infinity. +infinity and a NaN stay.
-pub(crate) fn next_up(x: f64) -> f64
-    ensures { λ r. ⌜ r ≡ nextUp binary64 x ⌝ }
-{
-    if x < 1.0 / 0.0 {
-        return f64::from_bits(up_bits(f64::to_bits(x)));
+        return step_down(x);
     }
     x
 }

@@ -3,13 +3,12 @@ use mathlib.Core.Path.{_∙_, _≡_, ap}
 use Prim.Native.Nat.{ℕ, suc, _+_, _-_, _≤_}
 use native.Mathlib.Omega.{arith}
 use borrow.Author.Needs.{needs}
-use lib.Ieee.{ofBits, round}
 use Rattle.fraction.specs.Binomial.{choose}
 use Rattle.fraction.specs.Pair as pairs
 use Rattle.figure.specs.Intersection.{bernstein, total}
 use Rattle.figure.specs.Operations.{ends}
 use Rattle.certificate.specs.Structs.{endsOf, pairAt}
-use Rattle.certificate.proofs.Sums.{total-more, total-none}
+use Rattle.certificate.proofs.Sums.{total-more}
 use Rattle.certificate.proofs.intersection.bernstein.Statement.{statement}
 use Rattle.certificate.proofs.intersection.bernstein.Tie as tie
 
@@ -24,8 +23,8 @@ abbrev μ-loop : tie.MeasureT-loop
 μ-loop k q sum₀ j₀ sum j = k + 1 - j
 
 loop-holds : tie.Need-loop-holds Inv-loop μ-loop
-unfolding ofBits round
-loop-holds c = (omega arith, c .both .ensures ∙ total-none ends 0 0 _ (omega arith))
+unfolding bernstein
+loop-holds c = (omega arith, c .pre .1)
 
 loop-again : tie.Need-loop-again Inv-loop μ-loop
 loop-again c =
@@ -34,7 +33,7 @@ loop-again c =
     let b = m .before in
     let at-loop = b .before .before .before in
     let l = at-loop .loop in
-    let a = at-loop .before .before .args in
+    let a = at-loop .before .args in
     let f = terms (pairAt (a .t1 .ends)) (a .k) in
     let t : endsOf (d .divide-by .result) ≡ f (l .j) = rw (
       d .divide-by .ensures,
@@ -47,13 +46,13 @@ loop-again c =
 returns : tie.Need-returns Inv-loop μ-loop
 unfolding bernstein
 returns c =
-    let a = c .before .before .before .args in
+    let a = c .before .before .args in
     let e : c .before .loop .j ≡ suc (a .k) = omega arith in
     c .before .loop .inv .1 ∙ ap (λ (n : ℕ). total ends 0 n (terms (pairAt (a .t1 .ends)) (a .k))) e
 
 pub bernstein-spec : {M : Type 1} → statement M
 bernstein-spec =
     tie.close
-    (tie.spec Inv-loop μ-loop (λ c κs. search needs) loop-holds (λ c. omega arith) (λ c. omega arith) (λ c. omega arith)
+    (tie.spec Inv-loop μ-loop loop-holds (λ c. omega arith) (λ c. omega arith) (λ c. omega arith)
     (λ c κs. omega arith) (λ c κs. search needs)
     (λ c κs. omega arith) (λ c κs. search needs) (λ c κs. search needs) (λ c. omega arith) (λ c. omega arith) loop-again returns)

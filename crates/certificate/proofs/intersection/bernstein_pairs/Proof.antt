@@ -1,11 +1,11 @@
 -- `intersection::bernstein_pairs` meets its contract.
-use mathlib.Core.Path.{_∙_}
+use mathlib.Core.Path.{_∙_, _≡_}
 use native.Mathlib.Omega.{arith}
 use borrow.Author.Needs.{needs}
-use Rattle.figure.specs.Intersection.{differencePower}
+use Rattle.figure.specs.Intersection.{bernstein, differencePower}
 use Rattle.figure.specs.Operations.{ends}
-use Rattle.certificate.specs.Structs.{intersectionOf}
-use Rattle.certificate.proofs.Sums.{holds-bernstein, holds-six}
+use Rattle.certificate.specs.Structs.{endsOf, intersectionOf, pairAt}
+use Rattle.certificate.proofs.Sums.{bernstein-zero, holds-bernstein, holds-six}
 use Rattle.certificate.proofs.intersection.bernstein_pairs.Statement.{statement}
 use Rattle.certificate.proofs.intersection.bernstein_pairs.Tie as tie
 
@@ -16,19 +16,27 @@ returns c =
     let b2 = b3 .before in
     let b1 = b2 .before in
     let b0 = b1 .before in
-    let q = b0 .before in
+    let q = b0 .before .before in
     let p = differencePower ends (intersectionOf (q .before .args .x)) in
     let h = holds-bernstein (q .difference-powers .result .ends) p (q .difference-powers .ensures) in
     holds-six _ _ _ _ _ _ _
-    (b0 .bernstein .ensures ∙ h 0 (omega arith))
-    (b1 .bernstein2 .ensures ∙ h 1 (omega arith))
-    (b2 .bernstein3 .ensures ∙ h 2 (omega arith))
-    (b3 .bernstein4 .ensures ∙ h 3 (omega arith))
-    (b4 .bernstein5 .ensures ∙ h 4 (omega arith))
-    (c .bernstein6 .ensures ∙ h 5 (omega arith))
+    (b0 .first .ensures ∙ bernstein-zero (pairAt (q .difference-powers .result .ends)) ∙ h 0 (omega arith))
+    (b1 .bernstein .ensures ∙ h 1 (omega arith))
+    (b2 .bernstein2 .ensures ∙ h 2 (omega arith))
+    (b3 .bernstein3 .ensures ∙ h 3 (omega arith))
+    (b4 .bernstein4 .ensures ∙ h 4 (omega arith))
+    (c .bernstein5 .ensures ∙ h 5 (omega arith))
+
+-- the first, at each call
+first-is : (c : tie.After-first) → endsOf (c .first .result) ≡ bernstein ends (pairAt (c .before .before .difference-powers .result .ends)) 0
+first-is c = c .first .ensures ∙ bernstein-zero (pairAt (c .before .before .difference-powers .result .ends))
 
 pub bernstein-pairs-spec : {M : Type 1} → statement M
 bernstein-pairs-spec =
     tie.close
-    (tie.spec (λ c κs. search needs) (λ c κs. search needs) (λ c κs. search needs) (λ c κs. search needs) (λ c κs. search needs)
-    (λ c κs. search needs) (λ c κs. search needs) returns)
+    (tie.spec (λ c κs. search needs) (λ c. search needs) (λ c κs. search needs)
+    (λ c κs. (omega arith, first-is c))
+    (λ c κs. (omega arith, first-is (c .before)))
+    (λ c κs. (omega arith, first-is (c .before .before)))
+    (λ c κs. (omega arith, first-is (c .before .before .before)))
+    (λ c κs. (omega arith, first-is (c .before .before .before .before))) returns)
