@@ -1,12 +1,11 @@
--- What the code of an intersection is proved by: laws of its sums and powers, of its array of six pairs, and of its table of binomials.
-use mathlib.Core.Bool.{false}
+-- What the code of an intersection is proved by: laws of its sums and powers, and of its arrays of six pairs or numbers.
 use mathlib.Core.List.{List, [], _∷_}
 use mathlib.Core.Path.{_∙_, _≡_, ap, refl}
 use Prim.Native.Nat.{ℕ, zero, suc, _+_, _-_, _<_}
 use native.Mathlib.Numerals.{add-one}
 use native.Mathlib.Omega.{arith}
-use lib.Ieee.{Float, binary64, nan, round}
-use lib.ListN.{getD}
+use lib.Ieee.{Float}
+use Rattle.window.specs.Cells.{at}
 use Rattle.fraction.specs.Binomial.{choose}
 use Rattle.fraction.specs.Pair as pairs
 use Rattle.figure.specs.Operations.{Operations, ends}
@@ -80,24 +79,13 @@ held-power p l u w v j m h e =
     rw e (ap (λ (s : pairs.Ends). ends .times s (raised ends w j)) (total-same ends j (6 - j) _ _
     (λ i n. ap (ends .times (ends .times (ends .whole (choose (j + i) j)) (ends .number (p (j + i))))) (h (j + i - j) (omega arith)))))
 
--- ---- the table of binomials
--- f i, f (i + 1), .., n of them
-unfoldable pub listed : {A : Type 0} → (ℕ → A) → ℕ → ℕ → List A
-listed f i zero = []
-listed f i (suc n) = f i ∷ listed f (suc i) n
-
-listed-at : {A : Type 0} (f : ℕ → A) (i n k : ℕ) (d : A) → k < n → getD (listed f i n) k d ≡ f (i + k)
-unfolding listed
-listed-at f i zero k d l = absurd (omega arith)
-listed-at f i (suc n) zero d l = ap f (omega arith)
-listed-at f i (suc n) (suc k) d l = listed-at f (suc i) n k d (omega arith) ∙ ap f (omega arith)
-
--- C(k, j) at j of row k, as f64
-unfoldable pub binomials : List (List Float)
-binomials = listed (λ k. listed (λ j. round binary64 false (choose k j) 1) 0 6) 0 6
-
-pub binomial-at : (k j : ℕ) → k < 6 → j < 6 → getD (getD binomials k []) j nan ≡ round binary64 false (choose k j) 1
-unfolding binomials
-binomial-at k j hk hj =
-    let z : (n : ℕ) → 0 + n ≡ n = λ n. omega arith in
-    ap (λ (r : List Float). getD r j nan) (listed-at _ 0 6 k [] hk) ∙ listed-at _ 0 6 j nan hj ∙ rw (z j, z k)
+-- ---- an array of six numbers
+pub six-at : (a b c d e g : Float) (f : ℕ → Float) → a ≡ f 0 → b ≡ f 1 → c ≡ f 2 → d ≡ f 3 → e ≡ f 4 → g ≡ f 5 → (i : ℕ) → i < 6
+    → at (a ∷ b ∷ c ∷ d ∷ e ∷ g ∷ []) i ≡ f i
+six-at a b c d e g f p q r s t u zero l = p
+six-at a b c d e g f p q r s t u (suc zero) l = q
+six-at a b c d e g f p q r s t u (suc (suc zero)) l = r
+six-at a b c d e g f p q r s t u (suc (suc (suc zero))) l = s
+six-at a b c d e g f p q r s t u (suc (suc (suc (suc zero)))) l = t
+six-at a b c d e g f p q r s t u (suc (suc (suc (suc (suc zero))))) l = u
+six-at a b c d e g f p q r s t u (suc (suc (suc (suc (suc (suc i)))))) l = absurd (omega arith)

@@ -2,10 +2,11 @@
 // powers of curve minus lineand their Bernstein coefficients, all in pairs of ends.
 ghost use mathlib.Core.Bool.{false};
 ghost use mathlib.Core.Path.{_≡_};
-ghost use Prim.Native.Nat.{_-_, _<_, _≤_};
+ghost use Prim.Native.Nat.{_-_, _<_, ℕ};
 ghost use lib.Ieee.{binary64, round};
 ghost use Rattle.window.specs.Cells.{at};
 ghost use Rattle.fraction.specs.Binomial.{choose};
+ghost use Rattle.fraction.specs.Pair.{point};
 ghost use Rattle.figure.specs.Operations.{ends};
 ghost use Rattle.figure.specs.Intersection.{bernstein, differenceBernstein, differencePower, lineAtLeft, lineRise, offset, raised, scale, total};
 ghost use Rattle.figure.specs.Figure.{absoluteEnd, larger};
@@ -45,16 +46,6 @@ pub struct Six {
     pub ends: [Ends; 6],
 }
 
-// C(k, j) at j of row k.
-const CHOOSE: [[f64; 6]; 6] = [
-    [1., 0., 0., 0., 0., 0.],
-    [1., 1., 0., 0., 0., 0.],
-    [1., 2., 1., 0., 0., 0.],
-    [1., 3., 3., 1., 0., 0.],
-    [1., 4., 6., 4., 1., 0.],
-    [1., 5., 10., 10., 5., 1.],
-];
-
 // The larger of two; none, where one is none.
 pub fn larger(x: Figure, y: Figure) -> Figure
     ensures { λ r. ⌜ figureIn r ≡ larger (figureIn x) (figureIn y) ⌝ }
@@ -76,14 +67,6 @@ pub(crate) fn absolute_end(e: Ends) -> Figure
         return Figure::Known(ends::largest_end(e));
     }
     Figure::None
-}
-
-// A binomial coefficient.
-fn binomial(k: usize, j: usize) -> f64
-    requires { ⌜ (k < 6) × (j < 6) ⌝ }
-    ensures { λ r. ⌜ r ≡ round binary64 false (choose k j) 1 ⌝ }
-{
-    CHOOSE[k][j]
 }
 
 // a - b, of two numbers that are read.
@@ -139,24 +122,24 @@ fn powers_of(u: Ends) -> Powers
     }
 }
 
-// C(k, j)·p·u, of which u is the power k - j.
-fn term(p: f64, u: Ends, k: usize, j: usize) -> Ends
-    requires { ⌜ (k < 6) × (j ≤ k) ⌝ }
-    ensures { λ r. ⌜ endsOf r ≡ ends .times (ends .times (ends .whole (choose k j)) (ends .number p)) (endsOf u) ⌝ }
+// c·p·u.
+fn term(c: f64, p: f64, u: Ends) -> Ends
+    ensures { λ r. ⌜ endsOf r ≡ ends .times (ends .times (point c) (ends .number p)) (endsOf u) ⌝ }
 {
-    ends::multiply(ends::product(binomial(k, j), p), u)
+    ends::multiply(ends::product(c, p), u)
 }
 
-// Power j: the sum of the terms from k = j on, times w, which is w^j. u holds the powers of u.
-fn power(p: [f64; 6], u: Powers, w: Ends, j: usize) -> Ends
-    requires { ⌜ j < 6 ⌝ }
+// Power j: the sum of the terms from k = j on, times w, which is w^j. u holds the powers of u, c the
+// binomials C(0, j) .. C(5, j): a table of all would be written anew at every reading.
+fn power(p: [f64; 6], u: Powers, c: [f64; 6], w: Ends, j: usize) -> Ends
+    requires { ⌜ (j < 6) × ((k : ℕ) → k < 6 → at c k ≡ round binary64 false (choose k j) 1) ⌝ }
     ensures { λ r. ⌜ endsOf r ≡ ends .times (total ends j (6 - j) (λ k. ends .times (ends .times (ends .whole (choose k j))
         (ends .number (at p k))) (pairAt (u .ends) (k - j)))) (endsOf w) ⌝ }
 {
     let mut sum = ends::both(0.0);
     let mut k = j;
     while k < 6 {
-        sum = ends::add(sum, term(p[k], u.ends[k - j], k, j));
+        sum = ends::add(sum, term(c[k], p[k], u.ends[k - j]));
         k += 1;
     }
     ends::multiply(sum, w)
@@ -170,14 +153,20 @@ fn difference_powers(x: Intersection) -> Powers
     let u = powers_of(offset(x));
     let ws = powers_of(scale(x));
     let w = ws.ends;
+    let c0 = [1., 1., 1., 1., 1., 1.];
+    let c1 = [0., 1., 2., 3., 4., 5.];
+    let c2 = [0., 0., 1., 3., 6., 10.];
+    let c3 = [0., 0., 0., 1., 4., 10.];
+    let c4 = [0., 0., 0., 0., 1., 5.];
+    let c5 = [0., 0., 0., 0., 0., 1.];
     Powers {
         ends: [
-            ends::subtract(power(p, u, w[0], 0), line_at_left(x)),
-            ends::subtract(power(p, u, w[1], 1), line_rise(x)),
-            power(p, u, w[2], 2),
-            power(p, u, w[3], 3),
-            power(p, u, w[4], 4),
-            power(p, u, w[5], 5),
+            ends::subtract(power(p, u, c0, w[0], 0), line_at_left(x)),
+            ends::subtract(power(p, u, c1, w[1], 1), line_rise(x)),
+            power(p, u, c2, w[2], 2),
+            power(p, u, c3, w[3], 3),
+            power(p, u, c4, w[4], 4),
+            power(p, u, c5, w[5], 5),
         ],
     }
 }
@@ -190,16 +179,18 @@ fn first(p: Ends) -> Ends
     ends::add(ends::both(0.0), ends::divide_by(c, 1.0))
 }
 
-// Bernstein coefficient k: the sum over j up to k of power j·C(k, j)/C(5, j), from j = 1 on.
-fn bernstein(q: Powers, first: Ends, k: usize) -> Ends
-    requires { ⌜ (k < 6) × (endsOf first ≡ bernstein ends (pairAt (q .ends)) 0) ⌝ }
+// Bernstein coefficient k: the sum over j up to k of power j·C(k, j)/C(5, j), from j = 1 on. c holds the
+// binomials C(k, 0) .. C(k, 5), d those of 5.
+fn bernstein(q: Powers, c: [f64; 6], d: [f64; 6], first: Ends, k: usize) -> Ends
+    requires { ⌜ (k < 6) × (endsOf first ≡ bernstein ends (pairAt (q .ends)) 0)
+        × ((j : ℕ) → j < 6 → at c j ≡ round binary64 false (choose k j) 1) × ((j : ℕ) → j < 6 → at d j ≡ round binary64 false (choose 5 j) 1) ⌝ }
     ensures { λ r. ⌜ endsOf r ≡ bernstein ends (pairAt (q .ends)) k ⌝ }
 {
     let mut sum = first;
     let mut j = 1;
     while j < k + 1 {
-        let c = ends::multiply_by(q.ends[j], binomial(k, j));
-        sum = ends::add(sum, ends::divide_by(c, binomial(5, j)));
+        let part = ends::multiply_by(q.ends[j], c[j]);
+        sum = ends::add(sum, ends::divide_by(part, d[j]));
         j += 1;
     }
     sum
@@ -211,14 +202,19 @@ pub(crate) fn bernstein_pairs(x: Intersection) -> Six
 {
     let q = difference_powers(x);
     let b = first(q.ends[0]);
+    let c1 = [1., 1., 0., 0., 0., 0.];
+    let c2 = [1., 2., 1., 0., 0., 0.];
+    let c3 = [1., 3., 3., 1., 0., 0.];
+    let c4 = [1., 4., 6., 4., 1., 0.];
+    let c5 = [1., 5., 10., 10., 5., 1.];
     Six {
         ends: [
             b,
-            bernstein(q, b, 1),
-            bernstein(q, b, 2),
-            bernstein(q, b, 3),
-            bernstein(q, b, 4),
-            bernstein(q, b, 5),
+            bernstein(q, c1, c5, b, 1),
+            bernstein(q, c2, c5, b, 2),
+            bernstein(q, c3, c5, b, 3),
+            bernstein(q, c4, c5, b, 4),
+            bernstein(q, c5, c5, b, 5),
         ],
     }
 }

@@ -17,10 +17,10 @@ abbrev terms : (ℕ → pairs.Ends) → ℕ → ℕ → pairs.Ends
 terms q k j = ends .over (ends .times (q j) (ends .whole (choose k j))) (ends .whole (choose 5 j))
 
 abbrev Inv-loop : tie.InvT-loop
-Inv-loop k q sum₀ j₀ sum j = (j ≤ k + 1) × (endsOf sum ≡ total ends 0 j (terms (pairAt (q .ends)) k))
+Inv-loop k q c d sum₀ j₀ sum j = (j ≤ k + 1) × (endsOf sum ≡ total ends 0 j (terms (pairAt (q .ends)) k))
 
 abbrev μ-loop : tie.MeasureT-loop
-μ-loop k q sum₀ j₀ sum j = k + 1 - j
+μ-loop k q c d sum₀ j₀ sum j = k + 1 - j
 
 loop-holds : tie.Need-loop-holds Inv-loop μ-loop
 unfolding bernstein
@@ -29,17 +29,16 @@ loop-holds c = (omega arith, c .pre .1)
 loop-again : tie.Need-loop-again Inv-loop μ-loop
 loop-again c =
     let d = c .before in
-    let m = d .before .before in
-    let b = m .before in
-    let at-loop = b .before .before .before in
+    let m = d .before in
+    let at-loop = m .before .before .before in
     let l = at-loop .loop in
     let a = at-loop .before .args in
     let f = terms (pairAt (a .t1 .ends)) (a .k) in
     let t : endsOf (d .divide-by .result) ≡ f (l .j) = rw (
       d .divide-by .ensures,
-      d .before .binomial2 .ensures,
       m .multiply-by .ensures,
-      b .binomial .ensures,
+      at-loop .before .pre .2 (l .j) (omega arith),
+      at-loop .before .pre .3 (l .j) (omega arith),
     ) in
     (omega arith, total-more ends 0 (l .j) (l .j + 1) (l .j) f _ _ _ (omega arith) (omega arith) (l .inv .1) t (c .add .ensures))
 
@@ -53,6 +52,6 @@ returns c =
 pub bernstein-spec : {M : Type 1} → statement M
 bernstein-spec =
     tie.close
-    (tie.spec Inv-loop μ-loop loop-holds (λ c. omega arith) (λ c. omega arith) (λ c. omega arith)
-    (λ c κs. omega arith) (λ c κs. search needs)
-    (λ c κs. omega arith) (λ c κs. search needs) (λ c κs. search needs) (λ c. omega arith) (λ c. omega arith) loop-again returns)
+    (tie.spec Inv-loop μ-loop loop-holds (λ c. omega arith) (λ c. omega arith) (λ c. omega arith) (λ c. omega arith) (λ c. omega arith)
+    (λ c κs. search needs) (λ c. omega arith) (λ c. omega arith) (λ c κs. search needs) (λ c κs. search needs) (λ c. omega arith)
+    (λ c. omega arith) loop-again returns)

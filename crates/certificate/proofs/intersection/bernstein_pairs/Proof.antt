@@ -1,11 +1,14 @@
 -- `intersection::bernstein_pairs` meets its contract.
-use mathlib.Core.Path.{_∙_, _≡_}
+use mathlib.Core.Bool.{false}
+use mathlib.Core.Path.{_∙_, _≡_, refl}
 use native.Mathlib.Omega.{arith}
 use borrow.Author.Needs.{needs}
+use lib.Ieee.{binary64, ofBits, round}
+use Rattle.fraction.specs.Binomial.{choose}
 use Rattle.figure.specs.Intersection.{bernstein, differencePower}
 use Rattle.figure.specs.Operations.{ends}
 use Rattle.certificate.specs.Structs.{endsOf, intersectionOf, pairAt}
-use Rattle.certificate.proofs.Sums.{bernstein-zero, holds-bernstein, holds-six}
+use Rattle.certificate.proofs.Sums.{bernstein-zero, holds-bernstein, holds-six, six-at}
 use Rattle.certificate.proofs.intersection.bernstein_pairs.Statement.{statement}
 use Rattle.certificate.proofs.intersection.bernstein_pairs.Tie as tie
 
@@ -31,12 +34,53 @@ returns c =
 first-is : (c : tie.After-first) → endsOf (c .first .result) ≡ bernstein ends (pairAt (c .before .before .difference-powers .result .ends)) 0
 first-is c = c .first .ensures ∙ bernstein-zero (pairAt (c .before .before .difference-powers .result .ends))
 
+bernstein-requires : tie.Need-bernstein-requires
+unfolding ofBits round
+bernstein-requires c κs = (
+  omega arith,
+  first-is (c),
+  six-at _ _ _ _ _ _ (λ j. round binary64 false (choose 1 j) 1) refl refl refl refl refl refl,
+  six-at _ _ _ _ _ _ (λ j. round binary64 false (choose 5 j) 1) refl refl refl refl refl refl,
+)
+
+bernstein-requires-2 : tie.Need-bernstein-requires-2
+unfolding ofBits round
+bernstein-requires-2 c κs = (
+  omega arith,
+  first-is (c .before),
+  six-at _ _ _ _ _ _ (λ j. round binary64 false (choose 2 j) 1) refl refl refl refl refl refl,
+  six-at _ _ _ _ _ _ (λ j. round binary64 false (choose 5 j) 1) refl refl refl refl refl refl,
+)
+
+bernstein-requires-3 : tie.Need-bernstein-requires-3
+unfolding ofBits round
+bernstein-requires-3 c κs = (
+  omega arith,
+  first-is (c .before .before),
+  six-at _ _ _ _ _ _ (λ j. round binary64 false (choose 3 j) 1) refl refl refl refl refl refl,
+  six-at _ _ _ _ _ _ (λ j. round binary64 false (choose 5 j) 1) refl refl refl refl refl refl,
+)
+
+bernstein-requires-4 : tie.Need-bernstein-requires-4
+unfolding ofBits round
+bernstein-requires-4 c κs = (
+  omega arith,
+  first-is (c .before .before .before),
+  six-at _ _ _ _ _ _ (λ j. round binary64 false (choose 4 j) 1) refl refl refl refl refl refl,
+  six-at _ _ _ _ _ _ (λ j. round binary64 false (choose 5 j) 1) refl refl refl refl refl refl,
+)
+
+bernstein-requires-5 : tie.Need-bernstein-requires-5
+unfolding ofBits round
+bernstein-requires-5 c κs = (
+  omega arith,
+  first-is (c .before .before .before .before),
+  six-at _ _ _ _ _ _ (λ j. round binary64 false (choose 5 j) 1) refl refl refl refl refl refl,
+  six-at _ _ _ _ _ _ (λ j. round binary64 false (choose 5 j) 1) refl refl refl refl refl refl,
+)
+
 pub bernstein-pairs-spec : {M : Type 1} → statement M
 bernstein-pairs-spec =
     tie.close
-    (tie.spec (λ c κs. search needs) (λ c. search needs) (λ c κs. search needs)
-    (λ c κs. (omega arith, first-is c))
-    (λ c κs. (omega arith, first-is (c .before)))
-    (λ c κs. (omega arith, first-is (c .before .before)))
-    (λ c κs. (omega arith, first-is (c .before .before .before)))
-    (λ c κs. (omega arith, first-is (c .before .before .before .before))) returns)
+    (tie.spec (λ c κs. search needs) (λ c. search needs) (λ c κs. search needs) bernstein-requires bernstein-requires-2
+    bernstein-requires-3 bernstein-requires-4 bernstein-requires-5 returns)

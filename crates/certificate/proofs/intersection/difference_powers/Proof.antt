@@ -1,13 +1,16 @@
 -- `intersection::difference_powers` meets its contract.
-use mathlib.Core.Path.{_∙_, subst}
+use mathlib.Core.Bool.{false}
+use mathlib.Core.Path.{_∙_, refl, subst}
 use native.Mathlib.Omega.{arith}
 use borrow.Author.Needs.{needs}
+use lib.Ieee.{binary64, ofBits, round}
 use Rattle.window.specs.Cells.{at}
+use Rattle.fraction.specs.Binomial.{choose}
 use Rattle.fraction.specs.Pair as pairs
 use Rattle.figure.specs.Intersection.{offset, raised, scale}
 use Rattle.figure.specs.Operations.{ends}
 use Rattle.certificate.specs.Structs.{Holds, intersectionOf}
-use Rattle.certificate.proofs.Sums.{held-power, holds-six}
+use Rattle.certificate.proofs.Sums.{held-power, holds-six, six-at}
 use Rattle.certificate.proofs.intersection.difference_powers.Statement.{statement}
 use Rattle.certificate.proofs.intersection.difference_powers.Tie as tie
 
@@ -47,10 +50,34 @@ returns c =
     (p5 .power5 .ensures ∙ held-power p u (offset ends x) (scale ends x) _ 4 (omega arith) hu (hw 4 (omega arith)))
     (c .power6 .ensures ∙ held-power p u (offset ends x) (scale ends x) _ 5 (omega arith) hu (hw 5 (omega arith)))
 
+power-requires : tie.Need-power-requires
+unfolding ofBits round
+power-requires c κs = (omega arith, six-at _ _ _ _ _ _ (λ k. round binary64 false (choose k 0) 1) refl refl refl refl refl refl)
+
+power-requires-2 : tie.Need-power-requires-2
+unfolding ofBits round
+power-requires-2 c κs = (omega arith, six-at _ _ _ _ _ _ (λ k. round binary64 false (choose k 1) 1) refl refl refl refl refl refl)
+
+power-requires-3 : tie.Need-power-requires-3
+unfolding ofBits round
+power-requires-3 c κs = (omega arith, six-at _ _ _ _ _ _ (λ k. round binary64 false (choose k 2) 1) refl refl refl refl refl refl)
+
+power-requires-4 : tie.Need-power-requires-4
+unfolding ofBits round
+power-requires-4 c κs = (omega arith, six-at _ _ _ _ _ _ (λ k. round binary64 false (choose k 3) 1) refl refl refl refl refl refl)
+
+power-requires-5 : tie.Need-power-requires-5
+unfolding ofBits round
+power-requires-5 c κs = (omega arith, six-at _ _ _ _ _ _ (λ k. round binary64 false (choose k 4) 1) refl refl refl refl refl refl)
+
+power-requires-6 : tie.Need-power-requires-6
+unfolding ofBits round
+power-requires-6 c κs = (omega arith, six-at _ _ _ _ _ _ (λ k. round binary64 false (choose k 5) 1) refl refl refl refl refl refl)
+
 pub difference-powers-spec : {M : Type 1} → statement M
 difference-powers-spec =
     tie.close
     (tie.spec (λ c κs. search needs) (λ c κs. search needs) (λ c κs. search needs) (λ c κs. search needs) (λ c. search needs)
-    (λ c κs. search needs) (λ c κs. search needs) (λ c κs. search needs) (λ c. search needs) (λ c κs. search needs)
-    (λ c κs. search needs) (λ c κs. search needs) (λ c. search needs) (λ c κs. search needs) (λ c. search needs) (λ c κs. search needs)
-    (λ c. search needs) (λ c κs. search needs) (λ c. search needs) (λ c κs. search needs) returns)
+    power-requires (λ c κs. search needs) (λ c κs. search needs) (λ c. search needs) power-requires-2
+    (λ c κs. search needs) (λ c κs. search needs) (λ c. search needs) power-requires-3 (λ c. search needs) power-requires-4
+    (λ c. search needs) power-requires-5 (λ c. search needs) power-requires-6 returns)
