@@ -1,5 +1,5 @@
 // One intersection of a waypoint interval with a segment: document 01, "The certified figure". The six
-// powers of curve minus lineand their Bernstein coefficients, all in pairs of ends.
+// powers of curve minus line and their Bernstein coefficients, all in pairs of ends.
 ghost use mathlib.Core.Bool.{false};
 ghost use mathlib.Core.Path.{_≡_};
 ghost use Prim.Native.Nat.{_-_, _<_, ℕ};
