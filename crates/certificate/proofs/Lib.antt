@@ -8,3 +8,4 @@ pub mod Standing
 pub mod Steps
 pub mod Sums
 pub mod Triangle
+pub mod Zeros
