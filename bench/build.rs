@@ -1,5 +1,6 @@
 //! Compiles the unchanged source as the oracle does, with `src/appendix.rs` after the oracle's, and links
-//! the proved functions: `rt staticlib pamitoye` and `rt staticlib leaf_exports` write the archives.
+//! the proved functions: `rt staticlib pamitoye` and `rt staticlib leaf_exports` write the archives. `boost.cpp` is
+//! compiled where there are a C++ compiler and Boost's headers (Debian's libboost-dev); elsewhere it is left out.
 #[path = "../oracle/build.rs"]
 #[allow(dead_code)]
 mod source;
@@ -12,5 +13,33 @@ fn main() {
         let archive = folder.join(format!("lib{name}.a"));
         println!("cargo::rerun-if-changed={}", archive.display());
         println!("cargo::rustc-link-lib=static={name}");
+    }
+    boost();
+}
+
+/// Compiles `boost.cpp`; the configuration `boost` says that it is there.
+fn boost() {
+    println!("cargo::rustc-check-cfg=cfg(boost)");
+    println!("cargo::rerun-if-changed=boost.cpp");
+    println!("cargo::rerun-if-env-changed=CXX");
+    let object = std::path::Path::new(&std::env::var("OUT_DIR").unwrap()).join("boost.o");
+    let compiler = std::env::var("CXX").unwrap_or("c++".to_string());
+    let done = std::process::Command::new(compiler)
+        .args([
+            "-std=c++17",
+            "-O3",
+            "-frounding-math",
+            "-c",
+            "boost.cpp",
+            "-o",
+        ])
+        .arg(&object)
+        .status();
+    if done.is_ok_and(|status| status.success()) {
+        println!("cargo::rustc-link-arg-bins={}", object.display());
+        println!("cargo::rustc-link-arg-bins=-lstdc++");
+        println!("cargo::rustc-cfg=boost");
+    } else {
+        println!("cargo::warning=no C++ compiler or no Boost.Interval: it is skipped");
     }
 }

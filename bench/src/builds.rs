@@ -60,11 +60,11 @@ const MARK: f64 = -6.0221407623e-123;
 
 /// The lent slices in the order of `Request::room`, each with its guards.
 #[derive(Default)]
-struct Lent([Vec<f64>; 6]);
+pub struct Lent([Vec<f64>; 6]);
 
 impl Lent {
     /// Marked room for a request. One above the domain is refused whatever the room, and gets next to none.
-    fn mark(&mut self, request: &Request) {
+    pub fn mark(&mut self, request: &Request) {
         let above = request.refused_before_source() == Some(18);
         let room = if above { [1; 6] } else { request.room() };
         for ((slice, needed), more) in self.0.iter_mut().zip(room).zip(request.more) {
@@ -82,7 +82,7 @@ impl Lent {
 
 /// What the port answers beside the slices.
 #[derive(Debug)]
-struct Told {
+pub struct Told {
     number: u64,
     counts: [usize; 5],
     ratio: f64,
@@ -93,7 +93,7 @@ struct Told {
 }
 
 /// The port's `build`.
-fn build(request: &Request, lent: &mut Lent) -> Told {
+pub fn build(request: &Request, lent: &mut Lent) -> Told {
     let config = &request.config;
     let axes = config.axes.as_deref();
     let (uniform, tolerance, tolerances) = match &config.tolerance {
@@ -236,7 +236,7 @@ fn agrees(wanted: &Result<Built, Refusal>, told: &Told, lent: &Lent) -> bool {
 }
 
 /// A request of any kind; in some slices are longer than they need be, too short, or the list of axes is long.
-fn draw(r: &mut Random) -> Request {
+pub fn draw(r: &mut Random) -> Request {
     let mut request = match r.below(20) {
         0..=2 => request::small_lane(r),
         3 => request::long_lane(r),
@@ -359,7 +359,7 @@ fn compare(count: usize) {
 
 /// A straight lane, waves with noise of 1e-4, or smooth waves.
 #[derive(Clone, Copy)]
-enum Shape {
+pub enum Shape {
     Straight,
     Noisy,
     Smooth,
@@ -371,7 +371,7 @@ const SHAPES: [(Shape, &str, f64); 3] = [
     (Shape::Smooth, "smooth, tolerance 1e-4", 1e-4),
 ];
 
-fn lane(r: &mut Random, shape: Shape, d: usize, n: usize, tolerance: f64) -> Request {
+pub fn lane(r: &mut Random, shape: Shape, d: usize, n: usize, tolerance: f64) -> Request {
     let mut row = |a: usize| -> Vec<f64> {
         let at = |i: usize| i as f64 / (n - 1) as f64;
         let wave = |i: usize| sine(at(i) + a as f64 / 7.);
@@ -386,7 +386,7 @@ fn lane(r: &mut Random, shape: Shape, d: usize, n: usize, tolerance: f64) -> Req
 }
 
 /// The least time of each in milliseconds, over rounds in which each has its turn, for at least `least_time`.
-fn least<const N: usize>(least_time: Duration, work: [&mut dyn FnMut(); N]) -> [f64; N] {
+pub fn least<const N: usize>(least_time: Duration, work: [&mut dyn FnMut(); N]) -> [f64; N] {
     let mut best = [f64::MAX; N];
     let mut work = work;
     let begun = Instant::now();

@@ -5,6 +5,7 @@ extern crate self as nalgebra;
 pub(crate) use standin::DMatrixView;
 
 mod builds;
+mod certificates;
 mod leaves;
 mod numbers;
 mod queries;
@@ -61,5 +62,8 @@ fn main() {
     }
     if asked("builds") {
         builds::run();
+    }
+    if asked("certificates") {
+        certificates::run();
     }
 }
