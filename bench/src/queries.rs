@@ -306,7 +306,9 @@ impl Case {
         self.source(&inside, &mut source);
         for (x, [_, dq, ddq, dddq]) in xs.iter().zip(rows(&mut source, self.d)) {
             if *x < self.start || self.end < *x {
-                [dq, ddq, dddq].map(|order| order.fill(0.));
+                for order in [dq, ddq, dddq] {
+                    order.fill(0.);
+                }
             }
         }
         let mut count = 0;
