@@ -384,7 +384,13 @@ fn compare(random: &mut Random) {
         if !case.clamp || random.next().is_multiple_of(2) {
             xs.iter_mut().for_each(|x| *x = x.clamp(range.0, range.1));
         } else {
-            xs.extend([range.0.next_down(), range.1.next_up(), -0., -f64::MAX, f64::MAX]);
+            xs.extend([
+                range.0.next_down(),
+                range.1.next_up(),
+                -0.,
+                -f64::MAX,
+                f64::MAX,
+            ]);
             xs.extend([range.0 - 1., range.1 + 1., f64::NEG_INFINITY, f64::INFINITY]);
         }
         values += 16 * d * xs.len();
