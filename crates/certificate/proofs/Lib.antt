@@ -1,11 +1,16 @@
 -- The laws.
 pub mod BitSteps
 pub mod Coefficients
+pub mod Numbers
 pub mod Outward
 pub mod Pairs
+pub mod PlainNumbers
 pub mod Skipped
+pub mod SpreadSums
+pub mod Spreading
 pub mod Standing
 pub mod Steps
 pub mod Sums
 pub mod Triangle
+pub mod UpwardTests
 pub mod Zeros

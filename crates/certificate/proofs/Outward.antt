@@ -111,14 +111,14 @@ not-under (inf false) h = sym (next-up-infinity binary64)
 not-under (inf true) h = absurd (true≢false h)
 not-under (fin s m e) h = absurd (true≢false h)
 
-next-down-fits : (x : Float) → T (fits binary64 x) → T (fits binary64 (nextDown binary64 x))
+pub next-down-fits : (x : Float) → T (fits binary64 x) → T (fits binary64 (nextDown binary64 x))
 next-down-fits x F = go (isNan x) refl
   where
     go : (b : Bool) → isNan x ≡ b → T (fits binary64 (nextDown binary64 x))
     go true e = subst (λ (z : Float). T (fits binary64 z)) (not-over x (nan-below x e)) F
     go false e = subst (λ (z : Float). T (fits binary64 z)) (sym (next-down-bits binary64 x e)) (ofBits-fits binary64 _)
 
-next-up-fits : (x : Float) → T (fits binary64 x) → T (fits binary64 (nextUp binary64 x))
+pub next-up-fits : (x : Float) → T (fits binary64 x) → T (fits binary64 (nextUp binary64 x))
 next-up-fits x F = go (isNan x) refl
   where
     go : (b : Bool) → isNan x ≡ b → T (fits binary64 (nextUp binary64 x))
