@@ -244,3 +244,20 @@ first-stands a l g y Y =
       above-value = Y .above-value ∙ sym (U .1);
       ordered = rw (D .1, U .1) (Y .ordered);
     }
+
+-- a number that is read
+pub single-stands : (a : ℕ) (x : Float) → Number a x → (t : Spread) → t .below ≡ neg x → t .above ≡ x → Stands a (finiteEnds x x) t
+unfolding finiteEnds
+single-stands a x N t b u =
+    record {
+      low = x;
+      high = x;
+      is = rw (is-true (finite x) (N .is-finite)) refl;
+      low-number = N;
+      high-number = N;
+      below-number = rw b (turned a x N);
+      above-number = rw u N;
+      below-value = rw b (value-neg x (N .is-finite));
+      above-value = ap value u;
+      ordered = ≤q-refl (value x);
+    }

@@ -6,7 +6,7 @@ use Prim.Native.Nat.{_*_, _+_, _^_, _<_, _≤_, suc, ℕ}
 use lib.Pow.{pow-add}
 use native.Mathlib.Omega.{arith}
 use lib.Dec.{T}
-use lib.Ieee.{Float, binary64, div, fin, fits, lt, mul, neg, ofBits}
+use lib.Ieee.{Float, binary64, div, fin, fits, le, lt, mul, neg, ofBits}
 use lib.Ieee.Bits.{is-true}
 use lib.Ieee.Scale.{finite}
 use lib.IntN.{pos}
@@ -27,10 +27,10 @@ use Rattle.fraction.proofs.Inverse.{inverse-antitone, inverse-is, inverse-nonne
 use Rattle.fraction.proofs.Rational.{<q-weaken, <q-≤q-trans, rationalOrder, ≤q-<q-trans, ≤q-antisymmetric, ≤q-negated, ≤q-refl, ≤q-trans, ≤q-whole}
 use Rattle.fraction.proofs.Rounding.{divide-rounded, mul-rounded}
 use Rattle.fraction.proofs.Value.{fraction-le, neg-finite, value-neg}
-use Rattle.certificate.specs.Spreads.{Number, Stands, bounded, powerOfTwo}
+use Rattle.certificate.specs.Spreads.{Number, Stands, bounded, powerOfTwo, shortest}
 use Rattle.certificate.specs.Structs.{largestNumber}
 use Rattle.certificate.specs.declared.spread.Spread.{Spread}
-use Rattle.certificate.proofs.Numbers.{down-number, lowered, next-same, next-turned, raised, rounded-number, rounded-order, rounded-same, rounded-turned, turned, twice, up-number, wider}
+use Rattle.certificate.proofs.Numbers.{down-number, le-value, lowered, next-same, next-turned, raised, rounded-number, rounded-order, rounded-same, rounded-turned, turned, twice, up-number, wider}
 
 -- ---- sizes of products
 power-times : (a b : ℕ) → powerOfTwo a *q powerOfTwo b ≡ powerOfTwo (a + b)
@@ -489,3 +489,46 @@ module _ (a b k : ℕ) (l : a + k ≤ 999) (e g : Ends) (x y : Spread) (X : Stan
       ∙ sym (highest-most p q r s (N .is-finite) (O .is-finite) (Q .is-finite) (R .is-finite) (value r) pr (≤q-trans _ _ _ qs sr) (≤q-refl _) sr
       (λ n h₀ h₁ h₂ h₃. h₂)))
       t B A)
+
+-- ---- as the code tests it
+-- a number from 1 on
+pub whole-divisor : (b : ℕ) (c : Float) → Number b c → 𝟙 ≤q value c → Divisor 0 c
+unfolding atMostq
+whole-divisor b c C h =
+    record {
+      divides = C .is-finite;
+      is-above = <q-≤q-trans 𝟘 𝟙 (value c) tt h;
+      not-small = subst (λ (z : ℚ). 𝟙 ≤q z) (solve rationalRing (value c ∷ []) v0 (con (pos 1) ⊗ v0) tt) h;
+    }
+
+-- the low end is not below 0
+pub not-below-zero : (a : ℕ) (e : Ends) (x : Spread) (X : Stands a e x) → le (x .below) (ofBits binary64 0) ≡ true → 𝟘 ≤q value (X .low)
+unfolding ofBits
+not-below-zero a e x X t =
+    let h = le-value (x .below) (fin false 0 (pos 0)) (X .below-number .is-finite) tt t in
+    subst (λ (z : ℚ). 𝟘 ≤q z) (twice (value (X .low)))
+    (subst (λ (z : ℚ). z ≤q negq (negq (value (X .low)))) (solve rationalRing [] (opposite (con (pos 0))) (con (pos 0)) tt)
+    (≤q-negated (negq (value (X .low))) 𝟘 (subst (λ (z : ℚ). z ≤q 𝟘) (X .below-value) (subst (λ (z : ℚ). value (x .below) ≤q z) zero-value h))))
+
+-- the low end is not below the shortest length
+shortest-value : 𝟙 ≤q powerOfTwo 60 *q negq (value shortest)
+unfolding atMostq _*q_ negq ofBits
+shortest-value = tt
+
+shortest-above : Above (negq (value shortest))
+unfolding atMostq negq ofBits
+shortest-above = tt
+
+pub long-divisor : (b : ℕ) (g : Ends) (y : Spread) (Y : Stands b g y) → le (y .below) shortest ≡ true → Divisor 60 (Y .low)
+unfolding ofBits
+long-divisor b g y Y t =
+    let h : value (y .below) ≤q value shortest = le-value (y .below) shortest (Y .below-number .is-finite) tt t in
+    let k : negq (value shortest) ≤q value (Y .low) = subst (λ (z : ℚ). negq (value shortest) ≤q z) (ap negq (Y .below-value)
+        ∙ twice (value (Y .low))) (≤q-negated (value (y .below)) (value shortest) h) in
+    record {
+      divides = Y .low-number .is-finite;
+      is-above = <q-≤q-trans 𝟘 (negq (value shortest)) (value (Y .low)) shortest-above k;
+      not-small = ≤q-trans 𝟙 (powerOfTwo 60 *q negq (value shortest)) (powerOfTwo 60 *q value (Y .low)) shortest-value
+          (le-one rationalRing _≤q_ rationalOrder (negq (value shortest) ∷ value (Y .low) ∷ powerOfTwo 60 ∷ []) (v2 ⊗ v0) (v2 ⊗ v1) v2 v0 v1 tt
+          (power-nonnegative 60) k);
+    }

@@ -2,7 +2,7 @@
 use Prim.Native.Nat.{_^_, ℕ}
 use mathlib.Core.Path.{_≡_}
 use lib.Dec.{T}
-use lib.Ieee.{Float, binary64, fits}
+use lib.Ieee.{Float, binary64, fits, ofBits}
 use lib.Ieee.Scale.{finite}
 use lib.IntN.{pos}
 use Rattle.fraction.specs.DirectedSum.{plainZero, upwardSum}
@@ -26,6 +26,10 @@ pub record Number (a : ℕ) (x : Float) : Type 0 where
 -- x, but the largest number for what is not below it, and +0 for either zero
 abbrev pub bounded : Float → Float
 bounded x = plainZero binary64 (lowest largestNumber x)
+
+-- minus the shortest length that is divided by: -2^-60
+abbrev pub shortest : Float
+shortest = ofBits binary64 0xbc30_0000_0000_0000
 
 -- r is the exact x + y rounded upward, with either zero
 abbrev pub UpwardSum : Float → Float → Float → Type 0
