@@ -1,6 +1,7 @@
 -- The laws.
 pub mod BitSteps
 pub mod Coefficients
+pub mod LargestEnd
 pub mod Numbers
 pub mod Outward
 pub mod Pairs
@@ -13,4 +14,5 @@ pub mod Steps
 pub mod Sums
 pub mod Triangle
 pub mod UpwardTests
+pub mod Wholes
 pub mod Zeros

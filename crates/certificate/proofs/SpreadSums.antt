@@ -23,7 +23,7 @@ use Rattle.fraction.proofs.Rational.{rationalOrder, ≤q-antisymmetric, ≤q-ne
 use Rattle.fraction.proofs.Value.{fraction-le, neg-finite, value-neg}
 use Rattle.certificate.specs.Spreads.{Number, Stands, UpwardSum, powerOfTwo}
 use Rattle.certificate.specs.declared.spread.Spread.{Spread}
-use Rattle.certificate.proofs.Numbers.{neg-back, power, power-finite, power-fits, power-value, turned, twice}
+use Rattle.certificate.proofs.Numbers.{neg-back, power, power-finite, power-fits, power-value, turned, twice, wider}
 use Rattle.certificate.proofs.Spreading.{zero-value}
 
 -- ---- sizes of sums
@@ -260,4 +260,20 @@ single-stands a x N t b u =
       below-value = rw b (value-neg x (N .is-finite));
       above-value = ap value u;
       ordered = ≤q-refl (value x);
+    }
+
+-- one size for another
+pub stands-wider : (a b : ℕ) → a ≤ b → (e : Ends) (s : Spread) → Stands a e s → Stands b e s
+stands-wider a b l e s S =
+    record {
+      low = S .low;
+      high = S .high;
+      is = S .is;
+      low-number = wider a b l (S .low) (S .low-number);
+      high-number = wider a b l (S .high) (S .high-number);
+      below-number = wider a b l (s .below) (S .below-number);
+      above-number = wider a b l (s .above) (S .above-number);
+      below-value = S .below-value;
+      above-value = S .above-value;
+      ordered = S .ordered;
     }
