@@ -1,12 +1,12 @@
 -- The largest absolute end of a pair, from what stands for it: its ends are in order, so it is the higher of minus the low one and the high
 -- one.
-use mathlib.Core.Bool.{Bool, cond, false, true}
+use mathlib.Core.Bool.{Bool, cond, false, true, true≢false}
 use mathlib.Core.List.{[], _∷_}
 use mathlib.Core.Path.{_∙_, _≡_, ap, refl, subst, sym}
 use Prim.Native.Nat.{_≤_, suc, zero, ℕ}
 use lib.IntN.{ℤ}
 use lib.Dec.{T, T-not}
-use lib.Ieee.{Float, binary64, fin, fits, inf, lt, nan, neg}
+use lib.Ieee.{Float, binary64, fin, fits, inf, lt, nan, neg, ofBits}
 use lib.Ieee.Scale.{finite}
 use Rattle.fraction.specs.DirectedSum.{plainZero}
 use Rattle.fraction.specs.Pair.{Ends, highest, largestAbsolute, pair}
@@ -17,7 +17,9 @@ use Rattle.fraction.proofs.DirectedSum.{Plain, a-zero, no-zero, plain-cases}
 use Rattle.fraction.proofs.Lowest.{highest-is}
 use Rattle.fraction.proofs.Rational.{≤q-antisymmetric, ≤q-negated, ≤q-refl, ≤q-trans, ≤q-<q-trans}
 use Rattle.fraction.proofs.Value.{absolute-float, value-neg}
-use Rattle.figure.specs.Figure.{absoluteEnd, figure, larger}
+use Rattle.arith.specs.Loop.{each, turns}
+use Rattle.window.specs.Cells.{+0}
+use Rattle.figure.specs.Figure.{Figure, absoluteEnd, figure, larger, noFigure, sixFigure}
 use Rattle.certificate.specs.Spreads.{Number, Stands}
 use Rattle.certificate.specs.declared.spread.Spread.{Spread}
 use Rattle.certificate.proofs.Numbers.{twice}
@@ -128,3 +130,24 @@ module _ (a : ℕ) (e : Ends) (s : Spread) (S : Stands a e s) where
       higher-finite most-finite same-end)),
       highest-either (λ (z : Float). T (finite z)) x (highest (s .below) (s .above)) X higher-finite,
       ≤q-trans 𝟘 (value x) (value (highest x (highest (s .below) (s .above)))) h (highest-is x (highest (s .below) (s .above)) X higher-finite .first))
+
+-- where the largest begins
+pub zero-not-negative : 𝟘 ≤q value (ofBits binary64 0)
+unfolding ofBits atMostq
+zero-not-negative = tt
+
+-- ---- six pairs, one after the other
+pub six-largest : (p : ℕ → Ends) (a b c d e f : Float) → figure a ≡ larger (figure +0) (absoluteEnd (p 0))
+    → figure b ≡ larger (figure a) (absoluteEnd (p 1)) → figure c ≡ larger (figure b) (absoluteEnd (p 2))
+    → figure d ≡ larger (figure c) (absoluteEnd (p 3)) → figure e ≡ larger (figure d) (absoluteEnd (p 4))
+    → figure f ≡ larger (figure e) (absoluteEnd (p 5)) → sixFigure p ≡ figure f
+unfolding sixFigure each turns
+six-largest p a b c d e f h₀ h₁ h₂ h₃ h₄ h₅ = rw (sym h₀, sym h₁, sym h₂, sym h₃, sym h₄) (sym h₅)
+
+-- none is no figure
+pub none-is-none : {A : Type 0} (v : Float) → noFigure ≡ figure v → A
+none-is-none v h = absurd (true≢false (ap isNone h))
+  where
+    isNone : Figure → Bool
+    isNone (figure x) = false
+    isNone noFigure = true

@@ -26,7 +26,7 @@ use Rattle.fraction.proofs.Comparison.{eq-value, le-of-value, lt-of-value, lt-v
 use Rattle.fraction.proofs.OwnRounding.{rounds-above, rounds-below}
 use Rattle.fraction.proofs.Rational.{<q-≤q-trans, ≤q-<q-trans, <q-weaken, ≤q-antisymmetric, ≤q-negated, ≤q-refl, ≤q-trans}
 use Rattle.fraction.proofs.Value.{fraction-back, fraction-le, neg-finite, value-le-of-lt, value-le-of-not-lt, value-neg}
-use Rattle.certificate.specs.Spreads.{Number, powerOfTwo}
+use Rattle.certificate.specs.Spreads.{Number, power, powerOfTwo}
 use Rattle.certificate.proofs.Outward.{next-down-fits, next-up-fits}
 
 -- ---- signs
@@ -42,9 +42,6 @@ neg-back (fin true m e) = refl
 neg-back (fin false m e) = refl
 
 -- ---- 2^a, as a number
-abbrev pub power : ℕ → Float
-power a = fin false 1 (pos a)
-
 pub power-fits : (a : ℕ) → a ≤ 1000 → T (fits binary64 (power a))
 unfolding fits
 power-fits a l =
@@ -86,7 +83,7 @@ between (inf false) x (fin s m e) X Y l u = absurd (true≢false (sym u))
 between (fin s m e) x y X Y l u = tt
 
 -- what lies between -2^a and 2^a by the tests is a number of that size
-number-between : (a : ℕ) (r : Float) → T (fits binary64 r) → le (neg (power a)) r ≡ true → le r (power a) ≡ true → Number a r
+pub number-between : (a : ℕ) (r : Float) → T (fits binary64 r) → le (neg (power a)) r ≡ true → le r (power a) ≡ true → Number a r
 number-between a r F l u =
     let P = power-finite a in
     let N = neg-finite (power a) P in
@@ -280,3 +277,7 @@ raised a l x N = value-le-of-lt x (nextUp binary64 x) (N .is-finite) (up-number 
 
 pub lowered : (a : ℕ) → a ≤ 999 → (x : Float) → Number a x → value (nextDown binary64 x) ≤q value x
 lowered a l x N = value-le-of-lt (nextDown binary64 x) x (down-number a l x N .is-finite) (N .is-finite) (below-it x (N .is-double) (N .is-finite))
+
+-- ---- tests that fail
+pub never : {A : Type 0} → false ≡ true → A
+never h = absurd (true≢false (sym h))

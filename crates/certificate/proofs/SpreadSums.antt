@@ -21,9 +21,9 @@ use Rattle.fraction.specs.Value.{BoundsAbove, BoundsBelow, value}
 use Rattle.fraction.proofs.DirectedSum.{Plain, a-zero, downward-sum, no-zero, plain-cases, upward-sum, upward-unique}
 use Rattle.fraction.proofs.Rational.{rationalOrder, ≤q-antisymmetric, ≤q-negated, ≤q-refl, ≤q-trans, ≤q-whole}
 use Rattle.fraction.proofs.Value.{fraction-le, neg-finite, value-neg}
-use Rattle.certificate.specs.Spreads.{Number, Stands, UpwardSum, powerOfTwo}
+use Rattle.certificate.specs.Spreads.{Number, Stands, UpwardSum, power, powerOfTwo}
 use Rattle.certificate.specs.declared.spread.Spread.{Spread}
-use Rattle.certificate.proofs.Numbers.{neg-back, power, power-finite, power-fits, power-value, turned, twice, wider}
+use Rattle.certificate.proofs.Numbers.{neg-back, power-finite, power-fits, power-value, turned, twice, wider}
 use Rattle.certificate.proofs.Spreading.{zero-value}
 
 -- ---- sizes of sums

@@ -2,7 +2,8 @@
 use Prim.Native.Nat.{_^_, ℕ}
 use mathlib.Core.Path.{_≡_}
 use lib.Dec.{T}
-use lib.Ieee.{Float, binary64, fits, ofBits}
+use mathlib.Core.Bool.{false}
+use lib.Ieee.{Float, binary64, fin, fits, ofBits}
 use lib.Ieee.Scale.{finite}
 use lib.IntN.{pos}
 use Rattle.fraction.specs.DirectedSum.{plainZero, upwardSum}
@@ -15,6 +16,10 @@ use Rattle.certificate.specs.declared.spread.Spread.{Spread}
 -- 2^a
 abbrev pub powerOfTwo : ℕ → ℚ
 powerOfTwo a = wholeq (pos (2 ^ a))
+
+-- and as a number
+abbrev pub power : ℕ → Float
+power a = fin false 1 (pos a)
 
 -- x is a finite f64, at most 2^a in size
 pub record Number (a : ℕ) (x : Float) : Type 0 where

@@ -4,18 +4,21 @@ ghost use mathlib.Core.Bool.{true};
 ghost use mathlib.Core.Path.{_≡_};
 ghost use Prim.Native.Nat.{_<_, _≤_, suc, ℕ};
 ghost use lib.Dec.{T};
-ghost use lib.Ieee.{binary64};
+ghost use lib.Ieee.{Float, binary64};
 ghost use lib.Ieee.Scale.{finite};
 ghost use Rattle.window.specs.Cells.{at};
 ghost use Rattle.fraction.specs.Pair.{Ends, finiteEnds, point};
 ghost use Rattle.fraction.specs.Rational.{_≤q_, 𝟘, 𝟙};
 ghost use Rattle.fraction.specs.Value.{value};
 ghost use Rattle.figure.specs.Operations.{ends};
-ghost use Rattle.figure.specs.Intersection.{bernstein};
-ghost use Rattle.figure.specs.Figure.{absoluteEnd, figure, larger};
-ghost use Rattle.certificate.specs.Spreads.{Number, Stands};
-ghost use Rattle.certificate.specs.Quick.{PowersStand, powerSum};
+ghost use Rattle.figure.specs.Intersection as formula;
+ghost use Rattle.figure.specs.Figure.{absoluteEnd, figure, larger, sixFigure};
+ghost use Rattle.certificate.specs.Spreads.{Number, Stands, power};
+ghost use Rattle.certificate.specs.Quick.{Divisible, LengthsStand, Moderate, NearParameters, PowersStand, RowStands, powerSum};
+ghost use Rattle.certificate.specs.Structs.{figureIn, intersectionOf};
 use crate::ends;
+use crate::intersection::Figure;
+use crate::intersection::Intersection;
 use crate::spread;
 use crate::spread::Spread;
 
@@ -130,4 +133,273 @@ fn largest(x: f64, s: Spread) -> f64
         → (figure r ≡ larger (figure x) (absoluteEnd e)) × T (finite r) × (𝟘 ≤q value r)) ⌝ }
 {
     ends::higher(x, ends::higher(s.below, s.above))
+}
+
+// Six spreads: the powers of curve minus line.
+pub struct Row {
+    pub zero: Spread,
+    pub one: Spread,
+    pub two: Spread,
+    pub three: Spread,
+    pub four: Spread,
+    pub five: Spread,
+}
+
+// The powers of the curve: each sum, times w^j.
+fn curve_powers(p: [f64; 6], u: Powers, w: Powers) -> Row
+    ensures { λ r. ⌜ ((e g : Ends) → ((k : ℕ) → k < 6 → Number 100 (at p k)) → PowersStand e u → PowersStand g w
+        → RowStands 753 (formula.power ends (λ k. ends .number (at p k)) e g) r) ⌝ }
+{
+    let zero = spread::times_number(sum_0(p, u), 1.0);
+    let one = spread::times(sum_1(p, u), w.one);
+    let two = spread::times(sum_2(p, u), w.two);
+    let three = spread::times(sum_3(p, u), w.three);
+    let four = spread::times(sum_4(p, u), w.four);
+    let five = spread::times(lead(p[5]), w.five);
+    Row {
+        zero,
+        one,
+        two,
+        three,
+        four,
+        five,
+    }
+}
+
+// What power 0 and power 1 lose.
+pub struct Line {
+    pub left: Spread,
+    pub rise: Spread,
+}
+
+// The powers of curve minus line.
+fn without_line(q: Row, line: Line) -> Row
+    ensures { λ r. ⌜ ((f : ℕ → Ends) (e g : Ends) → RowStands 753 f q → Stands 753 e (line .left) → Stands 753 g (line .rise)
+        → RowStands 754 (formula.without ends e g f) r) ⌝ }
+{
+    let two = q.two;
+    let three = q.three;
+    let four = q.four;
+    let five = q.five;
+    let zero = spread::subtract(q.zero, line.left);
+    let one = spread::subtract(q.one, line.rise);
+    Row {
+        zero,
+        one,
+        two,
+        three,
+        four,
+        five,
+    }
+}
+
+// Bernstein coefficients 1 to 5, from 0's, which every sum begins with.
+fn row_1(b: Spread, q: Row) -> Spread
+    ensures { λ r. ⌜ ((f : ℕ → Ends) → RowStands 754 f q → Stands 760 (formula.bernstein ends f 0) b → Stands 761 (formula.bernstein ends f 1) r) ⌝ }
+{
+    with_term(b, q.one, 1.0, 5.0)
+}
+
+fn row_2(b: Spread, q: Row) -> Spread
+    ensures { λ r. ⌜ ((f : ℕ → Ends) → RowStands 754 f q → Stands 760 (formula.bernstein ends f 0) b → Stands 762 (formula.bernstein ends f 2) r) ⌝ }
+{
+    with_term(with_term(b, q.one, 2.0, 5.0), q.two, 1.0, 10.0)
+}
+
+fn row_3(b: Spread, q: Row) -> Spread
+    ensures { λ r. ⌜ ((f : ℕ → Ends) → RowStands 754 f q → Stands 760 (formula.bernstein ends f 0) b → Stands 763 (formula.bernstein ends f 3) r) ⌝ }
+{
+    let s = with_term(with_term(b, q.one, 3.0, 5.0), q.two, 3.0, 10.0);
+    with_term(s, q.three, 1.0, 10.0)
+}
+
+fn row_4(b: Spread, q: Row) -> Spread
+    ensures { λ r. ⌜ ((f : ℕ → Ends) → RowStands 754 f q → Stands 760 (formula.bernstein ends f 0) b → Stands 764 (formula.bernstein ends f 4) r) ⌝ }
+{
+    let s = with_term(with_term(b, q.one, 4.0, 5.0), q.two, 6.0, 10.0);
+    with_term(with_term(s, q.three, 4.0, 10.0), q.four, 1.0, 5.0)
+}
+
+fn row_5(b: Spread, q: Row) -> Spread
+    ensures { λ r. ⌜ ((f : ℕ → Ends) → RowStands 754 f q → Stands 760 (formula.bernstein ends f 0) b → Stands 765 (formula.bernstein ends f 5) r) ⌝ }
+{
+    let s = with_term(with_term(b, q.one, 5.0, 5.0), q.two, 10.0, 10.0);
+    let t = with_term(with_term(s, q.three, 10.0, 10.0), q.four, 5.0, 5.0);
+    with_term(t, q.five, 1.0, 1.0)
+}
+
+// The largest absolute end over the six Bernstein coefficients.
+fn row_figure(q: Row) -> f64
+    ensures { λ r. ⌜ ((f : ℕ → Ends) → RowStands 754 f q → sixFigure (formula.bernstein ends f) ≡ figure r) ⌝ }
+{
+    let b = first_term(q.zero);
+    let most_0 = largest(0.0, b);
+    let most_1 = largest(most_0, row_1(b, q));
+    let most_2 = largest(most_1, row_2(b, q));
+    let most_3 = largest(most_2, row_3(b, q));
+    let most_4 = largest(most_3, row_4(b, q));
+    largest(most_4, row_5(b, q))
+}
+
+// Whether x is at most `limit` in size, which is a power of 2. A NaN is not.
+fn within(x: f64, limit: f64) -> bool
+    ensures { λ r. ⌜ ((a : ℕ) → r ≡ true → limit ≡ power a → Number a x) ⌝ }
+{
+    if -limit <= x {
+        return x <= limit;
+    }
+    false
+}
+
+// Whether each is at most 2^100 in size.
+fn six_within(p: [f64; 6]) -> bool
+    ensures { λ r. ⌜ (r ≡ true → (k : ℕ) → k < 6 → Number 100 (at p k)) ⌝ }
+{
+    let limit = 1.2676506002282294e30;
+    if within(p[0], limit) {
+        if within(p[1], limit) {
+            if within(p[2], limit) {
+                if within(p[3], limit) {
+                    if within(p[4], limit) {
+                        return within(p[5], limit);
+                    }
+                }
+            }
+        }
+    }
+    false
+}
+
+// Whether each parameter is at most 2 in size.
+fn parameters_within(x: Intersection) -> bool
+    ensures { λ r. ⌜ (r ≡ true → NearParameters (intersectionOf x)) ⌝ }
+{
+    if within(x.start, 2.0) {
+        if within(x.end, 2.0) {
+            if within(x.left, 2.0) {
+                if within(x.right, 2.0) {
+                    if within(x.from, 2.0) {
+                        return within(x.to, 2.0);
+                    }
+                }
+            }
+        }
+    }
+    false
+}
+
+// Whether the numbers are moderate: the parameters at most 2 in size, coefficients and waypoints 2^100.
+fn moderate(x: Intersection) -> bool
+    ensures { λ r. ⌜ (r ≡ true → Moderate (intersectionOf x)) ⌝ }
+{
+    let p = x.coefficients;
+    if parameters_within(x) {
+        if within(x.first, 1.2676506002282294e30) {
+            if within(x.second, 1.2676506002282294e30) {
+                return six_within(p);
+            }
+        }
+    }
+    false
+}
+
+// a - b, of two numbers that are read.
+fn difference(a: f64, b: f64) -> Spread
+    ensures { λ r. ⌜ ((k : ℕ) → k ≤ 997 → Number k a → Number k b → Stands (suc k) (ends .minus (ends .number a) (ends .number b)) r) ⌝ }
+{
+    spread::subtract(spread::single(a), spread::single(b))
+}
+
+// The differences of parameters: b - a and s_(i+1) - s_i, which are divided by; left - a, right - left and
+// left - s_i.
+pub struct Lengths {
+    pub segment: Spread,
+    pub interval: Spread,
+    pub before: Spread,
+    pub part: Spread,
+    pub since: Spread,
+}
+
+fn lengths_of(x: Intersection) -> Lengths
+    ensures { λ r. ⌜ (NearParameters (intersectionOf x) → LengthsStand (intersectionOf x) r) ⌝ }
+{
+    let segment = difference(x.end, x.start);
+    let interval = difference(x.to, x.from);
+    let before = difference(x.left, x.start);
+    let part = difference(x.right, x.left);
+    let since = difference(x.left, x.from);
+    Lengths {
+        segment,
+        interval,
+        before,
+        part,
+        since,
+    }
+}
+
+// Whether no dividend is below 0 and no divisor short.
+fn divisible(l: Lengths) -> bool
+    ensures { λ r. ⌜ (r ≡ true → Divisible l) ⌝ }
+{
+    let segment = l.segment;
+    let interval = l.interval;
+    let before = l.before;
+    let part = l.part;
+    let since = l.since;
+    if segment.below <= -8.673617379884035e-19 {
+        if interval.below <= -8.673617379884035e-19 {
+            if before.below <= 0.0 {
+                if part.below <= 0.0 {
+                    return since.below <= 0.0;
+                }
+            }
+        }
+    }
+    false
+}
+
+// What power 0 and power 1 lose.
+fn line_of(x: Intersection, l: Lengths) -> Line
+    ensures { λ r. ⌜ (Moderate (intersectionOf x) → LengthsStand (intersectionOf x) l → Divisible l
+        → Stands 753 (formula.lineAtLeft ends (intersectionOf x)) (r .left) × Stands 753 (formula.lineRise ends (intersectionOf x)) (r .rise)) ⌝ }
+{
+    let interval = l.interval;
+    let part = l.part;
+    let since = l.since;
+    let d = difference(x.second, x.first);
+    let left = spread::add(spread::single(x.first), spread::times(spread::over(since, interval), d));
+    let rise = spread::times(spread::over(part, interval), d);
+    Line {
+        left,
+        rise,
+    }
+}
+
+// The figure, from the lengths.
+fn figure_of(x: Intersection, l: Lengths) -> f64
+    ensures { λ r. ⌜ (Moderate (intersectionOf x) → LengthsStand (intersectionOf x) l → Divisible l
+        → sixFigure (formula.differenceBernstein ends (intersectionOf x)) ≡ figure r) ⌝ }
+{
+    let p = x.coefficients;
+    let segment = l.segment;
+    let before = l.before;
+    let part = l.part;
+    let u = powers_of(spread::over(before, segment));
+    let w = powers_of(spread::over(part, segment));
+    let line = line_of(x, l);
+    row_figure(without_line(curve_powers(p, u, w), line))
+}
+
+// The figure of an intersection at depth 0; or none, where its numbers are not moderate, or its intervals
+// too short: nothing is known then.
+pub(crate) fn quick_figure(x: Intersection) -> Figure
+    ensures { λ r. ⌜ ((v : Float) → figureIn r ≡ figure v → sixFigure (formula.differenceBernstein ends (intersectionOf x)) ≡ figure v) ⌝ }
+{
+    if moderate(x) {
+        let l = lengths_of(x);
+        if divisible(l) {
+            return Figure::Known(figure_of(x, l));
+        }
+    }
+    Figure::None
 }
