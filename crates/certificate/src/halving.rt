@@ -2,6 +2,7 @@
 // six Bernstein coefficients are split into two halves by de Casteljau's midpoints, and each half is
 // treated with one less depth.
 ghost use mathlib.Core.Path.{_≡_};
+ghost use Rattle.figure.specs.Intersection.{differenceBernstein};
 ghost use Rattle.figure.specs.Operations.{ends};
 ghost use Rattle.figure.specs.Halving.{leftHalf, midpoint, rightHalf};
 ghost use Rattle.figure.specs.Figure.{halvedFigure, intersectionFigure, larger, sixFigure, smaller};
@@ -12,6 +13,7 @@ use crate::intersection;
 use crate::intersection::Figure;
 use crate::intersection::Intersection;
 use crate::intersection::Six;
+use crate::quick;
 
 // Both halves.
 struct Halves {
@@ -99,13 +101,33 @@ fn halved_figure(depth: usize, b: Six) -> Figure
     smaller(own, intersection::larger(f, g))
 }
 
+// The figure of an intersection at depth 0: in spreads, or in pairs of ends where that says nothing.
+fn own_figure(x: Intersection) -> Figure
+    ensures { λ r. ⌜ figureIn r ≡ sixFigure (differenceBernstein ends (intersectionOf x)) ⌝ }
+{
+    let Figure::Known(most) = quick::quick_figure(x) else {
+        return six_figure(intersection::bernstein_pairs(x));
+    };
+    Figure::Known(most)
+}
+
+// The figure with a depth, from that at depth 0.
+fn deep_figure(depth: usize, x: Intersection, own: Figure) -> Figure
+    requires { ⌜ figureIn own ≡ sixFigure (differenceBernstein ends (intersectionOf x)) ⌝ }
+    ensures { λ r. ⌜ figureIn r ≡ intersectionFigure depth (intersectionOf x) ⌝ }
+{
+    if depth == 0 {
+        return own;
+    }
+    halved_figure(depth, intersection::bernstein_pairs(x))
+}
+
 // The largest so far with the figure of an intersection. Where its own is not above the largest so far,
 // no depth makes a difference, and it is not halved.
 pub(crate) fn with_figure(depth: usize, x: Intersection, so_far: Figure) -> Figure
     ensures { λ r. ⌜ figureIn r ≡ larger (figureIn «so_far») (intersectionFigure depth (intersectionOf x)) ⌝ }
 {
-    let b = intersection::bernstein_pairs(x);
-    let own = six_figure(b);
+    let own = own_figure(x);
     let Figure::Known(largest) = so_far else {
         return Figure::None;
     };
@@ -113,7 +135,7 @@ pub(crate) fn with_figure(depth: usize, x: Intersection, so_far: Figure) -> Figu
         return Figure::None;
     };
     if largest < most {
-        return intersection::larger(so_far, halved_figure(depth, b));
+        return intersection::larger(so_far, deep_figure(depth, x, own));
     }
     so_far
 }
