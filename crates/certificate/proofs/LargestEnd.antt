@@ -125,11 +125,12 @@ module _ (a : ℕ) (e : Ends) (s : Spread) (S : Stands a e s) where
   pub largest-stands : (x : Float) → T (finite x) → 𝟘 ≤q value x → (r : Float) → r ≡ highest x (highest (s .below) (s .above))
       → (figure r ≡ larger (figure x) (absoluteEnd e)) × T (finite r) × (𝟘 ≤q value r)
   unfolding larger absoluteEnd
-  largest-stands x X h r q = rw q
-      (rw (S .is) (ap figure (same-highest x (highest (s .below) (s .above)) (largestAbsolute (S .low) (S .high)) X h higher-fits most-fits
-      higher-finite most-finite same-end)),
-      highest-either (λ (z : Float). T (finite z)) x (highest (s .below) (s .above)) X higher-finite,
-      ≤q-trans 𝟘 (value x) (value (highest x (highest (s .below) (s .above)))) h (highest-is x (highest (s .below) (s .above)) X higher-finite .first))
+  largest-stands x X h r q = rw q (
+    rw (S .is) (ap figure (same-highest x (highest (s .below) (s .above)) (largestAbsolute (S .low) (S .high)) X h higher-fits most-fits
+        higher-finite most-finite same-end)),
+    highest-either (λ (z : Float). T (finite z)) x (highest (s .below) (s .above)) X higher-finite,
+    ≤q-trans 𝟘 (value x) (value (highest x (highest (s .below) (s .above)))) h (highest-is x (highest (s .below) (s .above)) X higher-finite .first),
+  )
 
 -- where the largest begins
 pub zero-not-negative : 𝟘 ≤q value (ofBits binary64 0)

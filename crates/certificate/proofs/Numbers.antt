@@ -210,8 +210,8 @@ up-number a l x N =
     let P = power-finite (suc a) in
     let w = power (suc a) in
     let h = up-least x (N .is-double) (N .is-finite) w (power-fits (suc a) (omega arith)) P
-        (subst (λ (z : ℚ). value x <q z) (sym (power-value (suc a))) (≤q-<q-trans (value x) (powerOfTwo a) (powerOfTwo (suc a)) (N .at-most)
-        (strict a))) in
+    (subst (λ (z : ℚ). value x <q z) (sym (power-value (suc a))) (≤q-<q-trans (value x) (powerOfTwo a) (powerOfTwo (suc a)) (N .at-most)
+    (strict a))) in
     let k = lt-is-le x (nextUp binary64 x) (above-it x (N .is-double) (N .is-finite)) in
     let R = between (nextUp binary64 x) x w (N .is-finite) P k h in
     record {
@@ -228,8 +228,8 @@ down-number a l x N =
     let w = neg (power (suc a)) in
     let W = neg-finite (power (suc a)) P in
     let h = down-greatest x (N .is-double) (N .is-finite) w (neg-fits binary64 _ (power-fits (suc a) (omega arith))) W
-        (rw (value-neg (power (suc a)) P, power-value (suc a)) (<q-≤q-trans (negq (powerOfTwo (suc a))) (negq (powerOfTwo a)) (value x)
-        (<q-negated (powerOfTwo a) (powerOfTwo (suc a)) (strict a)) (N .at-least))) in
+    (rw (value-neg (power (suc a)) P, power-value (suc a)) (<q-≤q-trans (negq (powerOfTwo (suc a))) (negq (powerOfTwo a)) (value x)
+    (<q-negated (powerOfTwo a) (powerOfTwo (suc a)) (strict a)) (N .at-least))) in
     let k = lt-is-le (nextDown binary64 x) x (below-it x (N .is-double) (N .is-finite)) in
     let R = between (nextDown binary64 x) w x W (N .is-finite) h k in
     record {

@@ -121,9 +121,9 @@ plus-to-itself : (y : Float) → T (fits binary64 y) → T (finite y) → (value
 plus-to-itself y F Y n =
     let r = add binary64 y nothing in
     let R : Rounded binary64 r (value y) = subst (Rounded binary64 r) (ap (λ (z : ℚ). value y +q z) zero-value
-        ∙ solve rationalRing (value y ∷ []) (v0 ⊕ con (pos 0)) v0 tt) (add-rounded binary64 y nothing Y tt) in
+    ∙ solve rationalRing (value y ∷ []) (v0 ⊕ con (pos 0)) v0 tt) (add-rounded binary64 y nothing Y tt) in
     let G = between r y y Y Y (rounds-above binary64 y F Y r (value y) R (≤q-refl (value y)))
-        (rounds-below binary64 y F Y r (value y) R (≤q-refl (value y))) in
+    (rounds-below binary64 y F Y r (value y) R (≤q-refl (value y))) in
     let e = rounded-same r y (value y) R (rounded-self binary64 y F Y) G Y in
     sym (itself r _ (plain-cases binary64 r) e) ∙ plain-unique r y (add-fits binary64 y nothing) F G Y e
   where

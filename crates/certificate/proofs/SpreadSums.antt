@@ -37,11 +37,12 @@ pub sum-size : (a : ℕ) (x y : ℚ) → negq (powerOfTwo a) ≤q x → x ≤q p
     → (negq (powerOfTwo (suc a)) ≤q x +q y) × (x +q y ≤q powerOfTwo (suc a))
 sum-size a x y l u m v =
     let A = powerOfTwo a in
-    let ρ = x ∷ y ∷ A ∷ [] in
-    (subst (λ (z : ℚ). negq z ≤q x +q y) (double a) (le-two rationalRing _≤q_ rationalOrder ρ (opposite (v2 ⊕ v2)) (v0 ⊕ v1) (con (pos 1))
-    (opposite v2) v0 (con (pos 1)) (opposite v2) v1 tt (≤q-whole 1) l (≤q-whole 1) m),
-    subst (λ (z : ℚ). x +q y ≤q z) (double a) (le-two rationalRing _≤q_ rationalOrder ρ (v0 ⊕ v1) (v2 ⊕ v2) (con (pos 1)) v0 v2 (con (pos 1))
-    v1 v2 tt (≤q-whole 1) u (≤q-whole 1) v))
+    let ρ = x ∷ y ∷ A ∷ [] in (
+      subst (λ (z : ℚ). negq z ≤q x +q y) (double a) (le-two rationalRing _≤q_ rationalOrder ρ (opposite (v2 ⊕ v2)) (v0 ⊕ v1) (con (pos 1))
+          (opposite v2) v0 (con (pos 1)) (opposite v2) v1 tt (≤q-whole 1) l (≤q-whole 1) m),
+      subst (λ (z : ℚ). x +q y ≤q z) (double a) (le-two rationalRing _≤q_ rationalOrder ρ (v0 ⊕ v1) (v2 ⊕ v2) (con (pos 1)) v0 v2 (con (pos 1))
+          v1 v2 tt (≤q-whole 1) u (≤q-whole 1) v),
+    )
 
 -- ---- rounded upward and downward
 upward-number : (a : ℕ) → a ≤ 1000 → (z : ℚ) (w : Float) → negq (powerOfTwo a) ≤q z → z ≤q powerOfTwo a → Upward binary64 z w → Number a w
@@ -211,15 +212,19 @@ difference-stands a l e g x y X Y t B A =
 -- ---- the first term of a sum, which is added to 0
 own-downward : (a : ℕ) → a ≤ 1000 → (c w : Float) → Number a c → Downward binary64 (value c) w → Number a w × (value w ≡ value c)
 own-downward a l c w N D =
-    let M = downward-number a l (value c) w (N .at-least) (N .at-most) D in
-    (M, ≤q-antisymmetric _ _ (downward-bound _ w (M .is-finite) (D .not-above)) (upward-bound _ w (M .is-finite)
-    (D .largest c (N .is-double) (N .is-finite) (≤q-refl (value c)))))
+    let M = downward-number a l (value c) w (N .at-least) (N .at-most) D in (
+      M,
+      ≤q-antisymmetric _ _ (downward-bound _ w (M .is-finite) (D .not-above)) (upward-bound _ w (M .is-finite)
+          (D .largest c (N .is-double) (N .is-finite) (≤q-refl (value c)))),
+    )
 
 own-upward : (a : ℕ) → a ≤ 1000 → (c w : Float) → Number a c → Upward binary64 (value c) w → Number a w × (value w ≡ value c)
 own-upward a l c w N D =
-    let M = upward-number a l (value c) w (N .at-least) (N .at-most) D in
-    (M, ≤q-antisymmetric _ _ (downward-bound _ w (M .is-finite) (D .smallest c (N .is-double) (N .is-finite) (≤q-refl (value c))))
-    (upward-bound _ w (M .is-finite) (D .not-below)))
+    let M = upward-number a l (value c) w (N .at-least) (N .at-most) D in (
+      M,
+      ≤q-antisymmetric _ _ (downward-bound _ w (M .is-finite) (D .smallest c (N .is-double) (N .is-finite) (≤q-refl (value c))))
+          (upward-bound _ w (M .is-finite) (D .not-below)),
+    )
 
 pub first-stands : (a : ℕ) → a ≤ 1000 → (g : Ends) (y : Spread) → Stands a g y → Stands a (addPairs binary64 (point (fin false 0 (pos 0))) g) y
 unfolding addPairs finiteEnds
@@ -229,9 +234,9 @@ first-stands a l g y Y =
     let d = downwardSum binary64 o (Y .low) in
     let u = upwardSum binary64 o (Y .high) in
     let D = own-downward a l (Y .low) d (Y .low-number) (subst (λ (z : ℚ). Downward binary64 z d) (none (value (Y .low)))
-        (downward-sum binary64 o (Y .low) tt (Y .low-number .is-finite))) in
+    (downward-sum binary64 o (Y .low) tt (Y .low-number .is-finite))) in
     let U = own-upward a l (Y .high) u (Y .high-number) (subst (λ (z : ℚ). Upward binary64 z u) (none (value (Y .high)))
-        (upward-sum binary64 o (Y .high) tt (Y .high-number .is-finite))) in
+    (upward-sum binary64 o (Y .high) tt (Y .high-number .is-finite))) in
     record {
       low = d;
       high = u;

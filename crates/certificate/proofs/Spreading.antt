@@ -51,19 +51,20 @@ below-size a b x y l u m v =
     let n = rationalOrder .nonnegative-mul A B (power-nonnegative a) (power-nonnegative b) in
     let same : (z : ℚ) → z ≡ A *q B → z ≤q A *q B = λ z e. subst (λ (w : ℚ). w ≤q A *q B) (sym e) (≤q-refl (A *q B)) in
     let less = le-one rationalRing _≤q_ rationalOrder ρ (opposite (v0 ⊗ v1)) (v0 ⊗ v1) (con (pos 2)) (con (pos 0)) (v0 ⊗ v1) tt (≤q-whole 2) n in
-    let to = power-times a b in
-    (subst (λ (z : ℚ). negq z ≤q x *q y) to
-    (product-above x (negq A) A y (negq B) B l u m v (negq (A *q B))
-    (subst (λ (z : ℚ). negq (A *q B) ≤q z) (solve rationalRing ρ (v0 ⊗ v1) (opposite v0 ⊗ opposite v1) tt) less)
-    (subst (λ (z : ℚ). negq (A *q B) ≤q z) (solve rationalRing ρ (opposite (v0 ⊗ v1)) (opposite v0 ⊗ v1) tt) (≤q-refl (negq (A *q B))))
-    (subst (λ (z : ℚ). negq (A *q B) ≤q z) (solve rationalRing ρ (opposite (v0 ⊗ v1)) (v0 ⊗ opposite v1) tt) (≤q-refl (negq (A *q B))))
-    less),
-    subst (λ (z : ℚ). x *q y ≤q z) to
-    (product-below x (negq A) A y (negq B) B l u m v (A *q B)
-    (same (negq A *q negq B) (solve rationalRing ρ (opposite v0 ⊗ opposite v1) (v0 ⊗ v1) tt))
-    (subst (λ (z : ℚ). z ≤q A *q B) (solve rationalRing ρ (opposite (v0 ⊗ v1)) (opposite v0 ⊗ v1) tt) less)
-    (subst (λ (z : ℚ). z ≤q A *q B) (solve rationalRing ρ (opposite (v0 ⊗ v1)) (v0 ⊗ opposite v1) tt) less)
-    (≤q-refl (A *q B))))
+    let to = power-times a b in (
+      subst (λ (z : ℚ). negq z ≤q x *q y) to
+          (product-above x (negq A) A y (negq B) B l u m v (negq (A *q B))
+          (subst (λ (z : ℚ). negq (A *q B) ≤q z) (solve rationalRing ρ (v0 ⊗ v1) (opposite v0 ⊗ opposite v1) tt) less)
+          (subst (λ (z : ℚ). negq (A *q B) ≤q z) (solve rationalRing ρ (opposite (v0 ⊗ v1)) (opposite v0 ⊗ v1) tt) (≤q-refl (negq (A *q B))))
+          (subst (λ (z : ℚ). negq (A *q B) ≤q z) (solve rationalRing ρ (opposite (v0 ⊗ v1)) (v0 ⊗ opposite v1) tt) (≤q-refl (negq (A *q B))))
+          less),
+      subst (λ (z : ℚ). x *q y ≤q z) to
+          (product-below x (negq A) A y (negq B) B l u m v (A *q B)
+          (same (negq A *q negq B) (solve rationalRing ρ (opposite v0 ⊗ opposite v1) (v0 ⊗ v1) tt))
+          (subst (λ (z : ℚ). z ≤q A *q B) (solve rationalRing ρ (opposite (v0 ⊗ v1)) (opposite v0 ⊗ v1) tt) less)
+          (subst (λ (z : ℚ). z ≤q A *q B) (solve rationalRing ρ (opposite (v0 ⊗ v1)) (v0 ⊗ opposite v1) tt) less)
+          (≤q-refl (A *q B))),
+    )
 
 -- a product of two numbers
 pub product : (a b : ℕ) → a + b ≤ 1000 → (x y : Float) → Number a x → Number b y → Number (a + b) (mul binary64 x y)
@@ -96,7 +97,7 @@ highest-turned v w x y p q r s A B C D P Q R S a b c d =
     let l = lowest-of-four p q r s P Q R S in
     let m = negq (value (lowestOf p q r s)) in
     let under : (u t : Float) → value u ≡ negq (value t) → value (lowestOf p q r s) ≤q value t → value u ≤q m = λ u t e h. subst (λ (z : ℚ). z ≤q m) (sym e)
-        (≤q-negated _ _ h) in
+    (≤q-negated _ _ h) in
     highest-most v w x y A B C D m (under v p a (l .0)) (under w q b (l .1)) (under x r c (l .2)) (under y s d (l .3))
     (λ n h₀ h₁ h₂ h₃. lowest-among (λ (t : Float). negq (value t) ≤q n) p q r s (subst (λ (z : ℚ). z ≤q n) a h₀) (subst (λ (z : ℚ). z ≤q n) b h₁)
     (subst (λ (z : ℚ). z ≤q n) c h₂) (subst (λ (z : ℚ). z ≤q n) d h₃))
@@ -121,13 +122,15 @@ zero-value = ≤q-antisymmetric (value (fin false 0 (pos 0))) 𝟘 tt tt
 plain-number : (a : ℕ) (x : Float) → Number a x → (p : Float) → Plain binary64 x p → Number a p × (value p ≡ value x)
 unfolding fits
 plain-number a x N p (a-zero F e) =
-    let z = zero-value ∙ sym e in
-    (record {
-      is-double = tt;
-      is-finite = tt;
-      at-least = subst (λ (q : ℚ). negq (powerOfTwo a) ≤q q) (sym z) (N .at-least);
-      at-most = subst (λ (q : ℚ). q ≤q powerOfTwo a) (sym z) (N .at-most);
-    }, z)
+    let z = zero-value ∙ sym e in (
+      record {
+        is-double = tt;
+        is-finite = tt;
+        at-least = subst (λ (q : ℚ). negq (powerOfTwo a) ≤q q) (sym z) (N .at-least);
+        at-most = subst (λ (q : ℚ). q ≤q powerOfTwo a) (sym z) (N .at-most);
+      },
+      z,
+    )
 plain-number a x N p (no-zero n) = (N, refl)
 
 pub under-largest : (a : ℕ) → a ≤ 999 → (x : Float) → Number a x → lt x largestNumber ≡ true
@@ -156,8 +159,12 @@ outward-stands a l p q r s v w P Q R S N M e f t b u =
     record {
       low = nextDown binary64 L;
       high = nextUp binary64 H;
-      is = rw (is-true (finite L) (X .is-finite), is-true (finite H) (Y .is-finite), is-true (finite (nextDown binary64 L)) (D .is-finite),
-          is-true (finite (nextUp binary64 H)) (U .is-finite)) refl;
+      is = rw (
+        is-true (finite L) (X .is-finite),
+        is-true (finite H) (Y .is-finite),
+        is-true (finite (nextDown binary64 L)) (D .is-finite),
+        is-true (finite (nextUp binary64 H)) (U .is-finite),
+      ) refl;
       low-number = D;
       high-number = U;
       below-number = rw b (up-number a l (bounded v) (O .0));
@@ -336,13 +343,14 @@ inverse-size k y Y h =
     let i = inverse y in
     let A = powerOfTwo k in
     let n = inverse-nonnegative y (<q-weaken 𝟘 y Y) in
-    let one = inverse-is y Y in
-    (≤q-trans (negq A) 𝟘 i (le-one rationalRing _≤q_ rationalOrder (A ∷ []) (opposite v0) (con (pos 0)) (con (pos 1)) (con (pos 0)) v0 tt
-    (≤q-whole 1) (power-nonnegative k)) n,
-    subst (λ (z : ℚ). z ≤q A) (solve rationalRing (i ∷ []) (v0 ⊗ con (pos 1)) v0 tt)
-    (subst (λ (z : ℚ). i *q 𝟙 ≤q z) (solve rationalRing (i ∷ A ∷ y ∷ []) (v0 ⊗ (v1 ⊗ v2)) (v1 ⊗ (v2 ⊗ v0)) tt
-    ∙ ap (λ (z : ℚ). A *q z) one ∙ solve rationalRing (A ∷ []) (v0 ⊗ con (pos 1)) v0 tt)
-    (le-one rationalRing _≤q_ rationalOrder (i ∷ (A *q y) ∷ []) (v0 ⊗ con (pos 1)) (v0 ⊗ v1) v0 (con (pos 1)) v1 tt n h)))
+    let one = inverse-is y Y in (
+      ≤q-trans (negq A) 𝟘 i (le-one rationalRing _≤q_ rationalOrder (A ∷ []) (opposite v0) (con (pos 0)) (con (pos 1)) (con (pos 0)) v0 tt
+          (≤q-whole 1) (power-nonnegative k)) n,
+      subst (λ (z : ℚ). z ≤q A) (solve rationalRing (i ∷ []) (v0 ⊗ con (pos 1)) v0 tt)
+          (subst (λ (z : ℚ). i *q 𝟙 ≤q z) (solve rationalRing (i ∷ A ∷ y ∷ []) (v0 ⊗ (v1 ⊗ v2)) (v1 ⊗ (v2 ⊗ v0)) tt
+          ∙ ap (λ (z : ℚ). A *q z) one ∙ solve rationalRing (A ∷ []) (v0 ⊗ con (pos 1)) v0 tt)
+          (le-one rationalRing _≤q_ rationalOrder (i ∷ (A *q y) ∷ []) (v0 ⊗ con (pos 1)) (v0 ⊗ v1) v0 (con (pos 1)) v1 tt n h)),
+    )
 
 -- a divisor: finite, above 0 and at least 2^-k
 pub record Divisor (k : ℕ) (y : Float) : Type 0 where
@@ -524,7 +532,7 @@ unfolding ofBits
 long-divisor b g y Y t =
     let h : value (y .below) ≤q value shortest = le-value (y .below) shortest (Y .below-number .is-finite) tt t in
     let k : negq (value shortest) ≤q value (Y .low) = subst (λ (z : ℚ). negq (value shortest) ≤q z) (ap negq (Y .below-value)
-        ∙ twice (value (Y .low))) (≤q-negated (value (y .below)) (value shortest) h) in
+    ∙ twice (value (Y .low))) (≤q-negated (value (y .below)) (value shortest) h) in
     record {
       divides = Y .low-number .is-finite;
       is-above = <q-≤q-trans 𝟘 (negq (value shortest)) (value (Y .low)) shortest-above k;

@@ -60,13 +60,16 @@ difference-turned r r′ x a l R S N e =
     let p = sub-rounded binary64 r x (R .is-finite) (N .is-finite) in
     let q = sub-rounded binary64 r′ (neg x) (S .is-finite) (n .is-finite) in
     let i = sum-size a (value r) (negq (value x)) (R .at-least) (R .at-most) (rw (value-neg x (N .is-finite)) at (n .at-least))
-        (rw (value-neg x (N .is-finite)) at (n .at-most)) in
+    (rw (value-neg x (N .is-finite)) at (n .at-most)) in
     let j = sum-size a (value r′) (negq (value (neg x))) (S .at-least) (S .at-most) (rw (value-neg (neg x) (n .is-finite)) at (m .at-least))
-        (rw (value-neg (neg x) (n .is-finite)) at (m .at-most)) in
+    (rw (value-neg (neg x) (n .is-finite)) at (m .at-most)) in
     let F = rounded-number (suc a) (omega arith) (sub binary64 r x) _ p (i .0) (i .1) .is-finite in
-    let G = rounded-number (suc a) (omega arith) (sub binary64 r′ (neg x)) _ q (j .0) (j .1) .is-finite in
-    (F, G, turned-value _ _ _ _ p q F G (ap (λ (w : ℚ). w -q value (neg x)) e ∙ ap (λ (w : ℚ). negq (value r) -q w) (value-neg x (N .is-finite))
-    ∙ solve rationalRing (value r ∷ value x ∷ []) (opposite v0 ⊖ opposite v1) (opposite (v0 ⊖ v1)) tt))
+    let G = rounded-number (suc a) (omega arith) (sub binary64 r′ (neg x)) _ q (j .0) (j .1) .is-finite in (
+      F,
+      G,
+      turned-value _ _ _ _ p q F G (ap (λ (w : ℚ). w -q value (neg x)) e ∙ ap (λ (w : ℚ). negq (value r) -q w) (value-neg x (N .is-finite))
+          ∙ solve rationalRing (value r ∷ value x ∷ []) (opposite v0 ⊖ opposite v1) (opposite (v0 ⊖ v1)) tt),
+    )
 
 module _ (a : ℕ) (l : a ≤ 997) (x y : Float) (N : Number a x) (M : Number a y) where
   exact : ℚ
@@ -103,7 +106,7 @@ module _ (a : ℕ) (l : a ≤ 997) (x y : Float) (N : Number a x) (M : Number a 
       → lt (neg v) (sub binary64 (add binary64 (neg x) (neg y)) (neg u)) ≡ lt (sub binary64 (add binary64 x y) u) v
   one-test u v U W =
       let d = difference-turned (add binary64 x y) (add binary64 (neg x) (neg y)) u (suc a) (omega arith) sum-is turned-is
-          (wider a (suc a) (omega arith) u U) sum-turned in
+      (wider a (suc a) (omega arith) u U) sum-turned in
       lt-turned (neg v) _ _ v (neg-finite v (W .is-finite)) (d .1) (d .0) (W .is-finite) (value-neg v (W .is-finite)) (d .2)
 
   test-is : rises ≡ isAbove (add binary64 (neg x) (neg y)) (value (neg x) +q value (neg y))

@@ -28,7 +28,7 @@ pub fn both(x: f64) -> Ends
 }
 
 // Both. It compiles to an `and`, with no branch.
-fn and(a: bool, b: bool) -> bool
+pub(crate) fn and(a: bool, b: bool) -> bool
     ensures { λ r. ⌜ r ≡ (a && b) ⌝ }
 {
     if a {

@@ -145,17 +145,37 @@ pub struct Row {
     pub five: Spread,
 }
 
-// The powers of the curve: each sum, times w^j.
-fn curve_powers(p: [f64; 6], u: Powers, w: Powers) -> Row
-    ensures { λ r. ⌜ ((e g : Ends) → ((k : ℕ) → k < 6 → Number 100 (at p k)) → PowersStand e u → PowersStand g w
-        → RowStands 753 (formula.power ends (λ k. ends .number (at p k)) e g) r) ⌝ }
+// The six sums.
+fn sums(p: [f64; 6], u: Powers) -> Row
+    ensures { λ r. ⌜ ((e : Ends) → ((k : ℕ) → k < 6 → Number 100 (at p k)) → PowersStand e u → RowStands 431 (powerSum (at p) e) r) ⌝ }
 {
-    let zero = spread::times_number(sum_0(p, u), 1.0);
-    let one = spread::times(sum_1(p, u), w.one);
-    let two = spread::times(sum_2(p, u), w.two);
-    let three = spread::times(sum_3(p, u), w.three);
-    let four = spread::times(sum_4(p, u), w.four);
-    let five = spread::times(lead(p[5]), w.five);
+    let zero = sum_0(p, u);
+    let one = sum_1(p, u);
+    let two = sum_2(p, u);
+    let three = sum_3(p, u);
+    let four = sum_4(p, u);
+    let five = lead(p[5]);
+    Row {
+        zero,
+        one,
+        two,
+        three,
+        four,
+        five,
+    }
+}
+
+// The powers of the curve: each sum, times w^j.
+fn curve_powers(q: Row, w: Powers) -> Row
+    ensures { λ r. ⌜ ((f : ℕ → Ends) (g : Ends) → RowStands 431 f q → PowersStand g w
+        → RowStands 753 (λ j. ends .times (f j) (formula.raised ends g j)) r) ⌝ }
+{
+    let zero = spread::times_number(q.zero, 1.0);
+    let one = spread::times(q.one, w.one);
+    let two = spread::times(q.two, w.two);
+    let three = spread::times(q.three, w.three);
+    let four = spread::times(q.four, w.four);
+    let five = spread::times(q.five, w.five);
     Row {
         zero,
         one,
@@ -367,27 +387,52 @@ fn line_of(x: Intersection, l: Lengths) -> Line
     let part = l.part;
     let since = l.since;
     let d = difference(x.second, x.first);
-    let left = spread::add(spread::single(x.first), spread::times(spread::over(since, interval), d));
+    let left = spread::add(
+        spread::single(x.first),
+        spread::times(spread::over(since, interval), d),
+    );
     let rise = spread::times(spread::over(part, interval), d);
-    Line {
-        left,
-        rise,
+    Line { left, rise }
+}
+
+// Six zeros.
+fn zeros() -> Row {
+    let zero = spread::single(0.0);
+    Row {
+        zero,
+        one: zero,
+        two: zero,
+        three: zero,
+        four: zero,
+        five: zero,
     }
 }
 
-// The figure, from the lengths.
-fn figure_of(x: Intersection, l: Lengths) -> f64
-    ensures { λ r. ⌜ (Moderate (intersectionOf x) → LengthsStand (intersectionOf x) l → Divisible l
-        → sixFigure (formula.differenceBernstein ends (intersectionOf x)) ≡ figure r) ⌝ }
+// The sums of the powers, if `good`; otherwise zeros, which mean nothing. Where the two ways meet, both
+// ends of a spread come from the same place, and the compiler takes them through all that follows at once.
+fn sums_of(x: Intersection, l: Lengths, good: bool) -> Row
+    ensures { λ r. ⌜ (good ≡ true → Moderate (intersectionOf x) → LengthsStand (intersectionOf x) l → Divisible l
+        → RowStands 431 (powerSum (at (x .coefficients)) (formula.offset ends (intersectionOf x))) r) ⌝ }
 {
     let p = x.coefficients;
     let segment = l.segment;
     let before = l.before;
+    if good {
+        return sums(p, powers_of(spread::over(before, segment)));
+    }
+    zeros()
+}
+
+// The figure, from the lengths, if `good`.
+fn figure_of(x: Intersection, l: Lengths, good: bool) -> f64
+    ensures { λ r. ⌜ (good ≡ true → Moderate (intersectionOf x) → LengthsStand (intersectionOf x) l → Divisible l
+        → sixFigure (formula.differenceBernstein ends (intersectionOf x)) ≡ figure r) ⌝ }
+{
+    let segment = l.segment;
     let part = l.part;
-    let u = powers_of(spread::over(before, segment));
     let w = powers_of(spread::over(part, segment));
     let line = line_of(x, l);
-    row_figure(without_line(curve_powers(p, u, w), line))
+    row_figure(without_line(curve_powers(sums_of(x, l, good), w), line))
 }
 
 // The figure of an intersection at depth 0; or none, where its numbers are not moderate, or its intervals
@@ -395,11 +440,11 @@ fn figure_of(x: Intersection, l: Lengths) -> f64
 pub(crate) fn quick_figure(x: Intersection) -> Figure
     ensures { λ r. ⌜ ((v : Float) → figureIn r ≡ figure v → sixFigure (formula.differenceBernstein ends (intersectionOf x)) ≡ figure v) ⌝ }
 {
-    if moderate(x) {
-        let l = lengths_of(x);
-        if divisible(l) {
-            return Figure::Known(figure_of(x, l));
-        }
+    let l = lengths_of(x);
+    let good = ends::and(moderate(x), divisible(l));
+    let f = figure_of(x, l, good);
+    if good {
+        return Figure::Known(f);
     }
     Figure::None
 }

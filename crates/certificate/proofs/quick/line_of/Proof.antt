@@ -11,8 +11,7 @@ returns c = λ M L D.
     let s = c .before .before .before .before .over .ensures 2 2 _ _ (omega arith) (L .4) (L .1) (D .4) (D .1) in
     let t = c .before .before .before .times .ensures 63 101 _ _ (omega arith) s d in
     let f = stands-wider 100 165 (omega arith) _ _ (c .before .before .before .before .before .single .ensures 100 (M .first)) in
-    let p = c .before .over2 .ensures 2 2 _ _ (omega arith) (L .3) (L .1) (D .3) (D .1) in
-    (
+    let p = c .before .over2 .ensures 2 2 _ _ (omega arith) (L .3) (L .1) (D .3) (D .1) in (
       stands-wider 166 753 (omega arith) _ _ (c .before .before .add .ensures 165 _ _ (omega arith) f t),
       stands-wider 165 753 (omega arith) _ _ (c .times2 .ensures 63 101 _ _ (omega arith) p d),
     )

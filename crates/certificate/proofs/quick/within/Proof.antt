@@ -13,4 +13,4 @@ returns-2 : tie.Need-returns-2
 returns-2 c = λ a h e. never h
 
 pub within-spec : {M : Type 1} → statement M
-within-spec = tie.close (tie.spec  returns returns-2)
+within-spec = tie.close (tie.spec returns returns-2)
