@@ -20,10 +20,10 @@ use Rattle.fraction.proofs.Value.{absolute-float, value-neg}
 use Rattle.arith.specs.Loop.{each, turns}
 use Rattle.window.specs.Cells.{+0}
 use Rattle.figure.specs.Figure.{Figure, absoluteEnd, figure, larger, noFigure, sixFigure}
-use Rattle.certificate.specs.Spreads.{Number, Stands}
-use Rattle.certificate.specs.declared.spread.Spread.{Spread}
-use Rattle.certificate.proofs.Numbers.{twice}
-use Rattle.certificate.proofs.PlainNumbers.{plain-unique}
+use Rattle.pairs.specs.Spreads.{Number, Stands}
+use Rattle.pairs.specs.declared.spread.Spread.{Spread}
+use Rattle.pairs.proofs.Numbers.{twice}
+use Rattle.pairs.proofs.PlainNumbers.{plain-unique}
 
 -- ---- |x|
 absolute-below : (x : Float) → T (finite x) → (m : ℚ) → value x ≤q m → negq (value x) ≤q m → value (absoluteFloat x) ≤q m

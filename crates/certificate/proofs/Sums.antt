@@ -10,8 +10,9 @@ use Rattle.fraction.specs.Binomial.{choose}
 use Rattle.fraction.specs.Pair as pairs
 use Rattle.figure.specs.Operations.{Operations, ends}
 use Rattle.figure.specs.Intersection.{bernstein, power, raised, total}
-use Rattle.certificate.specs.Structs.{Holds, endsOf, pairAt}
-use Rattle.certificate.specs.declared.ends.Ends.{Ends}
+use Rattle.pairs.specs.Structs.{endsOf}
+use Rattle.certificate.specs.Structs.{Holds, pairAt}
+use Rattle.pairs.specs.declared.ends.Ends.{Ends}
 use Rattle.figure.proofs.Enclosure.{Keeps, bernstein-keeps}
 
 -- ---- sums and powers

@@ -8,8 +8,9 @@ use lib.ListN.{getD}
 use Rattle.fraction.specs.Pair as pairs
 use Rattle.figure.specs.Halving.{leftHalf, level, midpoint, rightHalf}
 use Rattle.figure.specs.Operations.{ends}
-use Rattle.certificate.specs.Structs.{Holds, endsOf, pairAt}
-use Rattle.certificate.specs.declared.ends.Ends.{Ends}
+use Rattle.pairs.specs.Structs.{endsOf}
+use Rattle.certificate.specs.Structs.{Holds, pairAt}
+use Rattle.pairs.specs.declared.ends.Ends.{Ends}
 use Rattle.certificate.proofs.Sums.{holds-six}
 
 -- the cell at j of an array

@@ -6,7 +6,7 @@ use lib.Ieee.{Float, binary64, ofBits, round}
 use lib.Ieee.Bits.{ofBits-fits}
 use Rattle.fraction.specs.Rational.{_≤q_, atMostq, negq, 𝟘, 𝟙}
 use Rattle.fraction.specs.Value.{value}
-use Rattle.certificate.specs.Spreads.{Number}
+use Rattle.pairs.specs.Spreads.{Number}
 
 -- the pattern b is the whole number n's, from 1 to 10
 pub record Whole (b n : ℕ) : Type 0 where

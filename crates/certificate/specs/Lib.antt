@@ -2,5 +2,4 @@
 -- are defined in crate `figure`.
 pub mod Outcome
 pub mod Quick
-pub mod Spreads
 pub mod Structs

@@ -8,7 +8,7 @@ use Rattle.fraction.specs.Binomial.{choose}
 use Rattle.fraction.specs.Pair.{Ends}
 use Rattle.figure.specs.Operations.{ends}
 use Rattle.figure.specs.Intersection.{Intersection, raised, total}
-use Rattle.certificate.specs.Spreads.{Number, Stands, shortest}
+use Rattle.pairs.specs.Spreads.{Number, Stands, shortest}
 use Rattle.certificate.specs.declared.quick.Lengths.{Lengths}
 use Rattle.certificate.specs.declared.quick.Powers.{Powers}
 use Rattle.certificate.specs.declared.quick.Row.{Row}

@@ -1,31 +1,20 @@
 -- What the code's structs and enums stand for.
 use Prim.Native.Nat.{ℕ, _<_}
-use mathlib.Core.Bool.{cond, false}
+use mathlib.Core.Bool.{false}
 use mathlib.Core.List.{List}
 use mathlib.Core.Path.{_≡_}
-use lib.Ieee.{Float, binary64, nan, ofBits}
+use lib.Ieee.{nan}
 use lib.ListN.{getD}
 use Rattle.window.specs.Cells.{at}
-use Rattle.fraction.specs.Pair.{none, pair}
 use Rattle.fraction.specs.Pair as pairs
 use Rattle.figure.specs.Figure as figures
 use Rattle.figure.specs.Figure.{figure, noFigure}
 use Rattle.figure.specs.Intersection as intersections
-use Rattle.certificate.specs.declared.ends.Ends.{Ends}
+use Rattle.pairs.specs.Structs.{endsOf}
+use Rattle.pairs.specs.declared.ends.Ends.{Ends}
 use Rattle.certificate.specs.declared.intersection.Figure.{Figure}
 use Rattle.certificate.specs.declared.intersection.Figure.the-variants.{Known, None}
 use Rattle.certificate.specs.declared.intersection.Intersection.{Intersection}
-
--- the lowest and the largest f64: -1.7976931348623157e308 and 1.7976931348623157e308
-abbrev pub lowestNumber : Float
-lowestNumber = ofBits binary64 0xffef_ffff_ffff_ffff
-
-abbrev pub largestNumber : Float
-largestNumber = ofBits binary64 0x7fef_ffff_ffff_ffff
-
--- the ends, if the struct says that there are any
-abbrev pub endsOf : Ends → pairs.Ends
-endsOf e = cond (e .good) (pair (e .low) (e .high)) none
 
 -- the numbers of an intersection
 abbrev pub intersectionOf : Intersection → intersections.Intersection

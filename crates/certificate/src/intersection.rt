@@ -10,9 +10,10 @@ ghost use Rattle.fraction.specs.Pair.{point};
 ghost use Rattle.figure.specs.Operations.{ends};
 ghost use Rattle.figure.specs.Intersection.{bernstein, differenceBernstein, differencePower, lineAtLeft, lineRise, offset, raised, scale, total};
 ghost use Rattle.figure.specs.Figure.{absoluteEnd, larger};
-ghost use Rattle.certificate.specs.Structs.{Holds, endsOf, figureIn, intersectionOf, pairAt};
-use crate::ends;
-use crate::ends::Ends;
+ghost use Rattle.pairs.specs.Structs.{endsOf};
+ghost use Rattle.certificate.specs.Structs.{Holds, figureIn, intersectionOf, pairAt};
+use pairs::ends;
+use pairs::ends::Ends;
 
 // The numbers that an intersection is computed from.
 pub struct Intersection {

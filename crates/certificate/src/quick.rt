@@ -13,14 +13,14 @@ ghost use Rattle.fraction.specs.Value.{value};
 ghost use Rattle.figure.specs.Operations.{ends};
 ghost use Rattle.figure.specs.Intersection as formula;
 ghost use Rattle.figure.specs.Figure.{absoluteEnd, figure, larger, sixFigure};
-ghost use Rattle.certificate.specs.Spreads.{Number, Stands, power};
+ghost use Rattle.pairs.specs.Spreads.{Number, Stands, power};
 ghost use Rattle.certificate.specs.Quick.{Divisible, LengthsStand, Moderate, NearParameters, PowersStand, RowStands, powerSum};
 ghost use Rattle.certificate.specs.Structs.{figureIn, intersectionOf};
-use crate::ends;
+use pairs::ends;
 use crate::intersection::Figure;
 use crate::intersection::Intersection;
-use crate::spread;
-use crate::spread::Spread;
+use pairs::spread;
+use pairs::spread::Spread;
 
 // u^1 .. u^5
 pub struct Powers {

@@ -7,7 +7,8 @@ use Rattle.fraction.specs.Binomial.{choose}
 use Rattle.fraction.specs.Pair as pairs
 use Rattle.figure.specs.Intersection.{bernstein, total}
 use Rattle.figure.specs.Operations.{ends}
-use Rattle.certificate.specs.Structs.{endsOf, pairAt}
+use Rattle.pairs.specs.Structs.{endsOf}
+use Rattle.certificate.specs.Structs.{pairAt}
 use Rattle.certificate.proofs.Sums.{total-more}
 use Rattle.certificate.proofs.intersection.bernstein.Statement.{statement}
 use Rattle.certificate.proofs.intersection.bernstein.Tie as tie

@@ -7,7 +7,8 @@ use lib.Ieee.{binary64, ofBits, round}
 use Rattle.fraction.specs.Binomial.{choose}
 use Rattle.figure.specs.Intersection.{bernstein, differencePower}
 use Rattle.figure.specs.Operations.{ends}
-use Rattle.certificate.specs.Structs.{endsOf, intersectionOf, pairAt}
+use Rattle.pairs.specs.Structs.{endsOf}
+use Rattle.certificate.specs.Structs.{intersectionOf, pairAt}
 use Rattle.certificate.proofs.Sums.{bernstein-zero, holds-bernstein, holds-six, six-at}
 use Rattle.certificate.proofs.intersection.bernstein_pairs.Statement.{statement}
 use Rattle.certificate.proofs.intersection.bernstein_pairs.Tie as tie

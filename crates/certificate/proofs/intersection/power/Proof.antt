@@ -11,8 +11,9 @@ use Rattle.fraction.specs.Pair as pairs
 use Rattle.fraction.specs.Pair.{point}
 use Rattle.figure.specs.Intersection.{total}
 use Rattle.figure.specs.Operations.{ends}
-use Rattle.certificate.specs.Structs.{endsOf, pairAt}
-use Rattle.certificate.specs.declared.ends.Ends.{Ends}
+use Rattle.pairs.specs.Structs.{endsOf}
+use Rattle.certificate.specs.Structs.{pairAt}
+use Rattle.pairs.specs.declared.ends.Ends.{Ends}
 use Rattle.certificate.proofs.Sums.{total-more, total-none}
 use Rattle.certificate.proofs.intersection.power.Statement.{statement}
 use Rattle.certificate.proofs.intersection.power.Tie as tie

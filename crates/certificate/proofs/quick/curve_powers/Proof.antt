@@ -2,7 +2,7 @@
 use native.Mathlib.Omega.{arith}
 use lib.Ieee.{ofBits, round}
 use Rattle.figure.specs.Intersection.{raised}
-use Rattle.certificate.proofs.SpreadSums.{stands-wider}
+use Rattle.pairs.proofs.SpreadSums.{stands-wider}
 use Rattle.certificate.proofs.Wholes.{one}
 use borrow.Author.Needs.{needs}
 use Rattle.certificate.proofs.quick.curve_powers.Statement.{statement}

@@ -1,5 +1,5 @@
 -- `quick::divisible` meets its contract.
-use Rattle.certificate.proofs.Numbers.{never}
+use Rattle.pairs.proofs.Numbers.{never}
 use lib.Ieee.{neg, ofBits}
 use borrow.Author.Needs.{needs}
 use Rattle.certificate.proofs.quick.divisible.Statement.{statement}

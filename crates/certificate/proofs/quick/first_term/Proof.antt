@@ -1,7 +1,7 @@
 -- `quick::first_term` meets its contract.
 use native.Mathlib.Omega.{arith}
 use lib.Ieee.{binary64, ofBits, round}
-use Rattle.certificate.proofs.SpreadSums.{first-stands}
+use Rattle.pairs.proofs.SpreadSums.{first-stands}
 use Rattle.certificate.proofs.Wholes.{one}
 use borrow.Author.Needs.{needs}
 use Rattle.certificate.proofs.quick.first_term.Statement.{statement}

@@ -1,7 +1,7 @@
 -- `quick::moderate` meets its contract.
 use mathlib.Core.Path.{refl}
 use lib.Ieee.{ofBits}
-use Rattle.certificate.proofs.Numbers.{never}
+use Rattle.pairs.proofs.Numbers.{never}
 use borrow.Author.Needs.{needs}
 use Rattle.certificate.proofs.quick.moderate.Statement.{statement}
 use Rattle.certificate.proofs.quick.moderate.Tie as tie

@@ -1,7 +1,7 @@
 -- `quick::parameters_within` meets its contract.
 use mathlib.Core.Path.{refl}
 use lib.Ieee.{ofBits}
-use Rattle.certificate.proofs.Numbers.{never}
+use Rattle.pairs.proofs.Numbers.{never}
 use borrow.Author.Needs.{needs}
 use Rattle.certificate.proofs.quick.parameters_within.Statement.{statement}
 use Rattle.certificate.proofs.quick.parameters_within.Tie as tie

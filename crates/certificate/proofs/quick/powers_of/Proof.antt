@@ -3,7 +3,7 @@ use native.Mathlib.Omega.{arith}
 use lib.Ieee.{ofBits, round}
 use Rattle.fraction.specs.Pair.{finiteEnds}
 use Rattle.figure.specs.Intersection.{raised}
-use Rattle.certificate.proofs.SpreadSums.{stands-wider}
+use Rattle.pairs.proofs.SpreadSums.{stands-wider}
 use Rattle.certificate.proofs.Wholes.{unit}
 use borrow.Author.Needs.{needs}
 use Rattle.certificate.proofs.quick.powers_of.Statement.{statement}

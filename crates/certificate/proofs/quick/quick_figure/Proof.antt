@@ -1,7 +1,7 @@
 -- `quick::quick_figure` meets its contract.
 use mathlib.Core.Path.{_∙_, sym}
 use Rattle.certificate.proofs.LargestEnd.{none-is-none}
-use Rattle.certificate.proofs.Outward.{both-hold}
+use Rattle.pairs.proofs.Outward.{both-hold}
 use borrow.Author.Needs.{needs}
 use Rattle.certificate.proofs.quick.quick_figure.Statement.{statement}
 use Rattle.certificate.proofs.quick.quick_figure.Tie as tie

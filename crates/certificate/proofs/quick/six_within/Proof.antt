@@ -1,7 +1,7 @@
 -- `quick::six_within` meets its contract.
 use mathlib.Core.Path.{refl}
 use lib.Ieee.{ofBits}
-use Rattle.certificate.proofs.Numbers.{never}
+use Rattle.pairs.proofs.Numbers.{never}
 use Rattle.certificate.proofs.Sums.{six-all}
 use borrow.Author.Needs.{needs}
 use Rattle.certificate.proofs.quick.six_within.Statement.{statement}

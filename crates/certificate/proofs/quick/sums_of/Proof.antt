@@ -1,7 +1,7 @@
 -- `quick::sums_of` meets its contract.
 use native.Mathlib.Omega.{arith}
 use mathlib.Core.Path.{_∙_, sym}
-use Rattle.certificate.proofs.Numbers.{never}
+use Rattle.pairs.proofs.Numbers.{never}
 use borrow.Author.Needs.{needs}
 use Rattle.certificate.proofs.quick.sums_of.Statement.{statement}
 use Rattle.certificate.proofs.quick.sums_of.Tie as tie

@@ -1,6 +1,6 @@
 -- `quick::with_term` meets its contract.
 use native.Mathlib.Omega.{arith}
-use Rattle.certificate.proofs.SpreadSums.{stands-wider}
+use Rattle.pairs.proofs.SpreadSums.{stands-wider}
 use borrow.Author.Needs.{needs}
 use Rattle.certificate.proofs.quick.with_term.Statement.{statement}
 use Rattle.certificate.proofs.quick.with_term.Tie as tie

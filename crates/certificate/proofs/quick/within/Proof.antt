@@ -1,7 +1,7 @@
 -- `quick::within` meets its contract.
 use mathlib.Core.Path.{subst, sym}
 use lib.Dec.{T}
-use Rattle.certificate.proofs.Numbers.{never, number-between}
+use Rattle.pairs.proofs.Numbers.{never, number-between}
 use borrow.Author.Needs.{needs}
 use Rattle.certificate.proofs.quick.within.Statement.{statement}
 use Rattle.certificate.proofs.quick.within.Tie as tie

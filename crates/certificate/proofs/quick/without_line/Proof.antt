@@ -1,6 +1,6 @@
 -- `quick::without_line` meets its contract.
 use native.Mathlib.Omega.{arith}
-use Rattle.certificate.proofs.SpreadSums.{stands-wider}
+use Rattle.pairs.proofs.SpreadSums.{stands-wider}
 use borrow.Author.Needs.{needs}
 use Rattle.certificate.proofs.quick.without_line.Statement.{statement}
 use Rattle.certificate.proofs.quick.without_line.Tie as tie

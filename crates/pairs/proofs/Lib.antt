@@ -1,0 +1,10 @@
+-- The laws.
+pub mod BitSteps
+pub mod Numbers
+pub mod Outward
+pub mod Pairs
+pub mod PlainNumbers
+pub mod SpreadSums
+pub mod Spreading
+pub mod UpwardTests
+pub mod Zeros
