@@ -1,10 +1,8 @@
 -- The largest absolute end of a pair, from what stands for it: its ends are in order, so it is the higher of minus the low one and the high
 -- one.
 use mathlib.Core.Bool.{Bool, cond, false, true, true≢false}
-use mathlib.Core.List.{[], _∷_}
 use mathlib.Core.Path.{_∙_, _≡_, ap, refl, subst, sym}
 use Prim.Native.Nat.{_≤_, suc, zero, ℕ}
-use lib.IntN.{ℤ}
 use lib.Dec.{T, T-not}
 use lib.Ieee.{Float, binary64, fin, fits, inf, lt, nan, neg, ofBits}
 use lib.Ieee.Scale.{finite}
@@ -20,7 +18,7 @@ use Rattle.fraction.proofs.Value.{absolute-float, value-neg}
 use Rattle.arith.specs.Loop.{each, turns}
 use Rattle.window.specs.Cells.{+0}
 use Rattle.figure.specs.Figure.{Figure, absoluteEnd, figure, larger, noFigure, sixFigure}
-use Rattle.pairs.specs.Spreads.{Number, Stands}
+use Rattle.pairs.specs.Spreads.{Stands}
 use Rattle.pairs.specs.declared.spread.Spread.{Spread}
 use Rattle.pairs.proofs.Numbers.{twice}
 use Rattle.pairs.proofs.PlainNumbers.{plain-unique}
@@ -51,7 +49,8 @@ highest-either P x y p q = go (lt x y)
 
 -- both are above a number that is not negative, or neither
 lt-same : (x y z : Float) → T (finite x) → T (finite y) → T (finite z) → value y ≡ value z → lt x y ≡ lt x z
-lt-same x y z X Y Z e = same (lt x y) (lt x z) (λ t. lt-of-value x z X Z (subst (λ (q : ℚ). value x <q q) e (lt-value x y X Y (subst T (sym t) tt))))
+lt-same x y z X Y Z e = same (lt x y) (lt x z) (λ t. lt-of-value x z X Z (subst (λ (q : ℚ). value x <q q) e (lt-value x y X Y (subst T
+    (sym t) tt))))
     (λ t. lt-of-value x y X Y (subst (λ (q : ℚ). value x <q q) (sym e) (lt-value x z X Z (subst T (sym t) tt))))
   where
     same : (p q : Bool) → (p ≡ true → q ≡ true) → (q ≡ true → p ≡ true) → p ≡ q
@@ -83,10 +82,12 @@ module _ (a : ℕ) (e : Ends) (s : Spread) (S : Stands a e s) where
   higher-end = highest (s .below) (s .above)
 
   higher-finite : T (finite (highest (s .below) (s .above)))
-  higher-finite = highest-either (λ (z : Float). T (finite z)) (s .below) (s .above) (S .below-number .is-finite) (S .above-number .is-finite)
+  higher-finite = highest-either (λ (z : Float). T (finite z)) (s .below) (s .above) (S .below-number .is-finite) (S .above-number
+      .is-finite)
 
   higher-fits : T (fits binary64 (highest (s .below) (s .above)))
-  higher-fits = highest-either (λ (z : Float). T (fits binary64 z)) (s .below) (s .above) (S .below-number .is-double) (S .above-number .is-double)
+  higher-fits = highest-either (λ (z : Float). T (fits binary64 z)) (s .below) (s .above) (S .below-number .is-double) (S .above-number
+      .is-double)
 
   most-finite : T (finite (largestAbsolute (S .low) (S .high)))
   unfolding largestAbsolute
@@ -116,11 +117,13 @@ module _ (a : ℕ) (e : Ends) (s : Spread) (S : Stands a e s) where
       ≤q-antisymmetric m n
       (highest-either (λ (z : Float). value z ≤q n) (s .below) (s .above)
       (subst (λ (z : ℚ). z ≤q n) (sym (S .below-value)) (≤q-trans (negq (value l)) (value (absoluteFloat l)) n
-      (subst (λ (z : ℚ). negq (value l) ≤q z) (twice (value (absoluteFloat l))) (≤q-negated (negq (value (absoluteFloat l))) (value l) (A .1))) (v .first)))
+      (subst (λ (z : ℚ). negq (value l) ≤q z) (twice (value (absoluteFloat l))) (≤q-negated (negq (value (absoluteFloat l))) (value l) (A
+      .1))) (v .first)))
       (subst (λ (z : ℚ). z ≤q n) (sym (S .above-value)) (≤q-trans (value h) (value (absoluteFloat h)) n (B .2) (v .second))))
       (highest-either (λ (z : Float). value z ≤q m) (absoluteFloat l) (absoluteFloat h)
       (absolute-below l L m (≤q-trans (value l) (value h) m (S .ordered) high-under) low-under)
-      (absolute-below h H m high-under (≤q-trans (negq (value h)) (negq (value l)) m (≤q-negated (value l) (value h) (S .ordered)) low-under)))
+      (absolute-below h H m high-under (≤q-trans (negq (value h)) (negq (value l)) m (≤q-negated (value l) (value h) (S .ordered))
+      low-under)))
 
   pub largest-stands : (x : Float) → T (finite x) → 𝟘 ≤q value x → (r : Float) → r ≡ highest x (highest (s .below) (s .above))
       → (figure r ≡ larger (figure x) (absoluteEnd e)) × T (finite r) × (𝟘 ≤q value r)
@@ -129,7 +132,8 @@ module _ (a : ℕ) (e : Ends) (s : Spread) (S : Stands a e s) where
     rw (S .is) (ap figure (same-highest x (highest (s .below) (s .above)) (largestAbsolute (S .low) (S .high)) X h higher-fits most-fits
         higher-finite most-finite same-end)),
     highest-either (λ (z : Float). T (finite z)) x (highest (s .below) (s .above)) X higher-finite,
-    ≤q-trans 𝟘 (value x) (value (highest x (highest (s .below) (s .above)))) h (highest-is x (highest (s .below) (s .above)) X higher-finite .first),
+    ≤q-trans 𝟘 (value x) (value (highest x (highest (s .below) (s .above)))) h (highest-is x (highest (s .below) (s .above)) X
+        higher-finite .first),
   )
 
 -- where the largest begins

@@ -2,7 +2,6 @@
 use mathlib.Core.List.{List, [], _∷_}
 use mathlib.Core.Path.{_∙_, _≡_, ap, refl}
 use Prim.Native.Nat.{ℕ, zero, suc, _+_, _-_, _<_}
-use native.Mathlib.Numerals.{add-one}
 use native.Mathlib.Omega.{arith}
 use lib.Ieee.{Float}
 use Rattle.window.specs.Cells.{at}
@@ -73,7 +72,8 @@ bernstein-zero q = refl
 
 -- power j, of the powers of u that it holds and of w^j
 pub held-power : (p : ℕ → Float) (l : List Ends) (u w v : pairs.Ends) (j : ℕ) → j < 6 → Holds l (raised ends u) → v ≡ raised ends w j
-    → ends .times (total ends j (6 - j) (λ k. ends .times (ends .times (ends .whole (choose k j)) (ends .number (p k))) (pairAt l (k - j)))) v
+    → ends .times (total ends j (6 - j) (λ k. ends .times (ends .times (ends .whole (choose k j)) (ends .number (p k))) (pairAt l (k -
+    j)))) v
     ≡ power ends (λ k. ends .number (p k)) u w j
 unfolding power
 held-power p l u w v j m h e =

@@ -2,7 +2,7 @@
 use mathlib.Core.Bool.{false}
 use mathlib.Core.Path.{_≡_, refl}
 use Prim.Native.Nat.{ℕ}
-use lib.Ieee.{Float, binary64, ofBits, round}
+use lib.Ieee.{binary64, ofBits, round}
 use lib.Ieee.Bits.{ofBits-fits}
 use Rattle.fraction.specs.Rational.{_≤q_, atMostq, negq, 𝟘, 𝟙}
 use Rattle.fraction.specs.Value.{value}

@@ -8,13 +8,13 @@ ghost use Rattle.figure.specs.Halving.{leftHalf, midpoint, rightHalf};
 ghost use Rattle.figure.specs.Figure.{halvedFigure, intersectionFigure, larger, sixFigure, smaller};
 ghost use Rattle.pairs.specs.Structs.{endsOf};
 ghost use Rattle.certificate.specs.Structs.{Holds, figureIn, intersectionOf, pairAt};
-use pairs::ends;
-use pairs::ends::Ends;
 use crate::intersection;
 use crate::intersection::Figure;
 use crate::intersection::Intersection;
 use crate::intersection::Six;
 use crate::quick;
+use pairs::ends;
+use pairs::ends::Ends;
 
 // Both halves.
 struct Halves {

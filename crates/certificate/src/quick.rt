@@ -16,9 +16,9 @@ ghost use Rattle.figure.specs.Figure.{absoluteEnd, figure, larger, sixFigure};
 ghost use Rattle.pairs.specs.Spreads.{Number, Stands, power};
 ghost use Rattle.certificate.specs.Quick.{Divisible, LengthsStand, Moderate, NearParameters, PowersStand, RowStands, powerSum};
 ghost use Rattle.certificate.specs.Structs.{figureIn, intersectionOf};
-use pairs::ends;
 use crate::intersection::Figure;
 use crate::intersection::Intersection;
+use pairs::ends;
 use pairs::spread;
 use pairs::spread::Spread;
 

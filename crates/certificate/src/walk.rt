@@ -12,10 +12,10 @@ ghost use Rattle.figure.specs.Axis.{axisOf};
 ghost use Rattle.figure.specs.Distance.{Rises};
 ghost use Rattle.figure.specs.Figure.{figureOf, intersectionFigure, larger, meeting};
 ghost use Rattle.certificate.specs.Structs.{figureIn, intersectionOf};
-use pairs::ends;
 use crate::halving;
 use crate::intersection::Figure;
 use crate::intersection::Intersection;
+use pairs::ends;
 use request::parameters;
 use request::parameters::Spacing;
 

@@ -12,19 +12,18 @@ use lib.Ieee.Fits.{neg-fits, round-fits}
 use lib.Ieee.Scale.{finite}
 use lib.IntN.{pos}
 use Rattle.fraction.specs.NextNumber.{nextDown, nextUp}
-use Rattle.fraction.specs.Rational.{_<q_, _≤q_, atMostq, negq, wholeq, ℚ}
+use Rattle.fraction.specs.Rational.{_<q_, _≤q_, atMostq, negq, ℚ}
 use Rattle.fraction.specs.RationalRing.{rationalRing}
-use Rattle.fraction.specs.Ring.{_⊕_, _⊖_, _⊗_, con, opposite, solve, v0, v1, v2, v3}
-use Rattle.fraction.specs.Order.{le-one, le-two}
+use Rattle.fraction.specs.Ring.{opposite, solve, v0}
 use borrow.Author.Tests.{lt-ltb}
 use Rattle.fraction.specs.Rounding.{Rounded}
 use Rattle.fraction.specs.Integer.{_≤ℤ_, signed}
 use Rattle.fraction.specs.Value.{fraction, value}
 use Rattle.fraction.proofs.Monotone.{round-neg, rounded-monotone}
 use Rattle.fraction.proofs.Adjacent.{next-down-greatest, next-up-least}
-use Rattle.fraction.proofs.Comparison.{eq-value, le-of-value, lt-of-value, lt-value}
+use Rattle.fraction.proofs.Comparison.{eq-value, lt-of-value, lt-value}
 use Rattle.fraction.proofs.OwnRounding.{rounds-above, rounds-below}
-use Rattle.fraction.proofs.Rational.{<q-≤q-trans, ≤q-<q-trans, <q-weaken, ≤q-antisymmetric, ≤q-negated, ≤q-refl, ≤q-trans}
+use Rattle.fraction.proofs.Rational.{<q-≤q-trans, ≤q-<q-trans, ≤q-antisymmetric, ≤q-negated, ≤q-refl, ≤q-trans}
 use Rattle.fraction.proofs.Value.{fraction-back, fraction-le, neg-finite, value-le-of-lt, value-le-of-not-lt, value-neg}
 use Rattle.pairs.specs.Spreads.{Number, power, powerOfTwo}
 use Rattle.pairs.proofs.Outward.{next-down-fits, next-up-fits}
@@ -99,7 +98,8 @@ number-between a r F l u =
 rounded-fits : (r : Float) (z : ℚ) → Rounded binary64 r z → T (fits binary64 r)
 rounded-fits r z R = subst (λ (x : Float). T (fits binary64 x)) (sym (R .rounds)) (round-fits binary64 (R .sign) (R .over) (R .under))
 
-pub rounded-number : (a : ℕ) → a ≤ 1000 → (r : Float) (z : ℚ) → Rounded binary64 r z → negq (powerOfTwo a) ≤q z → z ≤q powerOfTwo a → Number a r
+pub rounded-number : (a : ℕ) → a ≤ 1000 → (r : Float) (z : ℚ) → Rounded binary64 r z → negq (powerOfTwo a) ≤q z → z ≤q powerOfTwo a →
+    Number a r
 rounded-number a l r z R h k =
     let F = power-fits a l in
     let P = power-finite a in
@@ -132,7 +132,8 @@ rounded-turned r z R =
     turned false = sym (round-neg binary64 (R .over) (R .under))
     turned true = ap neg (round-neg binary64 (R .over) (R .under)) ∙ neg-back (round binary64 false (R .over) (R .under))
 
-    go : (s : Bool) → negq (fraction (signed s (R .over)) (R .under) (R .positive)) ≡ fraction (signed (not s) (R .over)) (R .under) (R .positive)
+    go : (s : Bool) → negq (fraction (signed s (R .over)) (R .under) (R .positive)) ≡ fraction (signed (not s) (R .over)) (R .under) (R
+        .positive)
     go false = refl
     go true = twice (fraction (signed false (R .over)) (R .under) (R .positive))
 
@@ -273,10 +274,12 @@ pub next-same : (a : ℕ) → a ≤ 999 → (x y : Float) → Number a x → Num
 next-same a s x y N M e = ≤q-antisymmetric _ _ (next-le a s x y N M e) (next-le a s y x M N (sym e))
 
 pub raised : (a : ℕ) → a ≤ 999 → (x : Float) → Number a x → value x ≤q value (nextUp binary64 x)
-raised a l x N = value-le-of-lt x (nextUp binary64 x) (N .is-finite) (up-number a l x N .is-finite) (above-it x (N .is-double) (N .is-finite))
+raised a l x N = value-le-of-lt x (nextUp binary64 x) (N .is-finite) (up-number a l x N .is-finite) (above-it x (N .is-double) (N
+    .is-finite))
 
 pub lowered : (a : ℕ) → a ≤ 999 → (x : Float) → Number a x → value (nextDown binary64 x) ≤q value x
-lowered a l x N = value-le-of-lt (nextDown binary64 x) x (down-number a l x N .is-finite) (N .is-finite) (below-it x (N .is-double) (N .is-finite))
+lowered a l x N = value-le-of-lt (nextDown binary64 x) x (down-number a l x N .is-finite) (N .is-finite) (below-it x (N .is-double) (N
+    .is-finite))
 
 -- ---- tests that fail
 pub never : {A : Type 0} → false ≡ true → A

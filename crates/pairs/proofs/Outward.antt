@@ -137,13 +137,15 @@ moved-tested (inf true) h L H u d = ap (λ (z : Float). tested z (nextUp binary6
 moved-tested (inf false) h L H u d =
     ap (λ (z : Float). tested (nextDown binary64 (inf false)) (nextUp binary64 z)) (u refl)
     ∙ ap (tested (nextDown binary64 (inf false))) (next-up-infinity binary64)
-    ∙ ap (λ (b : Bool). cond b (pair (nextDown binary64 (inf false)) (inf false)) none) (and-false (lt (inf true) (nextDown binary64 (inf false))))
+    ∙ ap (λ (b : Bool). cond b (pair (nextDown binary64 (inf false)) (inf false)) none) (and-false (lt (inf true) (nextDown binary64 (inf
+    false))))
 moved-tested (fin s m e) nan L H u d =
     ap (tested (nextDown binary64 (fin s m e))) (next-up-nan binary64)
     ∙ ap (λ (b : Bool). cond b (pair (nextDown binary64 (fin s m e)) nan) none) (and-false (lt (inf true) (nextDown binary64 (fin s m e))))
 moved-tested (fin s m e) (inf false) L H u d =
     ap (tested (nextDown binary64 (fin s m e))) (next-up-infinity binary64)
-    ∙ ap (λ (b : Bool). cond b (pair (nextDown binary64 (fin s m e)) (inf false)) none) (and-false (lt (inf true) (nextDown binary64 (fin s m e))))
+    ∙ ap (λ (b : Bool). cond b (pair (nextDown binary64 (fin s m e)) (inf false)) none) (and-false (lt (inf true) (nextDown binary64 (fin
+    s m e))))
 moved-tested (fin s m e) (inf true) L H u d = absurd (subst (λ (z : Float). T (finite z)) (d refl) tt)
 moved-tested (fin s m e) (fin t n k) L H u d =
     let a = finite-above (nextDown binary64 (fin s m e)) (fin s m e) (next-down-greatest binary64 (fin s m e) L tt .0) in

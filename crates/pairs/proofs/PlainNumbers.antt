@@ -1,5 +1,5 @@
 -- A number plus +0 is the number, and +0 for either zero.
-use mathlib.Core.Bool.{Bool, _&&_, cond, false, true, true≢false}
+use mathlib.Core.Bool.{Bool, cond, false, true, true≢false}
 use mathlib.Core.List.{[], _∷_}
 use mathlib.Core.Path.{_∙_, _≡_, ap, refl, subst, sym}
 use Prim.Native.Nat.{_*_, _+_, _-_, _/_, _^_, _<_, _≤_, suc, zero, ℕ}
@@ -7,10 +7,10 @@ use native.Mathlib.Omega.{arith}
 use native.Mathlib.Nat.{mul-pos, pow-suc, zero-mul}
 use native.Mathlib.Decide.{decLt}
 use mathlib.Core.Logic.{_⊎_, inl, inr}
-use lib.Dec.{T, eqb, eqb→eq, ltb}
+use lib.Dec.{T, eqb, eqb→eq}
 use lib.Pow.{pow-pos}
-use lib.Ieee.{Float, Format, add, binary64, down, emax, eq, fin, fits, inf, isNan, low, lt, nan, nanBits, ofBits, prec, round, sum, toBits, up}
-use lib.Ieee.Bits.{is-true, nanBits-is, ofBits-fits, ofBits-toBits}
+use lib.Ieee.{Float, add, binary64, down, eq, fin, fits, inf, isNan, lt, nan, nanBits, ofBits, round, sum, toBits, up}
+use lib.Ieee.Bits.{nanBits-is, ofBits-fits, ofBits-toBits}
 use lib.Ieee.Exact.{HasValue, round-exact}
 use lib.Ieee.Fits.{add-fits, cond-fits, down-pos, round-fits, up-pos}
 use lib.Ieee.Scale.{finite}
@@ -23,7 +23,7 @@ use Rattle.fraction.specs.Ring.{_⊕_, con, solve, v0}
 use Rattle.fraction.specs.Rounding.{Rounded}
 use Rattle.fraction.specs.Fraction.{wholeFraction}
 use Rattle.fraction.specs.Integer.{parts-neg}
-use Rattle.fraction.specs.Value.{BoundsAbove, BoundsBelow, exactFraction, value}
+use Rattle.fraction.specs.Value.{exactFraction, value}
 use Rattle.fraction.proofs.DirectedSum.{Plain, a-zero, downward-unique, no-zero, plain-cases}
 use Rattle.fraction.proofs.OwnRounding.{rounded-self, rounds-above, rounds-below}
 use Rattle.fraction.proofs.Rational.{≤q-antisymmetric, ≤q-means-≤f, ≤q-refl}
@@ -78,7 +78,8 @@ unfolding fits
 zero-form nan c C F v = absurd v
 zero-form (inf s) c C F v = absurd v
 zero-form (fin s zero e) c C F v = ap (λ (b : Bool). fin b 0 e) (v .0) ∙ ap (fin false 0) (no-exponent e F)
-zero-form (fin s (suc m) e) c C F v = let q : 0 < suc m = omega arith in let p = mul-pos (mul-pos q (up-pos e)) C in absurd (omega (arith, v .1))
+zero-form (fin s (suc m) e) c C F v = let q : 0 < suc m = omega arith in let p = mul-pos (mul-pos q (up-pos e)) C in absurd (omega
+    (arith, v .1))
 
 round-nothing : (c : ℕ) → 0 < c → round binary64 false 0 c ≡ fin false 0 (pos 0)
 round-nothing c C = zero-form (round binary64 false 0 c) c C (round-fits binary64 false 0 c)
@@ -115,7 +116,14 @@ not-nothing m true e h =
     let p : 0 < suc m = omega arith in
     let q = mul-pos p (up-pos e) in
     let k = ≤q-means-≤f (wholeFraction (pos 0)) (exactFraction (fin true (suc m) e)) (subst (λ (z : ℚ). 𝟘 ≤q z) (sym h) (≤q-refl 𝟘)) in
-    absurd (omega (arith, q, rw (signed-mul true (suc m * up e) 1) at k, parts-neg (pos (suc m * up e * 1)) .0, parts-neg (pos (suc m * up e * 1)) .1))
+    absurd (omega (
+      arith,
+      q,
+      rw (signed-mul true (suc m * up e) 1) at k,
+      parts-neg (pos (suc m * up e * 1)) .0,
+      parts-neg (pos (suc m *
+          up e * 1)) .1,
+    ))
 
 plus-to-itself : (y : Float) → T (fits binary64 y) → T (finite y) → (value y ≡ 𝟘 → ⊥) → add binary64 y nothing ≡ plainZero binary64 y
 plus-to-itself y F Y n =
@@ -187,14 +195,16 @@ module _ (x : Float) (F : T (fits binary64 x)) where
   never p (no-zero n) h = n (subst (λ (z : Float). T (finite z)) (sym h) tt) (ap value h ∙ minus-zero)
 
   pub not-minus-zero : toBits binary64 (bounded x) ≡ 0x8000_0000_0000_0000 → ⊥
-  not-minus-zero h = never (bounded x) (plain-cases binary64 (lowest largestNumber x)) (sym (ofBits-toBits binary64 (bounded x) bounded-fits)
+  not-minus-zero h = never (bounded x) (plain-cases binary64 (lowest largestNumber x)) (sym (ofBits-toBits binary64 (bounded x)
+      bounded-fits)
       ∙ ap (ofBits binary64) h)
 
   pub bounded-bits : ((toBits binary64 (bounded x) < 0x7ff0_0000_0000_0000) ⊎ (0x8000_0000_0000_0000 < toBits binary64 (bounded x)))
       × (toBits binary64 (bounded x) ≤ 0xfff0_0000_0000_0000)
   bounded-bits = go (toBits binary64 (bounded x)) (below-bits (bounded x) bounded-under bounded-fits) not-minus-zero
     where
-      go : (b : ℕ) → Below b → (b ≡ 0x8000_0000_0000_0000 → ⊥) → ((b < 0x7ff0_0000_0000_0000) ⊎ (0x8000_0000_0000_0000 < b)) × (b ≤ 0xfff0_0000_0000_0000)
+      go : (b : ℕ) → Below b → (b ≡ 0x8000_0000_0000_0000 → ⊥) → ((b < 0x7ff0_0000_0000_0000) ⊎ (0x8000_0000_0000_0000 < b)) × (b ≤
+          0xfff0_0000_0000_0000)
       go b B n = elim (B .0) [
         | inl h ↦ (inl h, B .1)
         | inr h ↦ elim (decLt 0x8000_0000_0000_0000 b) [
@@ -217,8 +227,10 @@ pub stepped : (x : Float) → T (fits binary64 x) → (t : Bool) → ofBits bina
 stepped x F true = sym (next-up-bits binary64 (bounded x) (bounded-not-nan x F))
 stepped x F false = ofBits-toBits binary64 (bounded x) (bounded-fits x F)
 
-pub stepped-not-nan : (x : Float) → T (fits binary64 x) → (t : Bool) → nanBits binary64 (cond t (upBits binary64 (toBits binary64 (bounded x)))
+pub stepped-not-nan : (x : Float) → T (fits binary64 x) → (t : Bool) → nanBits binary64 (cond t (upBits binary64 (toBits binary64
+    (bounded x)))
     (toBits binary64 (bounded x))) ≡ false
 stepped-not-nan x F true = up-not-nan binary64 (bounded x) (bounded-fits x F) (rw (bounded-not-nan x F) tt)
-stepped-not-nan x F false = nanBits-is binary64 (toBits binary64 (bounded x)) ∙ ap isNan (ofBits-toBits binary64 (bounded x) (bounded-fits x F))
+stepped-not-nan x F false = nanBits-is binary64 (toBits binary64 (bounded x)) ∙ ap isNan (ofBits-toBits binary64 (bounded x)
+    (bounded-fits x F))
     ∙ bounded-not-nan x F

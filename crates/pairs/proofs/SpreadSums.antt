@@ -1,8 +1,8 @@
 -- What stands for two pairs gives what stands for their sum and their difference.
-use mathlib.Core.Bool.{false, not, true}
+use mathlib.Core.Bool.{false, true}
 use mathlib.Core.List.{[], _∷_}
 use mathlib.Core.Path.{_∙_, _≡_, ap, refl, subst, sym}
-use Prim.Native.Nat.{_*_, _+_, _^_, _<_, _≤_, suc, ℕ}
+use Prim.Native.Nat.{_*_, _+_, _^_, _≤_, suc, ℕ}
 use native.Mathlib.Omega.{arith}
 use lib.Dec.{T}
 use lib.Ieee.{Float, binary64, fin, fits, inf, nan, neg}
@@ -14,9 +14,9 @@ use lib.IntN.{pos}
 use Rattle.fraction.specs.DirectedSum.{Downward, Upward, downwardSum, plainZero, upwardSum}
 use Rattle.fraction.specs.Order.{le-two}
 use Rattle.fraction.specs.Pair.{Ends, addPairs, finiteEnds, pair, point, subtractPairs}
-use Rattle.fraction.specs.Rational.{_*q_, _+q_, _≤q_, negq, ℚ, 𝟘}
+use Rattle.fraction.specs.Rational.{_+q_, _≤q_, negq, ℚ}
 use Rattle.fraction.specs.RationalRing.{rationalRing}
-use Rattle.fraction.specs.Ring.{_⊕_, _⊖_, _⊗_, con, opposite, solve, v0, v1, v2, v3}
+use Rattle.fraction.specs.Ring.{_⊕_, con, opposite, solve, v0, v1, v2, v3}
 use Rattle.fraction.specs.Value.{BoundsAbove, BoundsBelow, value}
 use Rattle.fraction.proofs.DirectedSum.{Plain, a-zero, downward-sum, no-zero, plain-cases, upward-sum, upward-unique}
 use Rattle.fraction.proofs.Rational.{rationalOrder, ≤q-antisymmetric, ≤q-negated, ≤q-refl, ≤q-trans, ≤q-whole}
@@ -40,13 +40,15 @@ sum-size a x y l u m v =
     let ρ = x ∷ y ∷ A ∷ [] in (
       subst (λ (z : ℚ). negq z ≤q x +q y) (double a) (le-two rationalRing _≤q_ rationalOrder ρ (opposite (v2 ⊕ v2)) (v0 ⊕ v1) (con (pos 1))
           (opposite v2) v0 (con (pos 1)) (opposite v2) v1 tt (≤q-whole 1) l (≤q-whole 1) m),
-      subst (λ (z : ℚ). x +q y ≤q z) (double a) (le-two rationalRing _≤q_ rationalOrder ρ (v0 ⊕ v1) (v2 ⊕ v2) (con (pos 1)) v0 v2 (con (pos 1))
+      subst (λ (z : ℚ). x +q y ≤q z) (double a) (le-two rationalRing _≤q_ rationalOrder ρ (v0 ⊕ v1) (v2 ⊕ v2) (con (pos 1)) v0 v2 (con
+          (pos 1))
           v1 v2 tt (≤q-whole 1) u (≤q-whole 1) v),
     )
 
 -- ---- rounded upward and downward
 upward-number : (a : ℕ) → a ≤ 1000 → (z : ℚ) (w : Float) → negq (powerOfTwo a) ≤q z → z ≤q powerOfTwo a → Upward binary64 z w → Number a w
-upward-number a l z w h k D = go w (D .of-format) (D .not-below) (D .smallest (power a) (power-fits a l) (power-finite a) (rw (power-value a) k))
+upward-number a l z w h k D = go w (D .of-format) (D .not-below) (D .smallest (power a) (power-fits a l) (power-finite a) (rw
+    (power-value a) k))
   where
     go : (w : Float) → T (fits binary64 w) → BoundsAbove w z → BoundsBelow w (value (power a)) → Number a w
     go nan F b s = absurd b
@@ -60,9 +62,11 @@ upward-number a l z w h k D = go w (D .of-format) (D .not-below) (D .smallest (p
           at-most = subst (λ (q : ℚ). value (fin t m e) ≤q q) (power-value a) s;
         }
 
-downward-number : (a : ℕ) → a ≤ 1000 → (z : ℚ) (w : Float) → negq (powerOfTwo a) ≤q z → z ≤q powerOfTwo a → Downward binary64 z w → Number a w
+downward-number : (a : ℕ) → a ≤ 1000 → (z : ℚ) (w : Float) → negq (powerOfTwo a) ≤q z → z ≤q powerOfTwo a → Downward binary64 z w →
+    Number a w
 downward-number a l z w h k D =
-    go w (D .of-format) (D .not-above) (D .largest (neg (power a)) (neg-fits binary64 (power a) (power-fits a l)) (neg-finite (power a) (power-finite a))
+    go w (D .of-format) (D .not-above) (D .largest (neg (power a)) (neg-fits binary64 (power a) (power-fits a l)) (neg-finite (power a)
+    (power-finite a))
     (rw (value-neg (power a) (power-finite a), power-value a) h))
   where
     go : (w : Float) → T (fits binary64 w) → BoundsBelow w z → BoundsAbove w (value (neg (power a))) → Number a w
@@ -100,7 +104,8 @@ module _ (a : ℕ) (l : a ≤ 999) (x y : Float) (N : Number a x) (M : Number a 
   size = sum-size a (value x) (value y) (N .at-least) (N .at-most) (M .at-least) (M .at-most)
 
   pub up-sum : Number (suc a) (upwardSum binary64 x y)
-  up-sum = upward-number (suc a) (omega arith) (value x +q value y) _ (size .0) (size .1) (upward-sum binary64 x y (N .is-finite) (M .is-finite))
+  up-sum = upward-number (suc a) (omega arith) (value x +q value y) _ (size .0) (size .1) (upward-sum binary64 x y (N .is-finite) (M
+      .is-finite))
 
   down-sum : Number (suc a) (downwardSum binary64 x y)
   down-sum = downward-number (suc a) (omega arith) (value x +q value y) _ (size .0) (size .1)
@@ -143,7 +148,8 @@ module _ (a : ℕ) (l : a ≤ 999) (e g : Ends) (x y : Spread) (X : Stands a e x
       ∙ turned-sum (X .low) (Y .low)
 
   above-sum : upwardSum binary64 (x .above) (y .above) ≡ upwardSum binary64 (X .high) (Y .high)
-  above-sum = same-sum _ _ _ _ (X .above-number .is-finite) (Y .above-number .is-finite) (X .high-number .is-finite) (Y .high-number .is-finite)
+  above-sum = same-sum _ _ _ _ (X .above-number .is-finite) (Y .above-number .is-finite) (X .high-number .is-finite) (Y .high-number
+      .is-finite)
       (ap (λ (z : ℚ). z +q value (y .above)) (X .above-value) ∙ ap (λ (z : ℚ). value (X .high) +q z) (Y .above-value))
 
   pub sum-stands : (t : Spread) → UpwardSum (x .below) (y .below) (t .below) → UpwardSum (x .above) (y .above) (t .above)
@@ -174,13 +180,18 @@ module _ (a : ℕ) (l : a ≤ 999) (e g : Ends) (x y : Spread) (X : Stands a e x
         ordered =
             ≤q-trans (value d) (value (X .low) +q value (Y .low)) (value u) (downward-bound _ d (D .is-finite) (DS .not-above))
             (≤q-trans (value (X .low) +q value (Y .low)) (value (X .high) +q value (Y .high)) (value u)
-            (le-two rationalRing _≤q_ rationalOrder (value (X .low) ∷ value (Y .low) ∷ value (X .high) ∷ value (Y .high) ∷ []) (v0 ⊕ v1) (v2 ⊕ v3)
+            (le-two rationalRing _≤q_ rationalOrder (value (X .low) ∷ value (Y .low) ∷ value (X .high) ∷ value (Y .high) ∷ []) (v0 ⊕ v1)
+            (v2 ⊕ v3)
             (con (pos 1)) v0 v2 (con (pos 1)) v1 v3 tt (≤q-whole 1) (X .ordered) (≤q-whole 1) (Y .ordered))
             (upward-bound _ u (U .is-finite) (US .not-below)));
       }
 
 -- the pair turned
-turned-stands : (a : ℕ) (g : Ends) (y : Spread) (Y : Stands a g y) → Stands a (pair (neg (Y .high)) (neg (Y .low))) (record { below = y .above; above = y .below })
+turned-stands : (a : ℕ) (g : Ends) (y : Spread) (Y : Stands a g y) → Stands a (pair (neg (Y .high)) (neg (Y .low))) (record {
+  below = y
+      .above;
+  above = y .below;
+})
 turned-stands a g y Y =
     let L = value-neg (Y .low) (Y .low-number .is-finite) in
     let H = value-neg (Y .high) (Y .high-number .is-finite) in
@@ -199,14 +210,16 @@ turned-stands a g y Y =
 
 -- ---- differences
 pub difference-stands : (a : ℕ) → a ≤ 999 → (e g : Ends) (x y : Spread) → Stands a e x → Stands a g y → (t : Spread)
-    → UpwardSum (x .below) (y .above) (t .below) → UpwardSum (x .above) (y .below) (t .above) → Stands (suc a) (subtractPairs binary64 e g) t
+    → UpwardSum (x .below) (y .above) (t .below) → UpwardSum (x .above) (y .below) (t .above) → Stands (suc a) (subtractPairs binary64 e
+    g) t
 unfolding addPairs subtractPairs
 difference-stands a l e g x y X Y t B A =
     subst (λ (z : Ends). Stands (suc a) z t) (same (X .is) (Y .is))
     (sum-stands a l (pair (X .low) (X .high)) (pair (neg (Y .high)) (neg (Y .low))) x (record { below = y .above; above = y .below })
     (subst (λ (z : Ends). Stands a z x) (X .is) X) (turned-stands a g y Y) t B A)
   where
-    same : {p q r s : Float} → e ≡ pair p q → g ≡ pair r s → addPairs binary64 (pair p q) (pair (neg s) (neg r)) ≡ subtractPairs binary64 e g
+    same : {p q r s : Float} → e ≡ pair p q → g ≡ pair r s → addPairs binary64 (pair p q) (pair (neg s) (neg r)) ≡ subtractPairs binary64
+        e g
     same h k = rw (h, k) refl
 
 -- ---- the first term of a sum, which is added to 0
@@ -226,7 +239,8 @@ own-upward a l c w N D =
           (upward-bound _ w (M .is-finite) (D .not-below)),
     )
 
-pub first-stands : (a : ℕ) → a ≤ 1000 → (g : Ends) (y : Spread) → Stands a g y → Stands a (addPairs binary64 (point (fin false 0 (pos 0))) g) y
+pub first-stands : (a : ℕ) → a ≤ 1000 → (g : Ends) (y : Spread) → Stands a g y → Stands a (addPairs binary64 (point (fin false 0 (pos
+    0))) g) y
 unfolding addPairs finiteEnds
 first-stands a l g y Y =
     let o = fin false 0 (pos 0) in

@@ -12,11 +12,11 @@ use lib.Ieee.Scale.{finite}
 use lib.IntN.{pos}
 use Rattle.fraction.specs.DirectedSum.{plainZero}
 use Rattle.fraction.specs.NextNumber.{nextDown, nextUp}
-use Rattle.fraction.specs.Order.{le-one, le-two}
+use Rattle.fraction.specs.Order.{le-one}
 use Rattle.fraction.specs.Pair.{Ends, dividePairs, finiteEnds, highest, highestOf, lowest, lowestOf, moved, multiplyPairs, outward, pair, point}
-use Rattle.fraction.specs.Rational.{Above, _*q_, _+q_, _/q_, _<q_, _≤q_, atMostq, inverse, negq, ℚ, 𝟘, 𝟙}
+use Rattle.fraction.specs.Rational.{Above, _*q_, _/q_, _<q_, _≤q_, atMostq, inverse, negq, ℚ, 𝟘, 𝟙}
 use Rattle.fraction.specs.RationalRing.{rationalRing}
-use Rattle.fraction.specs.Ring.{_⊕_, _⊖_, _⊗_, con, opposite, solve, v0, v1, v2, v3}
+use Rattle.fraction.specs.Ring.{_⊗_, con, opposite, solve, v0, v1, v2}
 use Rattle.fraction.specs.Rounding.{Rounded}
 use Rattle.fraction.specs.Value.{value}
 use Rattle.fraction.proofs.Corners.{product-above, product-below}
@@ -50,13 +50,16 @@ below-size a b x y l u m v =
     let ρ = A ∷ B ∷ [] in
     let n = rationalOrder .nonnegative-mul A B (power-nonnegative a) (power-nonnegative b) in
     let same : (z : ℚ) → z ≡ A *q B → z ≤q A *q B = λ z e. subst (λ (w : ℚ). w ≤q A *q B) (sym e) (≤q-refl (A *q B)) in
-    let less = le-one rationalRing _≤q_ rationalOrder ρ (opposite (v0 ⊗ v1)) (v0 ⊗ v1) (con (pos 2)) (con (pos 0)) (v0 ⊗ v1) tt (≤q-whole 2) n in
+    let less = le-one rationalRing _≤q_ rationalOrder ρ (opposite (v0 ⊗ v1)) (v0 ⊗ v1) (con (pos 2)) (con (pos 0)) (v0 ⊗ v1) tt (≤q-whole
+    2) n in
     let to = power-times a b in (
       subst (λ (z : ℚ). negq z ≤q x *q y) to
           (product-above x (negq A) A y (negq B) B l u m v (negq (A *q B))
           (subst (λ (z : ℚ). negq (A *q B) ≤q z) (solve rationalRing ρ (v0 ⊗ v1) (opposite v0 ⊗ opposite v1) tt) less)
-          (subst (λ (z : ℚ). negq (A *q B) ≤q z) (solve rationalRing ρ (opposite (v0 ⊗ v1)) (opposite v0 ⊗ v1) tt) (≤q-refl (negq (A *q B))))
-          (subst (λ (z : ℚ). negq (A *q B) ≤q z) (solve rationalRing ρ (opposite (v0 ⊗ v1)) (v0 ⊗ opposite v1) tt) (≤q-refl (negq (A *q B))))
+          (subst (λ (z : ℚ). negq (A *q B) ≤q z) (solve rationalRing ρ (opposite (v0 ⊗ v1)) (opposite v0 ⊗ v1) tt) (≤q-refl (negq (A *q
+          B))))
+          (subst (λ (z : ℚ). negq (A *q B) ≤q z) (solve rationalRing ρ (opposite (v0 ⊗ v1)) (v0 ⊗ opposite v1) tt) (≤q-refl (negq (A *q
+          B))))
           less),
       subst (λ (z : ℚ). x *q y ≤q z) to
           (product-below x (negq A) A y (negq B) B l u m v (A *q B)
@@ -78,7 +81,8 @@ highest-most : (p q r s : Float) → T (finite p) → T (finite q) → T (finite
     → ((n : ℚ) → value p ≤q n → value q ≤q n → value r ≤q n → value s ≤q n → m ≤q n) → value (highestOf p q r s) ≡ m
 highest-most p q r s P Q R S m a b c d least =
     let h = highest-of-four p q r s P Q R S in
-    ≤q-antisymmetric _ _ (highest-among (λ (x : Float). value x ≤q m) p q r s a b c d) (least (value (highestOf p q r s)) (h .0) (h .1) (h .2)
+    ≤q-antisymmetric _ _ (highest-among (λ (x : Float). value x ≤q m) p q r s a b c d) (least (value (highestOf p q r s)) (h .0) (h .1)
+    (h .2)
     (h .3))
 
 lowest-least : (p q r s : Float) → T (finite p) → T (finite q) → T (finite r) → T (finite s) → (m : ℚ) → m ≤q value p → m ≤q value q
@@ -96,10 +100,12 @@ highest-turned : (v w x y p q r s : Float) → T (finite v) → T (finite w) →
 highest-turned v w x y p q r s A B C D P Q R S a b c d =
     let l = lowest-of-four p q r s P Q R S in
     let m = negq (value (lowestOf p q r s)) in
-    let under : (u t : Float) → value u ≡ negq (value t) → value (lowestOf p q r s) ≤q value t → value u ≤q m = λ u t e h. subst (λ (z : ℚ). z ≤q m) (sym e)
+    let under : (u t : Float) → value u ≡ negq (value t) → value (lowestOf p q r s) ≤q value t → value u ≤q m = λ u t e h. subst (λ (z :
+    ℚ). z ≤q m) (sym e)
     (≤q-negated _ _ h) in
     highest-most v w x y A B C D m (under v p a (l .0)) (under w q b (l .1)) (under x r c (l .2)) (under y s d (l .3))
-    (λ n h₀ h₁ h₂ h₃. lowest-among (λ (t : Float). negq (value t) ≤q n) p q r s (subst (λ (z : ℚ). z ≤q n) a h₀) (subst (λ (z : ℚ). z ≤q n) b h₁)
+    (λ n h₀ h₁ h₂ h₃. lowest-among (λ (t : Float). negq (value t) ≤q n) p q r s (subst (λ (z : ℚ). z ≤q n) a h₀) (subst (λ (z : ℚ). z ≤q
+    n) b h₁)
     (subst (λ (z : ℚ). z ≤q n) c h₂) (subst (λ (z : ℚ). z ≤q n) d h₃))
 
 -- the highest of four, in another order
@@ -144,7 +150,8 @@ bounded-number a l x N = rw (under-largest a l x N) (plain-number a x N (plainZe
 
 -- ---- what products and quotients share: the lowest and the highest of four, moved outward
 pub outward-stands : (a : ℕ) → a ≤ 999 → (p q r s v w : Float) → Number a p → Number a q → Number a r → Number a s → Number a v → Number a w
-    → value v ≡ negq (value (lowestOf p q r s)) → value w ≡ value (highestOf p q r s) → (t : Spread) → t .below ≡ nextUp binary64 (bounded v)
+    → value v ≡ negq (value (lowestOf p q r s)) → value w ≡ value (highestOf p q r s) → (t : Spread) → t .below ≡ nextUp binary64
+    (bounded v)
     → t .above ≡ nextUp binary64 (bounded w) → Stands (suc a) (outward binary64 p q r s) t
 unfolding outward moved finiteEnds
 outward-stands a l p q r s v w P Q R S N M e f t b u =
@@ -188,7 +195,8 @@ module _ (a b : ℕ) (l : a + b ≤ 1000) (x y x′ y′ : Float) (N : Number a 
   turned-product : value x *q value y ≡ negq (value x′ *q value y′) → value (mul binary64 x y) ≡ negq (value (mul binary64 x′ y′))
   turned-product e =
       let G = product a b l x′ y′ N′ M′ .is-finite in
-      rounded-same (mul binary64 x y) (neg (mul binary64 x′ y′)) (value x *q value y) (mul-rounded binary64 x y (N .is-finite) (M .is-finite))
+      rounded-same (mul binary64 x y) (neg (mul binary64 x′ y′)) (value x *q value y) (mul-rounded binary64 x y (N .is-finite) (M
+      .is-finite))
       (subst (Rounded binary64 (neg (mul binary64 x′ y′))) (sym e) (rounded-turned _ _ (mul-rounded binary64 x′ y′ (N′ .is-finite)
       (M′ .is-finite))))
       (product a b l x y N M .is-finite) (neg-finite (mul binary64 x′ y′) G)
@@ -227,16 +235,21 @@ module _ (a b : ℕ) (l : a + b ≤ 999) (e g : Ends) (x y : Spread) (X : Stands
   high-is : value (neg (y .above)) ≡ negq (value (Y .high))
   high-is = value-neg (y .above) (Y .above-number .is-finite) ∙ ap negq (Y .above-value)
 
-  below-is : value (highestOf (mul binary64 (x .below) (neg (y .below))) (mul binary64 (x .below) (y .above)) (mul binary64 (x .above) (y .below))
+  below-is : value (highestOf (mul binary64 (x .below) (neg (y .below))) (mul binary64 (x .below) (y .above)) (mul binary64 (x .above) (y
+      .below))
       (mul binary64 (x .above) (neg (y .above))))
       ≡ negq (value (lowestOf (mul binary64 (X .low) (Y .low)) (mul binary64 (X .low) (Y .high)) (mul binary64 (X .high) (Y .low))
       (mul binary64 (X .high) (Y .high))))
   below-is =
       highest-turned _ _ _ _ _ _ _ _
-      (product a b within _ _ (X .below-number) low-again .is-finite) (product a b within _ _ (X .below-number) (Y .above-number) .is-finite)
-      (product a b within _ _ (X .above-number) (Y .below-number) .is-finite) (product a b within _ _ (X .above-number) high-turned .is-finite)
-      (product a b within _ _ (X .low-number) (Y .low-number) .is-finite) (product a b within _ _ (X .low-number) (Y .high-number) .is-finite)
-      (product a b within _ _ (X .high-number) (Y .low-number) .is-finite) (product a b within _ _ (X .high-number) (Y .high-number) .is-finite)
+      (product a b within _ _ (X .below-number) low-again .is-finite) (product a b within _ _ (X .below-number) (Y .above-number)
+      .is-finite)
+      (product a b within _ _ (X .above-number) (Y .below-number) .is-finite) (product a b within _ _ (X .above-number) high-turned
+      .is-finite)
+      (product a b within _ _ (X .low-number) (Y .low-number) .is-finite) (product a b within _ _ (X .low-number) (Y .high-number)
+      .is-finite)
+      (product a b within _ _ (X .high-number) (Y .low-number) .is-finite) (product a b within _ _ (X .high-number) (Y .high-number)
+      .is-finite)
       (turned-product a b within _ _ _ _ (X .below-number) low-again (X .low-number) (Y .low-number)
       (turned-left _ _ _ _ (X .below-value) low-is))
       (turned-product a b within _ _ _ _ (X .below-number) (Y .above-number) (X .low-number) (Y .high-number)
@@ -246,16 +259,21 @@ module _ (a b : ℕ) (l : a + b ≤ 999) (e g : Ends) (x y : Spread) (X : Stands
       (turned-product a b within _ _ _ _ (X .above-number) high-turned (X .high-number) (Y .high-number)
       (turned-right _ _ _ _ (X .above-value) high-is))
 
-  above-is : value (highestOf (mul binary64 (x .above) (neg (y .below))) (mul binary64 (x .above) (y .above)) (mul binary64 (x .below) (y .below))
+  above-is : value (highestOf (mul binary64 (x .above) (neg (y .below))) (mul binary64 (x .above) (y .above)) (mul binary64 (x .below) (y
+      .below))
       (mul binary64 (x .below) (neg (y .above))))
       ≡ value (highestOf (mul binary64 (X .low) (Y .low)) (mul binary64 (X .low) (Y .high)) (mul binary64 (X .high) (Y .low))
       (mul binary64 (X .high) (Y .high)))
   above-is =
       highest-same _ _ _ _ _ _ _ _
-      (product a b within _ _ (X .above-number) low-again .is-finite) (product a b within _ _ (X .above-number) (Y .above-number) .is-finite)
-      (product a b within _ _ (X .below-number) (Y .below-number) .is-finite) (product a b within _ _ (X .below-number) high-turned .is-finite)
-      (product a b within _ _ (X .low-number) (Y .low-number) .is-finite) (product a b within _ _ (X .low-number) (Y .high-number) .is-finite)
-      (product a b within _ _ (X .high-number) (Y .low-number) .is-finite) (product a b within _ _ (X .high-number) (Y .high-number) .is-finite)
+      (product a b within _ _ (X .above-number) low-again .is-finite) (product a b within _ _ (X .above-number) (Y .above-number)
+      .is-finite)
+      (product a b within _ _ (X .below-number) (Y .below-number) .is-finite) (product a b within _ _ (X .below-number) high-turned
+      .is-finite)
+      (product a b within _ _ (X .low-number) (Y .low-number) .is-finite) (product a b within _ _ (X .low-number) (Y .high-number)
+      .is-finite)
+      (product a b within _ _ (X .high-number) (Y .low-number) .is-finite) (product a b within _ _ (X .high-number) (Y .high-number)
+      .is-finite)
       (same-product a b within _ _ _ _ (X .above-number) low-again (X .high-number) (Y .low-number)
       (turned-none _ _ _ _ (X .above-value) low-is))
       (same-product a b within _ _ _ _ (X .above-number) (Y .above-number) (X .high-number) (Y .high-number)
@@ -299,9 +317,11 @@ module _ (a b : ℕ) (l : a + b ≤ 999) (e : Ends) (x : Spread) (X : Stands a e
   by-ordered : value (mul binary64 (X .low) c) ≤q value (mul binary64 (X .high) c)
   by-ordered = rounded-order _ _ _ _ (mul-rounded binary64 (X .low) c (X .low-number .is-finite) (C .is-finite))
       (mul-rounded binary64 (X .high) c (X .high-number .is-finite) (C .is-finite)) (by-low .is-finite) (by-high .is-finite)
-      (le-one rationalRing _≤q_ rationalOrder (value (X .low) ∷ value (X .high) ∷ value c ∷ []) (v0 ⊗ v2) (v1 ⊗ v2) v2 v0 v1 tt P (X .ordered))
+      (le-one rationalRing _≤q_ rationalOrder (value (X .low) ∷ value (X .high) ∷ value c ∷ []) (v0 ⊗ v2) (v1 ⊗ v2) v2 v0 v1 tt P (X
+      .ordered))
 
-  pub by-stands : (t : Spread) → t .below ≡ nextUp binary64 (bounded (mul binary64 (x .below) c)) → t .above ≡ nextUp binary64 (bounded (mul binary64 (x .above) c))
+  pub by-stands : (t : Spread) → t .below ≡ nextUp binary64 (bounded (mul binary64 (x .below) c)) → t .above ≡ nextUp binary64 (bounded
+      (mul binary64 (x .above) c))
       → Stands (suc (a + b)) (multiplyPairs binary64 e (point c)) t
   unfolding multiplyPairs
   by-stands t B A =
@@ -406,7 +426,8 @@ module _ (a k : ℕ) (l : a + k ≤ 999) (e : Ends) (x : Spread) (X : Stands a e
       (le-one rationalRing _≤q_ rationalOrder (value (X .low) ∷ value (X .high) ∷ inverse (value c) ∷ []) (v0 ⊗ v2) (v1 ⊗ v2) v2 v0 v1 tt
       (inverse-nonnegative (value c) (<q-weaken 𝟘 (value c) (C .is-above))) (X .ordered))
 
-  pub over-stands : (t : Spread) → t .below ≡ nextUp binary64 (bounded (div binary64 (x .below) c)) → t .above ≡ nextUp binary64 (bounded (div binary64 (x .above) c))
+  pub over-stands : (t : Spread) → t .below ≡ nextUp binary64 (bounded (div binary64 (x .below) c)) → t .above ≡ nextUp binary64 (bounded
+      (div binary64 (x .above) c))
       → Stands (suc (a + k)) (dividePairs binary64 e (point c)) t
   unfolding dividePairs
   over-stands t B A =
@@ -462,7 +483,8 @@ module _ (a b k : ℕ) (l : a + k ≤ 999) (e g : Ends) (x y : Spread) (X : Stan
   -- lo/d ≤ lo/c, and the same of hi
   by-divisor : (u : Float) → Number a u → 𝟘 ≤q value u → value (div binary64 u (Y .high)) ≤q value (div binary64 u (Y .low))
   by-divisor u U h = quotient-order a k room _ _ _ _ U D U C
-      (le-one rationalRing _≤q_ rationalOrder (inverse (value (Y .high)) ∷ inverse (value (Y .low)) ∷ value u ∷ []) (v2 ⊗ v0) (v2 ⊗ v1) v2 v0 v1 tt
+      (le-one rationalRing _≤q_ rationalOrder (inverse (value (Y .high)) ∷ inverse (value (Y .low)) ∷ value u ∷ []) (v2 ⊗ v0) (v2 ⊗ v1)
+      v2 v0 v1 tt
       h smaller-inverse)
 
   by-dividend : (d : Float) → Divisor k d → value (div binary64 (X .low) d) ≤q value (div binary64 (X .high) d)
@@ -488,13 +510,15 @@ module _ (a b k : ℕ) (l : a + k ≤ 999) (e g : Ends) (x y : Spread) (X : Stan
       let qs = by-dividend (Y .high) D in
       let pr = by-dividend (Y .low) C in
       rw (X .is, Y .is, above-zero (Y .low) (C .divides) (C .is-above))
-      (outward-stands (a + k) l p q r s _ _ N O Q R (quotient a k room _ _ (X .below-number) D′) (quotient a k room _ _ (X .above-number) C′)
+      (outward-stands (a + k) l p q r s _ _ N O Q R (quotient a k room _ _ (X .below-number) D′) (quotient a k room _ _ (X .above-number)
+      C′)
       (turned-quotient a k room _ _ _ _ (X .below-number) D′ (X .low-number) D
       (turned-left _ _ _ _ (X .below-value) (ap inverse (Y .above-value)))
       ∙ ap negq (sym (lowest-least p q r s (N .is-finite) (O .is-finite) (Q .is-finite) (R .is-finite) (value q) qp (≤q-refl _)
       (≤q-trans _ _ _ qs sr) qs (λ n h₀ h₁ h₂ h₃. h₁))))
       (same-quotient a k room _ _ _ _ (X .above-number) C′ (X .high-number) C (turned-none _ _ _ _ (X .above-value) (ap inverse low-value))
-      ∙ sym (highest-most p q r s (N .is-finite) (O .is-finite) (Q .is-finite) (R .is-finite) (value r) pr (≤q-trans _ _ _ qs sr) (≤q-refl _) sr
+      ∙ sym (highest-most p q r s (N .is-finite) (O .is-finite) (Q .is-finite) (R .is-finite) (value r) pr (≤q-trans _ _ _ qs sr)
+      (≤q-refl _) sr
       (λ n h₀ h₁ h₂ h₃. h₂)))
       t B A)
 
@@ -516,7 +540,8 @@ not-below-zero a e x X t =
     let h = le-value (x .below) (fin false 0 (pos 0)) (X .below-number .is-finite) tt t in
     subst (λ (z : ℚ). 𝟘 ≤q z) (twice (value (X .low)))
     (subst (λ (z : ℚ). z ≤q negq (negq (value (X .low)))) (solve rationalRing [] (opposite (con (pos 0))) (con (pos 0)) tt)
-    (≤q-negated (negq (value (X .low))) 𝟘 (subst (λ (z : ℚ). z ≤q 𝟘) (X .below-value) (subst (λ (z : ℚ). value (x .below) ≤q z) zero-value h))))
+    (≤q-negated (negq (value (X .low))) 𝟘 (subst (λ (z : ℚ). z ≤q 𝟘) (X .below-value) (subst (λ (z : ℚ). value (x .below) ≤q z)
+    zero-value h))))
 
 -- the low end is not below the shortest length
 shortest-value : 𝟙 ≤q powerOfTwo 60 *q negq (value shortest)
@@ -537,6 +562,7 @@ long-divisor b g y Y t =
       divides = Y .low-number .is-finite;
       is-above = <q-≤q-trans 𝟘 (negq (value shortest)) (value (Y .low)) shortest-above k;
       not-small = ≤q-trans 𝟙 (powerOfTwo 60 *q negq (value shortest)) (powerOfTwo 60 *q value (Y .low)) shortest-value
-          (le-one rationalRing _≤q_ rationalOrder (negq (value shortest) ∷ value (Y .low) ∷ powerOfTwo 60 ∷ []) (v2 ⊗ v0) (v2 ⊗ v1) v2 v0 v1 tt
+          (le-one rationalRing _≤q_ rationalOrder (negq (value shortest) ∷ value (Y .low) ∷ powerOfTwo 60 ∷ []) (v2 ⊗ v0) (v2 ⊗ v1) v2 v0
+          v1 tt
           (power-nonnegative 60) k);
     }

@@ -1,5 +1,5 @@
 -- Where a rounded sum lies below the exact one, one of two differences shows it; the next number up is then the sum rounded upward.
-use mathlib.Core.Bool.{Bool, _&&_, _||_, cond, false, not, true, true≢false}
+use mathlib.Core.Bool.{Bool, _||_, cond, false, not, true, true≢false}
 use mathlib.Core.List.{[], _∷_}
 use mathlib.Core.Path.{_∙_, _≡_, ap, refl, subst, sym}
 use Prim.Native.Nat.{_+_, _≤_, suc, ℕ}
@@ -7,35 +7,36 @@ use native.Mathlib.Omega.{arith}
 use lib.Dec.{T}
 use lib.Ieee.{Float, add, binary64, fin, fits, inf, lt, nan, neg, ofBits, sub}
 use lib.Ieee.Bits.{is-true}
-use lib.Ieee.Fits.{add-fits, neg-fits}
+use lib.Ieee.Fits.{neg-fits}
 use lib.Ieee.Scale.{finite}
-use lib.IntN.{pos}
 use Rattle.fraction.specs.DirectedSum.{Upward, isAbove, plainZero, upwardSum}
 use Rattle.fraction.specs.NextNumber.{nextUp}
-use Rattle.fraction.specs.Rational.{_+q_, _-q_, _<q_, _≤q_, atMostq, negq, ℚ, 𝟘}
+use Rattle.fraction.specs.Rational.{_+q_, _-q_, _<q_, _≤q_, atMostq, negq, ℚ}
 use Rattle.fraction.specs.RationalRing.{rationalRing}
 use Rattle.fraction.specs.Ring.{_⊕_, _⊖_, opposite, solve, v0, v1}
 use Rattle.fraction.specs.Rounding.{Rounded}
-use Rattle.fraction.specs.Value.{BoundsAbove, BoundsBelow, value}
+use Rattle.fraction.specs.Value.{value}
 use Rattle.fraction.proofs.Comparison.{lt-of-value, lt-value}
 use Rattle.fraction.proofs.DirectedSum.{Plain, a-zero, no-zero, plain-cases, upward-sum}
 use Rattle.fraction.proofs.Neighbours.{rounded-upper}
 use Rattle.fraction.proofs.OwnRounding.{rounds-below}
-use Rattle.fraction.proofs.Rational.{<q-≤q-trans, ≤q-antisymmetric, ≤q-negated, ≤q-refl}
+use Rattle.fraction.proofs.Rational.{<q-≤q-trans, ≤q-antisymmetric, ≤q-negated}
 use Rattle.fraction.proofs.Rounding.{add-rounded, sub-rounded}
 use Rattle.fraction.proofs.SumTest.{above-test}
 use Rattle.fraction.proofs.Value.{neg-finite, value-neg}
-use Rattle.pairs.specs.Spreads.{Number, UpwardSum, bounded, powerOfTwo}
+use Rattle.pairs.specs.Spreads.{Number, UpwardSum, bounded}
 use Rattle.pairs.proofs.Numbers.{<q-negated, le-value, next-same, rounded-number, rounded-same, rounded-turned, turned, twice, up-least, up-number, wider}
 use Rattle.pairs.proofs.PlainNumbers.{plain-unique}
 use Rattle.pairs.proofs.Spreading.{bounded-number}
-use Rattle.pairs.proofs.SpreadSums.{downward-bound, plain-value, sum-size, up-sum, upward-bound}
+use Rattle.pairs.proofs.SpreadSums.{downward-bound, sum-size, up-sum, upward-bound}
 
 -- a < b and c < d are one test, for a = -d and b = -c
-lt-turned : (a b c d : Float) → T (finite a) → T (finite b) → T (finite c) → T (finite d) → value a ≡ negq (value d) → value b ≡ negq (value c)
+lt-turned : (a b c d : Float) → T (finite a) → T (finite b) → T (finite c) → T (finite d) → value a ≡ negq (value d) → value b ≡ negq
+    (value c)
     → lt a b ≡ lt c d
 lt-turned a b c d A B C D e f = same (lt a b) (lt c d)
-    (λ t. lt-of-value c d C D (subst (λ (z : ℚ). z <q value d) (twice (value c)) (subst (λ (z : ℚ). negq (negq (value c)) <q z) (twice (value d))
+    (λ t. lt-of-value c d C D (subst (λ (z : ℚ). z <q value d) (twice (value c)) (subst (λ (z : ℚ). negq (negq (value c)) <q z) (twice
+    (value d))
     (<q-negated (negq (value d)) (negq (value c)) (subst (λ (z : ℚ). z <q negq (value c)) e (subst (λ (z : ℚ). value a <q z) f
     (lt-value a b A B (subst T (sym t) tt))))))))
     (λ t. lt-of-value a b A B (rw (e, f) (<q-negated (value c) (value d) (lt-value c d C D (subst T (sym t) tt)))))
@@ -53,7 +54,8 @@ turned-value r r′ z z′ R S F G e =
 
 -- the difference of a sum and one of its terms, with all signs turned
 difference-turned : (r r′ x : Float) (a : ℕ) → a ≤ 999 → Number a r → Number a r′ → Number a x → value r′ ≡ negq (value r)
-    → T (finite (sub binary64 r x)) × T (finite (sub binary64 r′ (neg x))) × (value (sub binary64 r′ (neg x)) ≡ negq (value (sub binary64 r x)))
+    → T (finite (sub binary64 r x)) × T (finite (sub binary64 r′ (neg x))) × (value (sub binary64 r′ (neg x)) ≡ negq (value (sub binary64
+    r x)))
 difference-turned r r′ x a l R S N e =
     let n = turned a x N in
     let m = turned a (neg x) n in
@@ -122,7 +124,8 @@ module _ (a : ℕ) (l : a ≤ 997) (x y : Float) (N : Number a x) (M : Number a 
   above-is (fin s m e) q F = refl
 
   both : rises ≡ not (atMostq (negq (value (add binary64 x y))) (negq (value x +q value y)))
-  both = test-is ∙ above-is (add binary64 (neg x) (neg y)) (value (neg x) +q value (neg y)) (turned-is .is-finite) ∙ ap (λ (w : ℚ). not (atMostq w (value (neg x) +q value (neg y)))) sum-turned
+  both = test-is ∙ above-is (add binary64 (neg x) (neg y)) (value (neg x) +q value (neg y)) (turned-is .is-finite) ∙ ap (λ (w : ℚ). not
+      (atMostq w (value (neg x) +q value (neg y)))) sum-turned
       ∙ ap (λ (w : ℚ). not (atMostq (negq (value (add binary64 x y))) w)) turned-exact
 
   -- it holds where the rounded sum is below the exact one
@@ -134,7 +137,8 @@ module _ (a : ℕ) (l : a ≤ 997) (x y : Float) (N : Number a x) (M : Number a 
   when-false : rises ≡ false → value x +q value y ≤q value (add binary64 x y)
   when-false t = subst (λ (w : ℚ). w ≤q value (add binary64 x y)) (twice (value x +q value y))
       (subst (λ (w : ℚ). negq (negq (value x +q value y)) ≤q w) (twice (value (add binary64 x y)))
-      (≤q-negated (negq (value (add binary64 x y))) (negq (value x +q value y)) (go (atMostq (negq (value (add binary64 x y))) (negq (value x +q value y))) (sym both ∙ t))))
+      (≤q-negated (negq (value (add binary64 x y))) (negq (value x +q value y)) (go (atMostq (negq (value (add binary64 x y))) (negq
+      (value x +q value y))) (sym both ∙ t))))
     where
       go : (b : Bool) → not b ≡ false → T b
       go true h = tt
@@ -169,7 +173,8 @@ module _ (a : ℕ) (l : a ≤ 997) (x y : Float) (N : Number a x) (M : Number a 
   module _ (w : Float) (W : Number (suc a) w) (e : value w ≡ value (add binary64 x y)) where
     pub at-rest : rises ≡ false → UpwardSum x y w
     at-rest t = upward-from w (W .is-double) (W .is-finite) (≤q-antisymmetric (value w) (value (upwardSum binary64 x y))
-        (subst (λ (q : ℚ). q ≤q value (upwardSum binary64 x y)) (sym e) (le-value (add binary64 x y) (upwardSum binary64 x y) (sum-is .is-finite)
+        (subst (λ (q : ℚ). q ≤q value (upwardSum binary64 x y)) (sym e) (le-value (add binary64 x y) (upwardSum binary64 x y) (sum-is
+        .is-finite)
         (u-number .is-finite) (rounds-below binary64 (upwardSum binary64 x y) (u-number .is-double) (u-number .is-finite) (add binary64 x y)
         (value x +q value y) R exact-below)))
         (least w (W .is-double) (W .is-finite) (subst (λ (q : ℚ). value x +q value y ≤q q) (sym e) (when-false t))))
@@ -181,7 +186,8 @@ module _ (a : ℕ) (l : a ≤ 997) (x y : Float) (N : Number a x) (M : Number a 
         let same = next-same (suc a) (omega arith) w (add binary64 x y) W sum-is e in
         let S = up-number (suc a) (omega arith) (add binary64 x y) sum-is in
         upward-from n (O .is-double) (O .is-finite) (≤q-antisymmetric (value n) (value (upwardSum binary64 x y))
-        (le-value n (upwardSum binary64 x y) (O .is-finite) (u-number .is-finite) (up-least w (W .is-double) (W .is-finite) (upwardSum binary64 x y)
+        (le-value n (upwardSum binary64 x y) (O .is-finite) (u-number .is-finite) (up-least w (W .is-double) (W .is-finite) (upwardSum
+        binary64 x y)
         (u-number .is-double) (u-number .is-finite) (subst (λ (q : ℚ). q <q value (upwardSum binary64 x y)) (sym e)
         (<q-≤q-trans (value (add binary64 x y)) (value x +q value y) (value (upwardSum binary64 x y)) (when-true t) exact-below))))
         (least n (O .is-double) (O .is-finite) (subst (λ (q : ℚ). value x +q value y ≤q q) (sym same)
@@ -189,6 +195,9 @@ module _ (a : ℕ) (l : a ≤ 997) (x y : Float) (N : Number a x) (M : Number a 
         (value x +q value y) R (sum-is .is-finite))))))
 
   -- both as the code has them
-  pub upward-stepped : (t : Bool) → rises ≡ t → UpwardSum x y (cond t (nextUp binary64 (bounded (add binary64 x y))) (bounded (add binary64 x y)))
-  upward-stepped true h = let B = bounded-number (suc a) (omega arith) (add binary64 x y) sum-is in at-next (bounded (add binary64 x y)) (B .0) (B .1) h
-  upward-stepped false h = let B = bounded-number (suc a) (omega arith) (add binary64 x y) sum-is in at-rest (bounded (add binary64 x y)) (B .0) (B .1) h
+  pub upward-stepped : (t : Bool) → rises ≡ t → UpwardSum x y (cond t (nextUp binary64 (bounded (add binary64 x y))) (bounded (add
+      binary64 x y)))
+  upward-stepped true h = let B = bounded-number (suc a) (omega arith) (add binary64 x y) sum-is in at-next (bounded (add binary64 x y))
+      (B .0) (B .1) h
+  upward-stepped false h = let B = bounded-number (suc a) (omega arith) (add binary64 x y) sum-is in at-rest (bounded (add binary64 x y))
+      (B .0) (B .1) h

@@ -32,6 +32,7 @@ plain-turned z = go (plainZero binary64 z) (plain-cases binary64 z)
 
     go : (p : Float) → Plain binary64 z p → plainZero binary64 (neg p) ≡ plainZero binary64 (neg z)
     go p (a-zero F e) =
-        plain-of-zeros (neg p) (neg z) _ _ (plain-cases binary64 (neg p)) (plain-cases binary64 (neg z)) (neg-finite p tt) (neg-zero p tt nil)
+        plain-of-zeros (neg p) (neg z) _ _ (plain-cases binary64 (neg p)) (plain-cases binary64 (neg z)) (neg-finite p tt) (neg-zero p tt
+        nil)
         (neg-finite z F) (neg-zero z F e)
     go p (no-zero n) = refl

@@ -15,7 +15,8 @@ returns-2 : tie.Need-returns-2
 returns-2 c =
     let s = c .before .before .before .before .before in
     let a = s .before .args in
-    none-own (a .depth) (intersectionOf (a .x)) (figureIn (a .so-far)) (sym (ap figureIn (c .enum-told2 .given .1)) ∙ s .own-figure .ensures)
+    none-own (a .depth) (intersectionOf (a .x)) (figureIn (a .so-far)) (sym (ap figureIn (c .enum-told2 .given .1)) ∙ s .own-figure
+    .ensures)
 
 deep-figure-requires : tie.Need-deep-figure-requires
 deep-figure-requires c κs =

@@ -32,7 +32,8 @@ returns c =
     (c .bernstein5 .ensures ∙ h 5 (omega arith))
 
 -- the first, at each call
-first-is : (c : tie.After-first) → endsOf (c .first .result) ≡ bernstein ends (pairAt (c .before .before .difference-powers .result .ends)) 0
+first-is : (c : tie.After-first) → endsOf (c .first .result) ≡ bernstein ends (pairAt (c .before .before .difference-powers .result
+    .ends)) 0
 first-is c = c .first .ensures ∙ bernstein-zero (pairAt (c .before .before .difference-powers .result .ends))
 
 bernstein-requires : tie.Need-bernstein-requires

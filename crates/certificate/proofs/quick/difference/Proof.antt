@@ -1,5 +1,4 @@
 -- `quick::difference` meets its contract.
-use Rattle.pairs.proofs.Numbers.{wider}
 use borrow.Author.Needs.{needs}
 use Rattle.certificate.proofs.quick.difference.Statement.{statement}
 use Rattle.certificate.proofs.quick.difference.Tie as tie

@@ -1,6 +1,6 @@
 -- `quick::first_term` meets its contract.
 use native.Mathlib.Omega.{arith}
-use lib.Ieee.{binary64, ofBits, round}
+use lib.Ieee.{ofBits, round}
 use Rattle.pairs.proofs.SpreadSums.{first-stands}
 use Rattle.certificate.proofs.Wholes.{one}
 use borrow.Author.Needs.{needs}
@@ -9,7 +9,8 @@ use Rattle.certificate.proofs.quick.first_term.Tie as tie
 
 returns : tie.Need-returns
 unfolding ofBits round
-returns c = λ e X. first-stands 760 (omega arith) _ _ (c .over-number .ensures 759 4 _ (omega arith) (c .before .times-number .ensures 754 4 _
+returns c = λ e X. first-stands 760 (omega arith) _ _ (c .over-number .ensures 759 4 _ (omega arith) (c .before .times-number .ensures
+    754 4 _
     (omega arith) X (one .number) (one .not-negative)) (one .number) (one .from-one))
 
 pub first-term-spec : {M : Type 1} → statement M

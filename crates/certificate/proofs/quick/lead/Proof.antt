@@ -1,6 +1,6 @@
 -- `quick::lead` meets its contract.
 use native.Mathlib.Omega.{arith}
-use lib.Ieee.{binary64, ofBits, round}
+use lib.Ieee.{ofBits, round}
 use Rattle.pairs.proofs.SpreadSums.{first-stands, stands-wider}
 use Rattle.certificate.proofs.Wholes.{one}
 use borrow.Author.Needs.{needs}

@@ -14,4 +14,5 @@ returns c = λ N. (
 )
 
 pub lengths-of-spec : {M : Type 1} → statement M
-lengths-of-spec = tie.close (tie.spec (λ c κs. search needs) (λ c κs. search needs) (λ c κs. search needs) (λ c κs. search needs) (λ c κs. search needs) returns)
+lengths-of-spec = tie.close (tie.spec (λ c κs. search needs) (λ c κs. search needs) (λ c κs. search needs) (λ c κs. search needs) (λ c
+    κs. search needs) returns)

@@ -10,13 +10,18 @@ returns : tie.Need-returns
 unfolding ofBits
 returns c = λ h.
     record {
-      start = c .before .before .before .before .before .before .before .before .before .before .within .ensures 1 (c .before .before .before .before .before .before .before .before .before .if1 .taken) refl;
-      end = c .before .before .before .before .before .before .before .before .within2 .ensures 1 (c .before .before .before .before .before .before .before .if2 .taken) refl;
-      left = c .before .before .before .before .before .before .within3 .ensures 1 (c .before .before .before .before .before .if3 .taken) refl;
+      start = c .before .before .before .before .before .before .before .before .before .before .within .ensures 1 (c .before .before
+          .before .before .before .before .before .before .before .if1 .taken) refl;
+      end = c .before .before .before .before .before .before .before .before .within2 .ensures 1 (c .before .before .before .before
+          .before .before .before .if2 .taken) refl;
+      left = c .before .before .before .before .before .before .within3 .ensures 1 (c .before .before .before .before .before .if3
+          .taken) refl;
       right = c .before .before .before .before .within4 .ensures 1 (c .before .before .before .if4 .taken) refl;
       from = c .before .before .within5 .ensures 1 (c .before .if5 .taken) refl;
       to = c .within6 .ensures 1 h refl;
     }
 
 pub parameters-within-spec : {M : Type 1} → statement M
-parameters-within-spec = tie.close (tie.spec (λ c κs. search needs) (λ c κs. search needs) (λ c κs. search needs) (λ c κs. search needs) (λ c κs. search needs) (λ c κs. search needs) returns (λ c h. never h) (λ c h. never h) (λ c h. never h) (λ c h. never h) (λ c h. never h))
+parameters-within-spec = tie.close (tie.spec (λ c κs. search needs) (λ c κs. search needs) (λ c κs. search needs) (λ c κs. search needs)
+    (λ c κs. search needs) (λ c κs. search needs) returns (λ c h. never h) (λ c h. never h) (λ c h. never h) (λ c h. never h) (λ c h.
+    never h))

@@ -12,7 +12,8 @@ use Rattle.certificate.proofs.quick.powers_of.Tie as tie
 returns : tie.Need-returns
 unfolding raised ofBits round finiteEnds
 returns c = λ e U.
-    let a = c .before .before .before .before .times .ensures 0 63 _ _ (omega arith) (c .before .before .before .before .before .single .ensures 0 unit) U in
+    let a = c .before .before .before .before .times .ensures 0 63 _ _ (omega arith) (c .before .before .before .before .before .single
+    .ensures 0 unit) U in
     let b = c .before .before .before .times2 .ensures 64 63 _ _ (omega arith) a U in
     let d = c .before .before .times3 .ensures 128 63 _ _ (omega arith) b U in
     let f = c .before .times4 .ensures 192 63 _ _ (omega arith) d U in
@@ -25,4 +26,5 @@ returns c = λ e U.
     )
 
 pub powers-of-spec : {M : Type 1} → statement M
-powers-of-spec = tie.close (tie.spec (λ c κs. search needs) (λ c κs. search needs) (λ c κs. search needs) (λ c κs. search needs) (λ c κs. search needs) (λ c κs. search needs) returns)
+powers-of-spec = tie.close (tie.spec (λ c κs. search needs) (λ c κs. search needs) (λ c κs. search needs) (λ c κs. search needs) (λ c κs.
+    search needs) (λ c κs. search needs) returns)

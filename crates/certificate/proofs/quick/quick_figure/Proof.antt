@@ -10,7 +10,9 @@ returns : tie.Need-returns
 returns c = λ v h.
     let t = both-hold _ _ (sym (c .before .before .and .ensures) ∙ c .if1 .taken) in
     let M = c .before .before .before .before .moderate .ensures (t .0) in
-    c .before .figure-of .ensures (c .if1 .taken) M (c .before .before .before .before .before .lengths-of .ensures (M .parameters)) (c .before .before .before .divisible .ensures (t .1)) ∙ h
+    c .before .figure-of .ensures (c .if1 .taken) M (c .before .before .before .before .before .lengths-of .ensures (M .parameters)) (c
+    .before .before .before .divisible .ensures (t .1)) ∙ h
 
 pub quick-figure-spec : {M : Type 1} → statement M
-quick-figure-spec = tie.close (tie.spec (λ c κs. search needs) (λ c κs. search needs) (λ c κs. search needs) (λ c κs. search needs) (λ c κs. search needs) returns (λ c v h. none-is-none v h))
+quick-figure-spec = tie.close (tie.spec (λ c κs. search needs) (λ c κs. search needs) (λ c κs. search needs) (λ c κs. search needs) (λ c
+    κs. search needs) returns (λ c v h. none-is-none v h))

@@ -13,7 +13,8 @@ returns c = λ f Q X.
     (c .with-term3 .ensures 762 _ _ (omega arith) (omega arith)
     (c .before .with-term2 .ensures 761 _ _ (omega arith) (omega arith)
     (c .before .before .with-term .ensures 760 _ _ (omega arith) (omega arith)
-    X (Q .1) (three .number) (three .not-negative) (five .number) (five .from-one)) (Q .2) (three .number) (three .not-negative) (ten .number) (ten .from-one)) (Q .3) (one .number) (one .not-negative) (ten .number) (ten .from-one))
+    X (Q .1) (three .number) (three .not-negative) (five .number) (five .from-one)) (Q .2) (three .number) (three .not-negative) (ten
+    .number) (ten .from-one)) (Q .3) (one .number) (one .not-negative) (ten .number) (ten .from-one))
 
 pub row-3-spec : {M : Type 1} → statement M
 row-3-spec = tie.close (tie.spec (λ c κs. search needs) (λ c κs. search needs) (λ c κs. search needs) returns)

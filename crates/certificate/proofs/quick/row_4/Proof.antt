@@ -14,7 +14,9 @@ returns c = λ f Q X.
     (c .before .with-term3 .ensures 762 _ _ (omega arith) (omega arith)
     (c .before .before .with-term2 .ensures 761 _ _ (omega arith) (omega arith)
     (c .before .before .before .with-term .ensures 760 _ _ (omega arith) (omega arith)
-    X (Q .1) (four .number) (four .not-negative) (five .number) (five .from-one)) (Q .2) (six .number) (six .not-negative) (ten .number) (ten .from-one)) (Q .3) (four .number) (four .not-negative) (ten .number) (ten .from-one)) (Q .4) (one .number) (one .not-negative) (five .number) (five .from-one))
+    X (Q .1) (four .number) (four .not-negative) (five .number) (five .from-one)) (Q .2) (six .number) (six .not-negative) (ten .number)
+    (ten .from-one)) (Q .3) (four .number) (four .not-negative) (ten .number) (ten .from-one)) (Q .4) (one .number) (one
+    .not-negative) (five .number) (five .from-one))
 
 pub row-4-spec : {M : Type 1} → statement M
 row-4-spec = tie.close (tie.spec (λ c κs. search needs) (λ c κs. search needs) (λ c κs. search needs) (λ c κs. search needs) returns)

@@ -15,7 +15,10 @@ returns c = λ f Q X.
     (c .before .before .with-term3 .ensures 762 _ _ (omega arith) (omega arith)
     (c .before .before .before .with-term2 .ensures 761 _ _ (omega arith) (omega arith)
     (c .before .before .before .before .with-term .ensures 760 _ _ (omega arith) (omega arith)
-    X (Q .1) (five .number) (five .not-negative) (five .number) (five .from-one)) (Q .2) (ten .number) (ten .not-negative) (ten .number) (ten .from-one)) (Q .3) (ten .number) (ten .not-negative) (ten .number) (ten .from-one)) (Q .4) (five .number) (five .not-negative) (five .number) (five .from-one)) (Q .5) (one .number) (one .not-negative) (one .number) (one .from-one))
+    X (Q .1) (five .number) (five .not-negative) (five .number) (five .from-one)) (Q .2) (ten .number) (ten .not-negative) (ten .number)
+    (ten .from-one)) (Q .3) (ten .number) (ten .not-negative) (ten .number) (ten .from-one)) (Q .4) (five .number) (five
+    .not-negative) (five .number) (five .from-one)) (Q .5) (one .number) (one .not-negative) (one .number) (one .from-one))
 
 pub row-5-spec : {M : Type 1} → statement M
-row-5-spec = tie.close (tie.spec (λ c κs. search needs) (λ c κs. search needs) (λ c κs. search needs) (λ c κs. search needs) (λ c κs. search needs) returns)
+row-5-spec = tie.close (tie.spec (λ c κs. search needs) (λ c κs. search needs) (λ c κs. search needs) (λ c κs. search needs) (λ c κs.
+    search needs) returns)

@@ -15,7 +15,9 @@ returns c = λ e N U. stands-wider 430 431 (omega arith) _ _
     (c .before .gained3 .ensures 428 _ _ (omega arith) (omega arith)
     (c .before .before .gained2 .ensures 427 _ _ (omega arith) (omega arith)
     (c .before .before .before .gained .ensures 426 _ _ (omega arith) (omega arith)
-    (c .before .before .before .before .lead .ensures (N 1 (omega arith))) (two .number) (N 2 (omega arith)) (U .0)) (three .number) (N 3 (omega arith)) (U .1)) (four .number) (N 4 (omega arith)) (U .2)) (five .number) (N 5 (omega arith)) (U .3))
+    (c .before .before .before .before .lead .ensures (N 1 (omega arith))) (two .number) (N 2 (omega arith)) (U .0)) (three .number) (N 3
+    (omega arith)) (U .1)) (four .number) (N 4 (omega arith)) (U .2)) (five .number) (N 5 (omega arith)) (U .3))
 
 pub sum-1-spec : {M : Type 1} → statement M
-sum-1-spec = tie.close (tie.spec (λ c. search needs) (λ c κs. search needs) (λ c. search needs) (λ c κs. search needs) (λ c. search needs) (λ c κs. search needs) (λ c. search needs) (λ c κs. search needs) (λ c. search needs) (λ c κs. search needs) returns)
+sum-1-spec = tie.close (tie.spec (λ c. search needs) (λ c κs. search needs) (λ c. search needs) (λ c κs. search needs) (λ c. search
+    needs) (λ c κs. search needs) (λ c. search needs) (λ c κs. search needs) (λ c. search needs) (λ c κs. search needs) returns)

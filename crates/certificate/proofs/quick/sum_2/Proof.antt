@@ -14,7 +14,9 @@ returns c = λ e N U. stands-wider 429 431 (omega arith) _ _
     (c .gained3 .ensures 428 _ _ (omega arith) (omega arith)
     (c .before .gained2 .ensures 427 _ _ (omega arith) (omega arith)
     (c .before .before .gained .ensures 426 _ _ (omega arith) (omega arith)
-    (c .before .before .before .lead .ensures (N 2 (omega arith))) (three .number) (N 3 (omega arith)) (U .0)) (six .number) (N 4 (omega arith)) (U .1)) (ten .number) (N 5 (omega arith)) (U .2))
+    (c .before .before .before .lead .ensures (N 2 (omega arith))) (three .number) (N 3 (omega arith)) (U .0)) (six .number) (N 4 (omega
+    arith)) (U .1)) (ten .number) (N 5 (omega arith)) (U .2))
 
 pub sum-2-spec : {M : Type 1} → statement M
-sum-2-spec = tie.close (tie.spec (λ c. search needs) (λ c κs. search needs) (λ c. search needs) (λ c κs. search needs) (λ c. search needs) (λ c κs. search needs) (λ c. search needs) (λ c κs. search needs) returns)
+sum-2-spec = tie.close (tie.spec (λ c. search needs) (λ c κs. search needs) (λ c. search needs) (λ c κs. search needs) (λ c. search
+    needs) (λ c κs. search needs) (λ c. search needs) (λ c κs. search needs) returns)

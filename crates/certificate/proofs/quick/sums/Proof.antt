@@ -19,4 +19,5 @@ returns c = λ e N U. (
 )
 
 pub sums-spec : {M : Type 1} → statement M
-sums-spec = tie.close (tie.spec (λ c κs. search needs) (λ c κs. search needs) (λ c κs. search needs) (λ c κs. search needs) (λ c κs. search needs) (λ c. search needs) (λ c κs. search needs) returns)
+sums-spec = tie.close (tie.spec (λ c κs. search needs) (λ c κs. search needs) (λ c κs. search needs) (λ c κs. search needs) (λ c κs.
+    search needs) (λ c. search needs) (λ c κs. search needs) returns)

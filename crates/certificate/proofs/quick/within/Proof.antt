@@ -2,7 +2,6 @@
 use mathlib.Core.Path.{subst, sym}
 use lib.Dec.{T}
 use Rattle.pairs.proofs.Numbers.{never, number-between}
-use borrow.Author.Needs.{needs}
 use Rattle.certificate.proofs.quick.within.Statement.{statement}
 use Rattle.certificate.proofs.quick.within.Tie as tie
 

@@ -13,7 +13,8 @@ returns : tie.Need-returns
 unfolding dividePairs
 returns c =
     let a = c .before .before .before .before .before .args in
-    operation-is (dividePairs binary64) divide-strict (a .x .good) true (a .x .low) (a .x .high) (a .c) (a .c) _ _ _ (c .kept2 .ensures) refl
+    operation-is (dividePairs binary64) divide-strict (a .x .good) true (a .x .low) (a .x .high) (a .c) (a .c) _ _ _ (c .kept2 .ensures)
+    refl
     (rw (c .before .before .widened .ensures) at (c .before .kept .ensures))
 
 pub divide-by-spec : {M : Type 1} → statement M

@@ -1,6 +1,5 @@
 -- `pairs::ends::kept` meets its contract.
 use borrow.Author.Needs.{needs}
-use Rattle.pairs.specs.Structs.{endsOf}
 use Rattle.pairs.proofs.Pairs.{kept-flag}
 use Rattle.pairs.proofs.ends.kept.Statement.{statement}
 use Rattle.pairs.proofs.ends.kept.Tie as tie

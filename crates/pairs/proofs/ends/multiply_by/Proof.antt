@@ -13,7 +13,8 @@ returns : tie.Need-returns
 unfolding multiplyPairs
 returns c =
     let a = c .before .before .before .before .args in
-    operation-is (multiplyPairs binary64) multiply-strict (a .x .good) true (a .x .low) (a .x .high) (a .c) (a .c) _ _ _ (c .kept .ensures) refl
+    operation-is (multiplyPairs binary64) multiply-strict (a .x .good) true (a .x .low) (a .x .high) (a .c) (a .c) _ _ _ (c .kept
+    .ensures) refl
     (c .before .widened .ensures)
 
 pub multiply-by-spec : {M : Type 1} → statement M

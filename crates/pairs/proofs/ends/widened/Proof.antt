@@ -1,9 +1,9 @@
 -- `pairs::ends::widened` meets its contract.
-use mathlib.Core.Bool.{Bool, cond, false, true}
-use mathlib.Core.Path.{_∙_, _≡_, ap, sym}
+use mathlib.Core.Bool.{cond}
+use mathlib.Core.Path.{_∙_, _≡_, sym}
 use lib.Ieee.{binary64, lt}
 use Rattle.fraction.specs.NextNumber.{nextDown, nextUp}
-use Rattle.fraction.specs.Pair.{Ends, highestOf, lowestOf, none, outward, pair}
+use Rattle.fraction.specs.Pair.{none, outward, pair}
 use Rattle.pairs.specs.Structs.{largestNumber, lowestNumber}
 use Rattle.pairs.proofs.Outward.{both-hold, outward-tested, over-infinity, under-infinity}
 use borrow.Author.Needs.{needs}
@@ -24,7 +24,8 @@ step-up-requires c κs =
 
 -- the pair, if the test holds
 pair-of : (c : tie.After-movable) → outward binary64 (c .before .before .before .before .before .before .before .args .p)
-    (c .before .before .before .before .before .before .before .args .q) (c .before .before .before .before .before .before .before .args .r)
+    (c .before .before .before .before .before .before .before .args .q) (c .before .before .before .before .before .before .before .args
+    .r)
     (c .before .before .before .before .before .before .before .args .s)
     ≡ cond (c .movable .result) (pair (nextDown binary64 (c .before .before .before .before .lower3 .result))
     (nextUp binary64 (c .before .higher3 .result))) none

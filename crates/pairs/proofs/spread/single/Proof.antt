@@ -1,7 +1,6 @@
 -- `spread::single` meets its contract.
 use mathlib.Core.Path.{refl}
 use Rattle.pairs.proofs.SpreadSums.{single-stands}
-use borrow.Author.Needs.{needs}
 use Rattle.pairs.proofs.spread.single.Statement.{statement}
 use Rattle.pairs.proofs.spread.single.Tie as tie
 

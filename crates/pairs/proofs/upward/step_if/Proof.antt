@@ -1,10 +1,9 @@
 -- `upward::step_if` meets its contract.
-use mathlib.Core.Bool.{Bool, cond, false, true}
-use mathlib.Core.Path.{_∙_, _≡_, ap, refl, subst, sym}
+use mathlib.Core.Path.{subst, sym}
 use lib.Dec.{T}
-use lib.Ieee.{Float, binary64, fits, ofBits, toBits}
+use lib.Ieee.{binary64, fits}
 use borrow.Author.Needs.{needs}
-use Rattle.pairs.proofs.PlainNumbers.{bounded-bits, bounded-fits, bounded-not-nan, stepped, stepped-not-nan}
+use Rattle.pairs.proofs.PlainNumbers.{bounded-bits, bounded-not-nan, stepped, stepped-not-nan}
 use Rattle.pairs.proofs.upward.step_if.Statement.{statement}
 use Rattle.pairs.proofs.upward.step_if.Tie as tie
 

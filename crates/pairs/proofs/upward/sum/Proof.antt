@@ -1,10 +1,6 @@
 -- `upward::sum` meets its contract.
-use mathlib.Core.Bool.{Bool, _||_, cond, false, true}
-use mathlib.Core.Path.{_∙_, _≡_, ap, refl, subst, sym}
-use Prim.Native.Nat.{_≤_, ℕ}
-use lib.Ieee.{Float, add, binary64}
+use mathlib.Core.Path.{refl}
 use borrow.Author.Needs.{needs}
-use Rattle.pairs.specs.Spreads.{Number, UpwardSum, bounded}
 use Rattle.pairs.proofs.UpwardTests.{upward-stepped}
 use Rattle.pairs.proofs.upward.sum.Statement.{statement}
 use Rattle.pairs.proofs.upward.sum.Tie as tie

@@ -1,6 +1,5 @@
 -- `upward::toward` meets its contract.
 use mathlib.Core.Path.{refl}
-use native.Mathlib.Omega.{arith}
 use borrow.Author.Needs.{needs}
 use Rattle.pairs.proofs.PlainNumbers.{step-pattern}
 use Rattle.pairs.proofs.upward.toward.Statement.{statement}
