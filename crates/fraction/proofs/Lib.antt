@@ -12,6 +12,7 @@ pub mod Lowest
 pub mod Magnitude
 pub mod Monotone
 pub mod Multiple
+pub mod Near
 pub mod Nearest
 pub mod Neighbours
 pub mod NextNumber
