@@ -18,19 +18,13 @@ use Rattle.fraction.proofs.Value.{absolute-float, value-neg}
 use Rattle.arith.specs.Loop.{each, turns}
 use Rattle.window.specs.Cells.{+0}
 use Rattle.figure.specs.Figure.{Figure, absoluteEnd, figure, larger, noFigure, sixFigure}
+use Rattle.estimate.proofs.Largest.{absolute-below, highest-either}
 use Rattle.pairs.specs.Spreads.{Stands}
 use Rattle.pairs.specs.declared.spread.Spread.{Spread}
 use Rattle.pairs.proofs.Numbers.{twice}
 use Rattle.pairs.proofs.PlainNumbers.{plain-unique}
 
 -- ---- |x|
-absolute-below : (x : Float) → T (finite x) → (m : ℚ) → value x ≤q m → negq (value x) ≤q m → value (absoluteFloat x) ≤q m
-unfolding neg
-absolute-below nan X m h k = absurd X
-absolute-below (inf s) X m h k = absurd X
-absolute-below (fin false n e) X m h k = h
-absolute-below (fin true n e) X m h k = subst (λ (z : ℚ). z ≤q m) (sym (value-neg (fin true n e) tt)) k
-
 absolute-fits : (x : Float) → T (fits binary64 x) → T (fits binary64 (absoluteFloat x))
 unfolding fits
 absolute-fits nan F = tt
@@ -39,14 +33,6 @@ absolute-fits (fin s zero e) F = F
 absolute-fits (fin s (suc m) e) F = F
 
 -- ---- the highest of two, by their values
-highest-either : (P : Float → Type 0) (x y : Float) → P x → P y → P (highest x y)
-unfolding highest
-highest-either P x y p q = go (lt x y)
-  where
-    go : (b : Bool) → P (cond b y x)
-    go true = q
-    go false = p
-
 -- both are above a number that is not negative, or neither
 lt-same : (x y z : Float) → T (finite x) → T (finite y) → T (finite z) → value y ≡ value z → lt x y ≡ lt x z
 lt-same x y z X Y Z e = same (lt x y) (lt x z) (λ t. lt-of-value x z X Z (subst (λ (q : ℚ). value x <q q) e (lt-value x y X Y (subst T
@@ -140,14 +126,6 @@ module _ (a : ℕ) (e : Ends) (s : Spread) (S : Stands a e s) where
 pub zero-not-negative : 𝟘 ≤q value (ofBits binary64 0)
 unfolding ofBits atMostq
 zero-not-negative = tt
-
--- ---- six pairs, one after the other
-pub six-largest : (p : ℕ → Ends) (a b c d e f : Float) → figure a ≡ larger (figure +0) (absoluteEnd (p 0))
-    → figure b ≡ larger (figure a) (absoluteEnd (p 1)) → figure c ≡ larger (figure b) (absoluteEnd (p 2))
-    → figure d ≡ larger (figure c) (absoluteEnd (p 3)) → figure e ≡ larger (figure d) (absoluteEnd (p 4))
-    → figure f ≡ larger (figure e) (absoluteEnd (p 5)) → sixFigure p ≡ figure f
-unfolding sixFigure each turns
-six-largest p a b c d e f h₀ h₁ h₂ h₃ h₄ h₅ = rw (sym h₀, sym h₁, sym h₂, sym h₃, sym h₄) (sym h₅)
 
 -- none is no figure
 pub none-is-none : {A : Type 0} (v : Float) → noFigure ≡ figure v → A

@@ -90,13 +90,3 @@ six-at a b c d e g f p q r s t u (suc (suc (suc zero))) l = s
 six-at a b c d e g f p q r s t u (suc (suc (suc (suc zero)))) l = t
 six-at a b c d e g f p q r s t u (suc (suc (suc (suc (suc zero))))) l = u
 six-at a b c d e g f p q r s t u (suc (suc (suc (suc (suc (suc i)))))) l = absurd (omega arith)
-
--- what holds of 0 to 5
-pub six-all : (P : ℕ → Type 0) → P 0 → P 1 → P 2 → P 3 → P 4 → P 5 → (k : ℕ) → k < 6 → P k
-six-all P a b c d e f zero l = a
-six-all P a b c d e f (suc zero) l = b
-six-all P a b c d e f (suc (suc zero)) l = c
-six-all P a b c d e f (suc (suc (suc zero))) l = d
-six-all P a b c d e f (suc (suc (suc (suc zero)))) l = e
-six-all P a b c d e f (suc (suc (suc (suc (suc zero))))) l = f
-six-all P a b c d e f (suc (suc (suc (suc (suc (suc k)))))) l = absurd (omega arith)

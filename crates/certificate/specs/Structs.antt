@@ -5,31 +5,13 @@ use mathlib.Core.List.{List}
 use mathlib.Core.Path.{_≡_}
 use lib.Ieee.{nan}
 use lib.ListN.{getD}
-use Rattle.window.specs.Cells.{at}
 use Rattle.fraction.specs.Pair as pairs
 use Rattle.figure.specs.Figure as figures
 use Rattle.figure.specs.Figure.{figure, noFigure}
-use Rattle.figure.specs.Intersection as intersections
 use Rattle.pairs.specs.Structs.{endsOf}
 use Rattle.pairs.specs.declared.ends.Ends.{Ends}
 use Rattle.certificate.specs.declared.intersection.Figure.{Figure}
 use Rattle.certificate.specs.declared.intersection.Figure.the-variants.{Known, None}
-use Rattle.certificate.specs.declared.intersection.Intersection.{Intersection}
-
--- the numbers of an intersection
-abbrev pub intersectionOf : Intersection → intersections.Intersection
-intersectionOf x =
-    record {
-      start = x .start;
-      end = x .end;
-      coefficient = λ k. at (x .coefficients) k;
-      left = x .left;
-      right = x .right;
-      from = x .from;
-      to = x .to;
-      first = x .first;
-      second = x .second;
-    }
 
 -- the figure, or none
 abbrev pub figureIn : Figure → figures.Figure

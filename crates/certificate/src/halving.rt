@@ -7,12 +7,14 @@ ghost use Rattle.figure.specs.Operations.{ends};
 ghost use Rattle.figure.specs.Halving.{leftHalf, midpoint, rightHalf};
 ghost use Rattle.figure.specs.Figure.{halvedFigure, intersectionFigure, larger, sixFigure, smaller};
 ghost use Rattle.pairs.specs.Structs.{endsOf};
-ghost use Rattle.certificate.specs.Structs.{Holds, figureIn, intersectionOf, pairAt};
+ghost use Rattle.estimate.specs.Structs.{intersectionOf};
+ghost use Rattle.certificate.specs.Structs.{Holds, figureIn, pairAt};
 use crate::intersection;
 use crate::intersection::Figure;
-use crate::intersection::Intersection;
 use crate::intersection::Six;
 use crate::quick;
+use estimate::comparison;
+use estimate::intersection::Intersection;
 use pairs::ends;
 use pairs::ends::Ends;
 
@@ -123,9 +125,9 @@ fn deep_figure(depth: usize, x: Intersection, own: Figure) -> Figure
     halved_figure(depth, intersection::bernstein_pairs(x))
 }
 
-// The largest so far with the figure of an intersection. Where its own is not above the largest so far,
-// no depth makes a difference, and it is not halved.
-pub(crate) fn with_figure(depth: usize, x: Intersection, so_far: Figure) -> Figure
+// The largest so far with the figure of an intersection, computed. Where its own is not above the largest so
+// far, no depth makes a difference, and it is not halved.
+fn with_computed(depth: usize, x: Intersection, so_far: Figure) -> Figure
     ensures { λ r. ⌜ figureIn r ≡ larger (figureIn «so_far») (intersectionFigure depth (intersectionOf x)) ⌝ }
 {
     let own = own_figure(x);
@@ -139,4 +141,17 @@ pub(crate) fn with_figure(depth: usize, x: Intersection, so_far: Figure) -> Figu
         return intersection::larger(so_far, deep_figure(depth, x, own));
     }
     so_far
+}
+
+// The same. Where an estimate tells that the figure is not above the largest so far, it is not computed.
+pub(crate) fn with_figure(depth: usize, x: Intersection, so_far: Figure) -> Figure
+    ensures { λ r. ⌜ figureIn r ≡ larger (figureIn «so_far») (intersectionFigure depth (intersectionOf x)) ⌝ }
+{
+    let Figure::Known(largest) = so_far else {
+        return Figure::None;
+    };
+    if comparison::not_above(x, largest) {
+        return so_far;
+    }
+    with_computed(depth, x, so_far)
 }

@@ -11,25 +11,11 @@ ghost use Rattle.figure.specs.Operations.{ends};
 ghost use Rattle.figure.specs.Intersection.{bernstein, differenceBernstein, differencePower, lineAtLeft, lineRise, offset, raised, scale, total};
 ghost use Rattle.figure.specs.Figure.{absoluteEnd, larger};
 ghost use Rattle.pairs.specs.Structs.{endsOf};
-ghost use Rattle.certificate.specs.Structs.{Holds, figureIn, intersectionOf, pairAt};
+ghost use Rattle.estimate.specs.Structs.{intersectionOf};
+ghost use Rattle.certificate.specs.Structs.{Holds, figureIn, pairAt};
+use estimate::intersection::Intersection;
 use pairs::ends;
 use pairs::ends::Ends;
-
-// The numbers that an intersection is computed from.
-pub struct Intersection {
-    // the segment [a, b] and its coefficients
-    pub start: f64,
-    pub end: f64,
-    pub coefficients: [f64; 6],
-    // [left, right]
-    pub left: f64,
-    pub right: f64,
-    // the waypoint interval: its parameters and its waypoints
-    pub from: f64,
-    pub to: f64,
-    pub first: f64,
-    pub second: f64,
-}
 
 // A figure, or none.
 pub enum Figure {

@@ -7,17 +7,19 @@ ghost use lib.Dec.{T};
 ghost use lib.Ieee.{Float, binary64};
 ghost use lib.Ieee.Scale.{finite};
 ghost use Rattle.window.specs.Cells.{at};
-ghost use Rattle.fraction.specs.Pair.{Ends, finiteEnds, point};
+ghost use Rattle.fraction.specs.Pair.{Ends, point};
 ghost use Rattle.fraction.specs.Rational.{_≤q_, 𝟘, 𝟙};
 ghost use Rattle.fraction.specs.Value.{value};
 ghost use Rattle.figure.specs.Operations.{ends};
 ghost use Rattle.figure.specs.Intersection as formula;
 ghost use Rattle.figure.specs.Figure.{absoluteEnd, figure, larger, sixFigure};
-ghost use Rattle.pairs.specs.Spreads.{Number, Stands, power};
+ghost use Rattle.pairs.specs.Spreads.{Number, Stands};
 ghost use Rattle.certificate.specs.Quick.{Divisible, LengthsStand, Moderate, NearParameters, PowersStand, RowStands, powerSum};
-ghost use Rattle.certificate.specs.Structs.{figureIn, intersectionOf};
+ghost use Rattle.estimate.specs.Structs.{intersectionOf};
+ghost use Rattle.certificate.specs.Structs.{figureIn};
 use crate::intersection::Figure;
-use crate::intersection::Intersection;
+use estimate::intersection::Intersection;
+use estimate::sizes;
 use pairs::ends;
 use pairs::spread;
 use pairs::spread::Spread;
@@ -261,45 +263,16 @@ fn row_figure(q: Row) -> f64
     largest(most_4, row_5(b, q))
 }
 
-// Whether x is at most `limit` in size, which is a power of 2. A NaN is not.
-fn within(x: f64, limit: f64) -> bool
-    ensures { λ r. ⌜ ((a : ℕ) → r ≡ true → limit ≡ power a → Number a x) ⌝ }
-{
-    if -limit <= x {
-        return x <= limit;
-    }
-    false
-}
-
-// Whether each is at most 2^100 in size.
-fn six_within(p: [f64; 6]) -> bool
-    ensures { λ r. ⌜ (r ≡ true → (k : ℕ) → k < 6 → Number 100 (at p k)) ⌝ }
-{
-    let limit = 1.2676506002282294e30;
-    if within(p[0], limit) {
-        if within(p[1], limit) {
-            if within(p[2], limit) {
-                if within(p[3], limit) {
-                    if within(p[4], limit) {
-                        return within(p[5], limit);
-                    }
-                }
-            }
-        }
-    }
-    false
-}
-
 // Whether each parameter is at most 2 in size.
 fn parameters_within(x: Intersection) -> bool
     ensures { λ r. ⌜ (r ≡ true → NearParameters (intersectionOf x)) ⌝ }
 {
-    if within(x.start, 2.0) {
-        if within(x.end, 2.0) {
-            if within(x.left, 2.0) {
-                if within(x.right, 2.0) {
-                    if within(x.from, 2.0) {
-                        return within(x.to, 2.0);
+    if sizes::within(x.start, 2.0) {
+        if sizes::within(x.end, 2.0) {
+            if sizes::within(x.left, 2.0) {
+                if sizes::within(x.right, 2.0) {
+                    if sizes::within(x.from, 2.0) {
+                        return sizes::within(x.to, 2.0);
                     }
                 }
             }
@@ -314,9 +287,9 @@ fn moderate(x: Intersection) -> bool
 {
     let p = x.coefficients;
     if parameters_within(x) {
-        if within(x.first, 1.2676506002282294e30) {
-            if within(x.second, 1.2676506002282294e30) {
-                return six_within(p);
+        if sizes::within(x.first, 1.2676506002282294e30) {
+            if sizes::within(x.second, 1.2676506002282294e30) {
+                return sizes::six_within(p);
             }
         }
     }

@@ -3,4 +3,4 @@
 pub mod intersection; // intersection.rt: the numbers that an intersection is computed from
 pub mod sizes; // sizes.rt: sizes of numbers, and how the parameters lie
 mod plain; // plain.rt: the formula in plain floats
-pub mod estimate; // estimate.rt: the test
+pub mod comparison; // comparison.rt: the figure against the largest so far

@@ -9,7 +9,8 @@ use Rattle.fraction.specs.Binomial.{choose}
 use Rattle.fraction.specs.Pair as pairs
 use Rattle.figure.specs.Intersection.{offset, raised, scale}
 use Rattle.figure.specs.Operations.{ends}
-use Rattle.certificate.specs.Structs.{Holds, intersectionOf}
+use Rattle.estimate.specs.Structs.{intersectionOf}
+use Rattle.certificate.specs.Structs.{Holds}
 use Rattle.certificate.proofs.Sums.{held-power, holds-six, six-at}
 use Rattle.certificate.proofs.intersection.difference_powers.Statement.{statement}
 use Rattle.certificate.proofs.intersection.difference_powers.Tie as tie

@@ -4,7 +4,7 @@ use Rattle.figure.specs.Intersection.{offset, power}
 use Rattle.figure.specs.Operations.{ends}
 use Rattle.window.specs.Cells.{at}
 use Rattle.certificate.specs.Quick.{powerSum}
-use Rattle.certificate.specs.Structs.{intersectionOf}
+use Rattle.estimate.specs.Structs.{intersectionOf}
 use borrow.Author.Needs.{needs}
 use Rattle.certificate.proofs.quick.figure_of.Statement.{statement}
 use Rattle.certificate.proofs.quick.figure_of.Tie as tie

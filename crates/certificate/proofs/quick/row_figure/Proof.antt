@@ -2,7 +2,8 @@
 use native.Mathlib.Omega.{arith}
 use lib.Ieee.{ofBits, round}
 use Rattle.figure.specs.Intersection.{bernstein}
-use Rattle.certificate.proofs.LargestEnd.{six-largest, zero-not-negative}
+use Rattle.estimate.proofs.Largest.{six-largest}
+use Rattle.certificate.proofs.LargestEnd.{zero-not-negative}
 use borrow.Author.Needs.{needs}
 use Rattle.certificate.proofs.quick.row_figure.Statement.{statement}
 use Rattle.certificate.proofs.quick.row_figure.Tie as tie

@@ -1,12 +1,12 @@
--- `estimate::not_above` meets its contract.
+-- `comparison::not_above` meets its contract.
 use Rattle.pairs.proofs.Numbers.{never}
 use Rattle.estimate.proofs.Above.{estimated}
 use Rattle.estimate.proofs.Measuring.{measured-is, size-number}
 use borrow.Author.Needs.{needs}
-use Rattle.estimate.proofs.estimate.not_above.Statement.{statement}
-use Rattle.estimate.proofs.estimate.not_above.Tie as tie
-use Rattle.estimate.proofs.estimate.not_above.Reads as reads
-use Rattle.estimate.proofs.estimate.not_above.Lts as lts
+use Rattle.estimate.proofs.comparison.not_above.Statement.{statement}
+use Rattle.estimate.proofs.comparison.not_above.Tie as tie
+use Rattle.estimate.proofs.comparison.not_above.Reads as reads
+use Rattle.estimate.proofs.comparison.not_above.Lts as lts
 use Rattle.estimate.proofs.plain.coefficients.Reads as coefficients-reads
 use Rattle.estimate.proofs.plain.largest.Reads as largest-reads
 use Rattle.estimate.proofs.sizes.measured.Reads as measured-reads
