@@ -203,10 +203,16 @@ fn compare(count: usize) {
     );
 }
 
-/// One row: all axes of a smooth lane that is built with tolerance 1e-4.
-fn measure(r: &mut Random, n: usize, d: usize, time: Duration) {
+/// One row: all axes of a smooth lane that is built with tolerance 1e-4; `rising`: each waypoint moved, further and
+/// further off, so that each intersection has a larger figure than all before it.
+fn measure(r: &mut Random, n: usize, d: usize, rising: bool, time: Duration) {
     let request = builds::lane(r, Shape::Smooth, d, n, 1e-4);
-    let questions: Vec<_> = (0..d).filter_map(|axis| built(&request, axis)).collect();
+    let mut questions: Vec<_> = (0..d).filter_map(|axis| built(&request, axis)).collect();
+    if rising {
+        for point in questions.iter_mut().flat_map(|q| q.points.iter_mut().enumerate()) {
+            *point.1 += 1e-3 * point.0 as f64;
+        }
+    }
     let segments = questions[0].curve.segments;
     let tight = request.with(|q| q.config.max_segments = segments);
     let mut lent = Lent::default();
@@ -251,7 +257,11 @@ fn measure(r: &mut Random, n: usize, d: usize, time: Duration) {
     println!(
         "{n:6} {d:2} {segments:5} | {against} | {a:8.3} {c:8.3} {:5.2} | {}",
         a / c,
-        if good { "alike" } else { "DIFFERENT" }
+        match (good, rising) {
+            (true, false) => "alike",
+            (true, true) => "alike, rising",
+            _ => "DIFFERENT",
+        }
     );
 }
 
@@ -272,7 +282,8 @@ pub fn run() {
     let mut r = Random::new(6);
     for n in [100, 1000, 20_000] {
         for d in [1, 3] {
-            measure(&mut r, n, d, Duration::from_secs_f64(seconds));
+            measure(&mut r, n, d, false, Duration::from_secs_f64(seconds));
         }
     }
+    measure(&mut r, 20_000, 3, true, Duration::from_secs_f64(seconds));
 }

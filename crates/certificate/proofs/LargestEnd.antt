@@ -2,22 +2,20 @@
 -- one.
 use mathlib.Core.Bool.{Bool, cond, false, true, true≢false}
 use mathlib.Core.Path.{_∙_, _≡_, ap, refl, subst, sym}
-use Prim.Native.Nat.{_≤_, suc, zero, ℕ}
+use Prim.Native.Nat.{suc, zero, ℕ}
 use lib.Dec.{T, T-not}
-use lib.Ieee.{Float, binary64, fin, fits, inf, lt, nan, neg, ofBits}
+use lib.Ieee.{Float, binary64, fin, fits, inf, lt, nan, ofBits}
 use lib.Ieee.Scale.{finite}
 use Rattle.fraction.specs.DirectedSum.{plainZero}
-use Rattle.fraction.specs.Pair.{Ends, highest, largestAbsolute, pair}
+use Rattle.fraction.specs.Pair.{Ends, highest, largestAbsolute}
 use Rattle.fraction.specs.Rational.{_<q_, _≤q_, atMostq, negq, ℚ, 𝟘}
 use Rattle.fraction.specs.Value.{absoluteFloat, value}
 use Rattle.fraction.proofs.Comparison.{lt-of-value, lt-value}
 use Rattle.fraction.proofs.DirectedSum.{Plain, a-zero, no-zero, plain-cases}
 use Rattle.fraction.proofs.Lowest.{highest-is}
 use Rattle.fraction.proofs.Rational.{≤q-antisymmetric, ≤q-negated, ≤q-refl, ≤q-trans, ≤q-<q-trans}
-use Rattle.fraction.proofs.Value.{absolute-float, value-neg}
-use Rattle.arith.specs.Loop.{each, turns}
-use Rattle.window.specs.Cells.{+0}
-use Rattle.figure.specs.Figure.{Figure, absoluteEnd, figure, larger, noFigure, sixFigure}
+use Rattle.fraction.proofs.Value.{absolute-float}
+use Rattle.figure.specs.Figure.{Figure, absoluteEnd, figure, larger, noFigure}
 use Rattle.estimate.proofs.Largest.{absolute-below, highest-either}
 use Rattle.pairs.specs.Spreads.{Stands}
 use Rattle.pairs.specs.declared.spread.Spread.{Spread}

@@ -4,7 +4,7 @@ ghost use mathlib.Core.Bool.{true};
 ghost use mathlib.Core.Path.{_≡_};
 ghost use Prim.Native.Nat.{_<_, _≤_, suc, ℕ};
 ghost use lib.Dec.{T};
-ghost use lib.Ieee.{Float, binary64};
+ghost use lib.Ieee.{Float};
 ghost use lib.Ieee.Scale.{finite};
 ghost use Rattle.window.specs.Cells.{at};
 ghost use Rattle.fraction.specs.Pair.{Ends, point};

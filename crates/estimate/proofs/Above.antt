@@ -1,9 +1,9 @@
--- Where the largest Bernstein coefficient in plain floats, with 2^-35 of the numbers' size, is at most s, the figure of the pairs is not above
--- s: both are close to the exact coefficients.
+-- Where the largest Bernstein coefficient in plain floats, with 2^-35 of the numbers' size, is at most s, the figure of the pairs is
+-- not above s: both are close to the exact coefficients.
 use mathlib.Core.Bool.{Bool, false, true, true≢false}
 use mathlib.Core.List.{[], _∷_}
 use mathlib.Core.Path.{_∙_, _≡_, ap, refl, subst, sym}
-use Prim.Native.Nat.{_+_, _<_, _^_, _≤_, ℕ}
+use Prim.Native.Nat.{_<_, ℕ}
 use native.Mathlib.Omega.{arith}
 use lib.Dec.{T}
 use lib.Ieee.{Float, add, binary64, eq, fin, fits, inf, le, lt, mul, nan, neg, ofBits}
@@ -11,11 +11,11 @@ use lib.Ieee.Fits.{neg-fits}
 use lib.Ieee.Scale.{finite}
 use lib.IntN.{pos}
 use Rattle.window.specs.Cells.{+0}
-use Rattle.fraction.specs.Order.{le-by, le-one, le-two}
+use Rattle.fraction.specs.Order.{le-one, le-two}
 use Rattle.fraction.specs.Pair.{Ends, highest, largestAbsolute}
-use Rattle.fraction.specs.Rational.{_*q_, _+q_, _-q_, _<q_, _≤q_, atMostq, negq, ℚ, 𝟘, 𝟙}
+use Rattle.fraction.specs.Rational.{_*q_, _+q_, _-q_, _<q_, _≤q_, atMostq, negq, ℚ, 𝟘}
 use Rattle.fraction.specs.RationalRing.{rationalRing}
-use Rattle.fraction.specs.Ring.{_⊕_, _⊖_, _⊗_, con, opposite, solve, v0, v1, v2, v3, v4}
+use Rattle.fraction.specs.Ring.{_⊕_, _⊖_, _⊗_, con, opposite, solve, v0, v1, v2, v3}
 use Rattle.fraction.specs.Value.{absoluteFloat, value}
 use Rattle.fraction.proofs.Comparison.{lt-value}
 use Rattle.fraction.proofs.Lowest.{highest-is}
@@ -36,8 +36,8 @@ use Rattle.estimate.specs.declared.plain.Six.{Six}
 use Rattle.estimate.proofs.Close.{Close, ClosePair, ends-approximate, plain-approximates}
 use Rattle.estimate.proofs.Formula.{Measured, bernstein-close}
 use Rattle.estimate.proofs.Largest.{absolute-below, highest-either, six-largest}
-use Rattle.estimate.proofs.Measuring.{larger-either, larger-finite, larger-first, larger-second}
-use Rattle.estimate.proofs.Nearness.{Near, Size, few, near-size, size-negated, size-not-negative, size-same, size-sum, size-wider, unit, unit-not-negative, whole, whole-order}
+use Rattle.estimate.proofs.Measuring.{larger-either, larger-first, larger-second}
+use Rattle.estimate.proofs.Nearness.{Size, few, near-size, size-negated, size-not-negative, size-same, size-sum, size-wider, unit, unit-not-negative, whole}
 use Rattle.estimate.proofs.Rounds.{Rounds, Scale, nearest-rounds, scale-not-negative}
 
 -- ---- tests
@@ -317,7 +317,8 @@ module _ (x : Intersection) (m : Float) (F : Number 100 m) (D : Measured x (valu
             (con (pos 16384) ⊗ (v1 ⊗ v0)) tt
 
         cost-least : whole 16383 *q U ≤q g
-        cost-least = le-one rationalRing _≤q_ rationalOrder (g ∷ U ∷ []) (con (pos 16383) ⊗ v1) v0 (con (pos 1)) (opposite (con (pos 1) ⊗ v1))
+        cost-least = le-one rationalRing _≤q_ rationalOrder (g ∷ U ∷ []) (con (pos 16383) ⊗ v1) v0 (con (pos 1)) (opposite (con (pos 1) ⊗
+            v1))
             (v0 ⊖ con (pos 16384) ⊗ v1) tt (≤q-whole 1) (subst (λ (z : ℚ). negq (whole 1 *q U) ≤q g -q z) cost-is (cost-rounds .2 .0))
 
     -- so each end of each pair is at most the sum

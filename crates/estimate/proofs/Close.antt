@@ -1,27 +1,27 @@
 -- Arithmetics whose results are close to the exact ones: what each operation costs, for floats rounded to nearest and for pairs of ends.
-use mathlib.Core.Bool.{Bool, _&&_, cond, false, true}
+use mathlib.Core.Bool.{false, true}
 use mathlib.Core.List.{[], _∷_}
-use mathlib.Core.Path.{_∙_, _≡_, ap, refl, subst, sym}
+use mathlib.Core.Path.{_≡_, refl, subst, sym}
 use Prim.Native.Nat.{_*_, _+_, _<_, _^_, _≤_, ℕ}
 use native.Mathlib.Omega.{arith}
 use lib.Dec.{T}
-use lib.Ieee.{Float, add, binary64, div, fin, fits, lt, mul, neg, ofBits, round, sub}
+use lib.Ieee.{Float, binary64, div, fin, fits, lt, mul, neg, ofBits, round}
 use lib.Ieee.Bits.{is-true}
 use lib.Ieee.Fits.{neg-fits, round-fits}
 use lib.Ieee.Scale.{finite}
 use lib.IntN.{pos}
 use Rattle.fraction.specs.DirectedSum.{downwardSum, upwardSum}
 use Rattle.fraction.specs.NextNumber.{nextDown, nextUp}
-use Rattle.fraction.specs.Pair.{Ends, addPairs, dividePairs, finiteEnds, highestOf, lowestOf, moved, multiplyPairs, none, outward, pair, subtractPairs}
+use Rattle.fraction.specs.Pair.{Ends, addPairs, dividePairs, finiteEnds, highestOf, lowestOf, moved, multiplyPairs, outward, pair, subtractPairs}
 use Rattle.fraction.specs.Rational.{Above, _*q_, _+q_, _-q_, _/q_, _<q_, _≤q_, atMostq, negq, ℚ, 𝟘, 𝟙}
 use Rattle.fraction.specs.Order.{le-one}
 use Rattle.fraction.specs.RationalRing.{rationalRing}
-use Rattle.fraction.specs.Ring.{_⊕_, _⊖_, _⊗_, con, opposite, solve, v0, v1, v2}
+use Rattle.fraction.specs.Ring.{_⊖_, _⊗_, con, opposite, solve, v0}
 use Rattle.fraction.specs.Rounding.{Rounded}
 use Rattle.fraction.specs.Value.{value}
 use Rattle.fraction.proofs.DirectedSum.{downward-sum, upward-sum}
 use Rattle.fraction.proofs.Lowest.{highest-among, lowest-among}
-use Rattle.fraction.proofs.Rational.{<q-≤q-trans, rationalOrder, ≤q-antisymmetric, ≤q-refl, ≤q-trans, ≤q-whole}
+use Rattle.fraction.proofs.Rational.{<q-≤q-trans, rationalOrder, ≤q-antisymmetric, ≤q-refl, ≤q-whole}
 use Rattle.fraction.proofs.Rounding.{add-rounded, divide-rounded, mul-rounded, sub-rounded}
 use Rattle.fraction.proofs.Value.{neg-finite, plus-zero, value-neg}
 use Rattle.fraction.proofs.Comparison.{lt-of-value}
@@ -129,7 +129,8 @@ number-close : (M : ℚ) (x : Float) → T (fits binary64 x) → T (finite x) �
 number-close M x F X h = record { is-double = F; is-finite = X; near = near-itself M (value x) 1 (once M (value x) h) }
 
 -- the exact results
-module _ (M : ℚ) (S : Scale M) (k n : ℕ) (v : ℚ) (x : Float) (k′ n′ : ℕ) (v′ : ℚ) (x′ : Float) (X : Close M k n v x) (Y : Close M k′ n′ v′ x′)
+module _ (M : ℚ) (S : Scale M) (k n : ℕ) (v : ℚ) (x : Float) (k′ n′ : ℕ) (v′ : ℚ) (x′ : Float) (X : Close M k n v x) (Y : Close M k′ n′ v′
+    x′)
   where
     near-plus : Near M (k + k′) (n + n′) (v +q v′) (value x +q value x′)
     near-plus = near-sum M k n v (value x) k′ n′ v′ (value x′) (X .near) (Y .near)
@@ -290,7 +291,8 @@ pair-times : (M M′ P : ℚ) → M *q M′ ≡ P → Scale P → (k n : ℕ) (v
     → ClosePair P (k * k′) (n * k′ + k * n′ + 1 + (k * k′ + 1)) (v *q v′) (multiplyPairs binary64 x x′)
 unfolding multiplyPairs
 pair-times M M′ P e S k n v x k′ n′ v′ x′ l a m X Y =
-    let one : (c d : Float) → Close M k n v c → Close M′ k′ n′ v′ d → Candidate P (k * k′) (n * k′ + k * n′ + 1) (v *q v′) (mul binary64 c d)
+    let one : (c d : Float) → Close M k n v c → Close M′ k′ n′ v′ d → Candidate P (k * k′) (n * k′ + k * n′ + 1) (v *q v′) (mul binary64 c
+    d)
     = λ c d C D. record {
       exact = value c *q value d;
       near = near-product M M′ P e (scale-not-negative P S) k n v (value c) k′ n′ v′ (value d) a (C .near) (D .near);

@@ -2,14 +2,13 @@
 -- exact coefficients.
 use mathlib.Core.List.{[], _∷_}
 use mathlib.Core.Path.{_≡_}
-use Prim.Native.Nat.{_*_, _+_, _-_, _<_, _^_, _≤_, suc, zero, ℕ}
+use Prim.Native.Nat.{_*_, _+_, _<_, _^_, suc, zero, ℕ}
 use native.Mathlib.Omega.{arith}
 use lib.Dec.{T, leb, leb→le, ltb, ltb→lt}
 use lib.Ieee.{Float, binary64, fits}
 use lib.Ieee.Scale.{finite}
 use lib.IntN.{pos}
-use Rattle.fraction.specs.Binomial.{choose}
-use Rattle.fraction.specs.Rational.{Above, _*q_, _+q_, _-q_, _/q_, _≤q_, ℚ, 𝟘, 𝟙}
+use Rattle.fraction.specs.Rational.{Above, _*q_, _+q_, _-q_, _/q_, ℚ, 𝟘, 𝟙}
 use Rattle.fraction.specs.RationalRing.{rationalRing}
 use Rattle.fraction.specs.Ring.{_⊗_, con, solve, v0}
 use Rattle.fraction.specs.Value.{value}
@@ -24,8 +23,8 @@ use Rattle.estimate.proofs.Nearness.{Size, whole}
 abbrev pub Double : Float → Type 0
 Double x = T (fits binary64 x) × T (finite x)
 
--- What has to be known of an intersection's numbers: coefficients and waypoints are at most M in size, and the parameters lie as they should,
--- in intervals of known lengths.
+-- What has to be known of an intersection's numbers: coefficients and waypoints are at most M in size, and the parameters lie
+-- as they should, in intervals of known lengths.
 pub record Measured (x : Intersection) (M : ℚ) : Type 0 where
   pub scaled : Scale M
   pub start : Double (x .start)
@@ -65,10 +64,12 @@ module _ {A : Type 0} (o : Operations A) (R : ℚ → ℕ → ℕ → ℚ → A 
   S = D .scaled
 
   -- ---- U, W, and the parts of the interval
-  segment : R (value (x .end) -q value (x .start)) 1 1 (value (x .end) -q value (x .start)) (o .minus (o .number (x .end)) (o .number (x .start)))
+  segment : R (value (x .end) -q value (x .start)) 1 1 (value (x .end) -q value (x .start)) (o .minus (o .number (x .end)) (o .number (x
+      .start)))
   segment = K .difference _ (D .segment-scaled) (x .end) (x .start) (D .end .0) (D .end .1) (D .start .0) (D .start .1) (D .segment-size)
 
-  interval : R (value (x .to) -q value (x .from)) 1 1 (value (x .to) -q value (x .from)) (o .minus (o .number (x .to)) (o .number (x .from)))
+  interval : R (value (x .to) -q value (x .from)) 1 1 (value (x .to) -q value (x .from)) (o .minus (o .number (x .to)) (o .number (x
+      .from)))
   interval = K .difference _ (D .interval-scaled) (x .to) (x .from) (D .to .0) (D .to .1) (D .from .0) (D .from .1) (D .interval-size)
 
   offset-close : R 𝟙 1 5 (offset exact x) (offset o x)
@@ -195,7 +196,6 @@ module _ {A : Type 0} (o : Operations A) (R : ℚ → ℕ → ℕ → ℚ → A 
         (multiply (multiplied (binomial 1 tt) (coefficient 5 (omega arith)) tt tt tt) (power-0 u v U) tt tt tt) tt tt)
         (power-5 w z W) tt tt tt
 
-
   -- ---- the line
   rise-whole : R M 2 3 (value (x .second) -q value (x .first)) (o .minus (o .number (x .second)) (o .number (x .first)))
   rise-whole = subtract (K .number M (x .second) (D .second .0) (D .second .1) (D .second-size))
@@ -207,16 +207,19 @@ module _ {A : Type 0} (o : Operations A) (R : ℚ → ℕ → ℕ → ℚ → A 
       (D .left .0) (D .left .1) (D .from .0) (D .from .1) (D .since-size)) interval) rise-whole tt tt tt) tt tt
 
   line-rise : R M 2 17 (lineRise exact x) (lineRise o x)
-  line-rise = multiplied (K .ratio _ (D .interval-scaled) (D .interval-above) _ _ _ (K .difference _ (D .interval-scaled) (x .right) (x .left)
+  line-rise = multiplied (K .ratio _ (D .interval-scaled) (D .interval-above) _ _ _ (K .difference _ (D .interval-scaled) (x .right) (x
+      .left)
       (D .right .0) (D .right .1) (D .left .0) (D .left .1) (D .share-size)) interval) rise-whole tt tt tt
 
   -- ---- the powers of curve minus line
 
   power-of-difference-0 : R M 9 222 (differencePower exact x 0) (differencePower o x 0)
-  power-of-difference-0 = subtract (curve-0 (offset o x) (scale o x) (offset exact x) (scale exact x) offset-close scale-close) line-left tt tt
+  power-of-difference-0 = subtract (curve-0 (offset o x) (scale o x) (offset exact x) (scale exact x) offset-close scale-close) line-left
+      tt tt
 
   power-of-difference-1 : R M 17 582 (differencePower exact x 1) (differencePower o x 1)
-  power-of-difference-1 = subtract (curve-1 (offset o x) (scale o x) (offset exact x) (scale exact x) offset-close scale-close) line-rise tt tt
+  power-of-difference-1 = subtract (curve-1 (offset o x) (scale o x) (offset exact x) (scale exact x) offset-close scale-close) line-rise
+      tt tt
 
   power-of-difference-2 : R M 20 797 (differencePower exact x 2) (differencePower o x 2)
   power-of-difference-2 = curve-2 (offset o x) (scale o x) (offset exact x) (scale exact x) offset-close scale-close
@@ -229,7 +232,6 @@ module _ {A : Type 0} (o : Operations A) (R : ℚ → ℕ → ℕ → ℚ → A 
 
   power-of-difference-5 : R M 1 51 (differencePower exact x 5) (differencePower o x 5)
   power-of-difference-5 = curve-5 (offset o x) (scale o x) (offset exact x) (scale exact x) offset-close scale-close
-
 
   -- ---- the Bernstein coefficients
   -- q·c/d, where c is at most d

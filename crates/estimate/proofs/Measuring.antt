@@ -1,21 +1,21 @@
 -- What the tests of an intersection's numbers tell: its lengths and sizes are those that the formula's law asks for.
-use mathlib.Core.Bool.{false, not, true, true≢false}
+use mathlib.Core.Bool.{false, not, true}
 use mathlib.Core.List.{[], _∷_}
 use mathlib.Core.Logic.{_⊎_, inl, inr}
-use mathlib.Core.Path.{_≡_, subst, sym}
-use Prim.Native.Nat.{_<_, _^_, ℕ}
+use mathlib.Core.Path.{_≡_, subst}
+use Prim.Native.Nat.{_^_}
 use native.Mathlib.Omega.{arith}
 use lib.Dec.{T}
-use lib.Ieee.{Float, binary64, eq, fin, fits, inf, le, lt, nan, neg, ofBits, sub}
+use lib.Ieee.{Float, binary64, eq, fin, inf, le, lt, nan, neg, ofBits, sub}
 use lib.Ieee.Bits.{ofBits-fits}
 use lib.Ieee.Scale.{finite}
 use lib.IntN.{pos}
 use lib.Pow.{pow-pos}
-use Rattle.fraction.specs.Order.{le-one, le-two}
+use Rattle.fraction.specs.Order.{le-two}
 use Rattle.fraction.specs.Pair.{highest}
 use Rattle.fraction.specs.Rational.{Above, _+q_, _-q_, _<q_, _≤q_, atMostq, negq, ℚ, 𝟘}
 use Rattle.fraction.specs.RationalRing.{rationalRing}
-use Rattle.fraction.specs.Ring.{_⊕_, _⊖_, _⊗_, con, opposite, v0, v1, v2, v3}
+use Rattle.fraction.specs.Ring.{_⊕_, _⊖_, con, opposite, v0, v1, v2, v3}
 use Rattle.fraction.specs.Rounding.{Rounded}
 use Rattle.fraction.specs.Value.{fraction, value}
 use Rattle.fraction.proofs.Lowest.{highest-is}
@@ -25,7 +25,7 @@ use Rattle.fraction.proofs.Rounding.{sub-rounded}
 use Rattle.fraction.proofs.Value.{neg-finite, value-neg}
 use Rattle.figure.specs.Intersection.{Intersection}
 use Rattle.pairs.specs.Spreads.{Number, powerOfTwo}
-use Rattle.pairs.proofs.Numbers.{larger-power, le-value, rounded-number, turned, twice}
+use Rattle.pairs.proofs.Numbers.{larger-power, le-value, never, rounded-number, turned, twice}
 use Rattle.estimate.specs.Measure.{AtMost, Long, Placed, Sized, shortLength, sizeOf, smallSize, two}
 use Rattle.estimate.specs.Plain.{largerSize}
 use Rattle.estimate.proofs.Formula.{Double, Measured}
@@ -44,9 +44,6 @@ NotHigh : Float → Type 0
 NotHigh nan = ⊥
 NotHigh (inf s) = T s
 NotHigh (fin s m e) = Unit {0}
-
-never : {A : Type 0} → false ≡ true → A
-never h = absurd (true≢false (sym h))
 
 raise : (x y : Float) → le x y ≡ true → NotLow x → NotLow y
 unfolding NotLow le lt eq
@@ -188,7 +185,8 @@ module _ (a b c d : Float) (A : AtMost (neg two) a) (B : AtMost b two) (C : AtMo
   -- parts of the length
   between : (x y : ℚ) → value a ≤q x → x ≤q y → y ≤q value b → Size l (y -q x)
   between x y p q r = (
-    le-two rationalRing _≤q_ rationalOrder (value a ∷ value b ∷ x ∷ y ∷ []) (opposite (v1 ⊖ v0)) (v3 ⊖ v2) (con (pos 1)) v0 v1 (con (pos 1)) v2 v3
+    le-two rationalRing _≤q_ rationalOrder (value a ∷ value b ∷ x ∷ y ∷ []) (opposite (v1 ⊖ v0)) (v3 ⊖ v2) (con (pos 1)) v0 v1 (con (pos
+        1)) v2 v3
         tt (≤q-whole 1) (≤q-trans (value a) x (value b) p (≤q-trans x y (value b) q r)) (≤q-whole 1) q,
     le-two rationalRing _≤q_ rationalOrder (value a ∷ value b ∷ x ∷ y ∷ []) (v3 ⊖ v2) (v1 ⊖ v0) (con (pos 1)) v0 v2 (con (pos 1)) v3 v1 tt
         (≤q-whole 1) p (≤q-whole 1) r,
@@ -229,11 +227,15 @@ module _ (a b c d : Float) (A : AtMost (neg two) a) (B : AtMost b two) (C : AtMo
         go (inr h) = h
         go (inl h) = absurd (shorter (≤q-trans _ _ _ (le-value shortLength _ short-finite (N .is-finite) (L .is))
             (le-value (sub binary64 b a) _ (N .is-finite) half-finite
-            (rounds-below binary64 (ofBits binary64 0x3c20_0000_0000_0000) (ofBits-fits binary64 0x3c20_0000_0000_0000) half-finite _ l R h))))
+            (rounds-below binary64 (ofBits binary64 0x3c20_0000_0000_0000) (ofBits-fits binary64 0x3c20_0000_0000_0000) half-finite _ l R
+            h))))
 
     pub length-scale : Scale l
-    length-scale = record { floor = ≤q-trans _ _ l half-floor (<q-weaken _ l long); ceiling = ≤q-trans l (powerOfTwo 2) _ short
-        (larger-power 2 200 (omega arith)) }
+    length-scale = record {
+      floor = ≤q-trans _ _ l half-floor (<q-weaken _ l long);
+      ceiling = ≤q-trans l (powerOfTwo 2) _ short
+          (larger-power 2 200 (omega arith));
+    }
 
     pub length-above : Above l
     length-above = <q-≤q-trans 𝟘 _ l half-above (<q-weaken _ l long)
@@ -287,37 +289,43 @@ module _ (x : Intersection) (S : Sized x) where
   m2 = largerSize m1 (x .coefficient 0)
 
   n2 : Number 100 m2
-  n2 = larger-either (Number 100) m1 (x .coefficient 0) n1 (S .coefficients 0 (omega arith)) (turned 100 (x .coefficient 0) (S .coefficients 0 (omega arith)))
+  n2 = larger-either (Number 100) m1 (x .coefficient 0) n1 (S .coefficients 0 (omega arith)) (turned 100 (x .coefficient 0) (S
+      .coefficients 0 (omega arith)))
 
   abbrev m3 : Float
   m3 = largerSize m2 (x .coefficient 1)
 
   n3 : Number 100 m3
-  n3 = larger-either (Number 100) m2 (x .coefficient 1) n2 (S .coefficients 1 (omega arith)) (turned 100 (x .coefficient 1) (S .coefficients 1 (omega arith)))
+  n3 = larger-either (Number 100) m2 (x .coefficient 1) n2 (S .coefficients 1 (omega arith)) (turned 100 (x .coefficient 1) (S
+      .coefficients 1 (omega arith)))
 
   abbrev m4 : Float
   m4 = largerSize m3 (x .coefficient 2)
 
   n4 : Number 100 m4
-  n4 = larger-either (Number 100) m3 (x .coefficient 2) n3 (S .coefficients 2 (omega arith)) (turned 100 (x .coefficient 2) (S .coefficients 2 (omega arith)))
+  n4 = larger-either (Number 100) m3 (x .coefficient 2) n3 (S .coefficients 2 (omega arith)) (turned 100 (x .coefficient 2) (S
+      .coefficients 2 (omega arith)))
 
   abbrev m5 : Float
   m5 = largerSize m4 (x .coefficient 3)
 
   n5 : Number 100 m5
-  n5 = larger-either (Number 100) m4 (x .coefficient 3) n4 (S .coefficients 3 (omega arith)) (turned 100 (x .coefficient 3) (S .coefficients 3 (omega arith)))
+  n5 = larger-either (Number 100) m4 (x .coefficient 3) n4 (S .coefficients 3 (omega arith)) (turned 100 (x .coefficient 3) (S
+      .coefficients 3 (omega arith)))
 
   abbrev m6 : Float
   m6 = largerSize m5 (x .coefficient 4)
 
   n6 : Number 100 m6
-  n6 = larger-either (Number 100) m5 (x .coefficient 4) n5 (S .coefficients 4 (omega arith)) (turned 100 (x .coefficient 4) (S .coefficients 4 (omega arith)))
+  n6 = larger-either (Number 100) m5 (x .coefficient 4) n5 (S .coefficients 4 (omega arith)) (turned 100 (x .coefficient 4) (S
+      .coefficients 4 (omega arith)))
 
   abbrev m7 : Float
   m7 = largerSize m6 (x .coefficient 5)
 
   n7 : Number 100 m7
-  n7 = larger-either (Number 100) m6 (x .coefficient 5) n6 (S .coefficients 5 (omega arith)) (turned 100 (x .coefficient 5) (S .coefficients 5 (omega arith)))
+  n7 = larger-either (Number 100) m6 (x .coefficient 5) n6 (S .coefficients 5 (omega arith)) (turned 100 (x .coefficient 5) (S
+      .coefficients 5 (omega arith)))
 
   up7 : value m7 ≤q value m7
   up7 = ≤q-refl (value m7)
@@ -372,7 +380,8 @@ module _ (x : Intersection) (S : Sized x) where
 
   size-scale : Scale (value (sizeOf x))
   size-scale = record {
-    floor = ≤q-trans _ _ _ small-floor (≤q-trans _ _ _ (larger-first smallSize (x .first) (small-number .is-finite) (S .first .is-finite)) up0);
+    floor = ≤q-trans _ _ _ small-floor (≤q-trans _ _ _ (larger-first smallSize (x .first) (small-number .is-finite) (S .first .is-finite))
+        up0);
     ceiling = ≤q-trans _ _ _ (n7 .at-most) (larger-power 100 200 (omega arith));
   }
 

@@ -6,10 +6,10 @@ use Prim.Native.Nat.{_*_, _+_, _^_, _≤_, ℕ}
 use native.Mathlib.Omega.{arith}
 use lib.IntN.{pos}
 use lib.Pow.{pow-pos}
-use Rattle.fraction.specs.Order.{le-by, le-one, le-two}
+use Rattle.fraction.specs.Order.{le-one, le-two}
 use Rattle.fraction.specs.Rational.{Above, _*q_, _+q_, _-q_, _/q_, _<q_, _≤q_, inverse, negq, wholeq, ℚ, 𝟘, 𝟙}
 use Rattle.fraction.specs.RationalRing.{rationalRing}
-use Rattle.fraction.specs.Ring.{Expression, _⊕_, _⊖_, _⊗_, combine, con, opposite, solve, v0, v1, v2, v3, v4, v5, v6, v7}
+use Rattle.fraction.specs.Ring.{_⊕_, _⊖_, _⊗_, combine, con, opposite, solve, v0, v1, v2, v3, v4, v5, v6, v7}
 use Rattle.fraction.specs.Value.{fraction}
 use Rattle.fraction.proofs.Inverse.{inverse-is, inverse-nonnegative}
 use Rattle.fraction.proofs.Rational.{<q-weaken, never, rationalOrder, ≤q-cases, ≤q-or-<, ≤q-refl, ≤q-trans, ≤q-whole}
@@ -30,17 +30,18 @@ size-wider A B a l h = (
   ≤q-trans a A B (h .1) l,
 )
 
+-- y + y ≤ z + z gives y ≤ z
+halved : (y z : ℚ) → y +q y ≤q z +q z → y ≤q z
+halved y z h = elim (≤q-cases y z) [
+  | inl k ↦ k
+  | inr k ↦ le-two rationalRing _≤q_ rationalOrder (y ∷ z ∷ []) v0 v1 (con (pos 1)) (v0 ⊕ v0) (v1 ⊕ v1) (con (pos 1)) v1 v0 tt (≤q-whole 1)
+      h (≤q-whole 1) k
+]
+
 -- what has a size has one that is not below 0
 pub size-not-negative : (A a : ℚ) → Size A a → 𝟘 ≤q A
-size-not-negative A a h = double A (le-two rationalRing _≤q_ rationalOrder (A ∷ a ∷ []) (con (pos 0)) (v0 ⊕ v0) (con (pos 1)) (opposite v0)
-    v1 (con (pos 1)) v1 v0 tt (≤q-whole 1) (h .0) (≤q-whole 1) (h .1))
-  where
-    double : (A : ℚ) → 𝟘 ≤q A +q A → 𝟘 ≤q A
-    double A h = elim (≤q-cases 𝟘 A) [
-      | inl k ↦ k
-      | inr k ↦ ≤q-trans 𝟘 (A +q A) A h (le-one rationalRing _≤q_ rationalOrder (A ∷ []) (v0 ⊕ v0) v0 (con (pos 1)) v0 (con (pos 0)) tt
-          (≤q-whole 1) k)
-    ]
+size-not-negative A a h = halved 𝟘 A (le-two rationalRing _≤q_ rationalOrder (A ∷ a ∷ []) (con (pos 0) ⊕ con (pos 0)) (v0 ⊕ v0) (con (pos 1))
+    (opposite v0) v1 (con (pos 1)) v1 v0 tt (≤q-whole 1) (h .0) (≤q-whole 1) (h .1))
 
 pub size-sum : (A B a b : ℚ) → Size A a → Size B b → Size (A +q B) (a +q b)
 size-sum A B a b h k = (
@@ -55,14 +56,6 @@ size-negated A a h = (
   le-one rationalRing _≤q_ rationalOrder (A ∷ a ∷ []) (opposite v0) (opposite v1) (con (pos 1)) v1 v0 tt (≤q-whole 1) (h .1),
   le-one rationalRing _≤q_ rationalOrder (A ∷ a ∷ []) (opposite v1) v0 (con (pos 1)) (opposite v0) v1 tt (≤q-whole 1) (h .0),
 )
-
--- 0 ≤ x + x gives 0 ≤ x, as y ≤ z from y + y ≤ z + z
-halved : (y z : ℚ) → y +q y ≤q z +q z → y ≤q z
-halved y z h = elim (≤q-cases y z) [
-  | inl k ↦ k
-  | inr k ↦ le-two rationalRing _≤q_ rationalOrder (y ∷ z ∷ []) v0 v1 (con (pos 1)) (v0 ⊕ v0) (v1 ⊕ v1) (con (pos 1)) v1 v0 tt (≤q-whole 1)
-      h (≤q-whole 1) k
-]
 
 product-above : (A B a b : ℚ) → Size A a → Size B b → a *q b ≤q A *q B
 product-above A B a b h k =

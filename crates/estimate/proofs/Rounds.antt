@@ -1,8 +1,8 @@
--- What a rounding costs: a number rounded to nearest, the next number up or down from it, and a sum rounded upward or downward are at most K
--- units of P from the exact value, where that is at most K P in size.
+-- What a rounding costs: a number rounded to nearest, the next number up or down from it, and a sum rounded upward or downward are at
+-- most K units of P from the exact value, where that is at most K P in size.
 use mathlib.Core.List.{[], _∷_}
-use mathlib.Core.Path.{_∙_, _≡_, ap, refl, subst, sym}
-use Prim.Native.Nat.{_*_, _+_, _^_, _≤_, ℕ}
+use mathlib.Core.Path.{_∙_, _≡_, ap, refl, sym}
+use Prim.Native.Nat.{_^_, _≤_, ℕ}
 use native.Mathlib.Omega.{arith}
 use lib.Dec.{T}
 use mathlib.Core.Bool.{false, true}
@@ -13,7 +13,7 @@ use lib.Pow.{pow-pos}
 use Rattle.fraction.specs.DirectedSum.{Downward, Upward}
 use Rattle.fraction.specs.NextNumber.{nextDown, nextUp}
 use Rattle.fraction.specs.Order.{le-one, le-two}
-use Rattle.fraction.specs.Rational.{_*q_, _+q_, _-q_, _≤q_, absolute, atMostq, negq, ℚ, 𝟘, 𝟙}
+use Rattle.fraction.specs.Rational.{_*q_, _+q_, _-q_, _≤q_, absolute, atMostq, ℚ, 𝟘, 𝟙}
 use Rattle.fraction.specs.RationalRing.{rationalRing}
 use Rattle.fraction.specs.Ring.{_⊕_, _⊖_, _⊗_, con, opposite, solve, v0, v1, v2, v3, v4}
 use Rattle.fraction.specs.Rounding.{Rounded}
@@ -24,7 +24,7 @@ use Rattle.fraction.proofs.Rational.{absolute-le, rationalOrder, ≤q-antisymme
 use Rattle.fraction.proofs.Value.{finite-bounds-above, finite-bounds-below, fraction-le}
 use Rattle.pairs.specs.Spreads.{Number, powerOfTwo}
 use Rattle.pairs.proofs.Numbers.{down-number, lowered, raised, rounded-number, up-number}
-use Rattle.estimate.proofs.Nearness.{Size, few, size-same, size-sum, size-wider, unit, unit-not-negative, whole, whole-order}
+use Rattle.estimate.proofs.Nearness.{Size, size-same, size-sum, size-wider, unit, whole, whole-order}
 
 -- a scale: from 2^-1000 to 2^200
 pub record Scale (P : ℚ) : Type 0 where
@@ -79,7 +79,8 @@ module _ (P : ℚ) (S : Scale P) (K : ℕ) (positive : 1 ≤ K) (small : K ≤ 2
   B-not-negative = ≤q-trans 𝟘 P B P-not-negative P-in-B
 
   least-in-B : least binary64 ≤q p *q B
-  least-in-B = ≤q-trans _ _ (p *q B) least-small (le-one rationalRing _≤q_ rationalOrder (p ∷ fraction (pos 1) (2 ^ 1000) (pow-pos 1000) ∷ B ∷ [])
+  least-in-B = ≤q-trans _ _ (p *q B) least-small (le-one rationalRing _≤q_ rationalOrder (p ∷ fraction (pos 1) (2 ^ 1000) (pow-pos 1000) ∷
+      B ∷ [])
       (v0 ⊗ v1) (v0 ⊗ v2) v0 v1 v2 tt p-not-negative (≤q-trans _ P B (S .floor) P-in-B))
 
   -- 8 parts of B are K units of P
@@ -99,7 +100,8 @@ module _ (P : ℚ) (S : Scale P) (K : ℕ) (positive : 1 ≤ K) (small : K ≤ 2
 
   module _ (z : ℚ) (Z : Size B z) (r : Float) (R : Rounded binary64 r z) where
     pub rounded-size : Number 300 r
-    rounded-size = rounded-number 300 (omega arith) r z R (size-wider B (powerOfTwo 300) z wide Z .0) (size-wider B (powerOfTwo 300) z wide Z .1)
+    rounded-size = rounded-number 300 (omega arith) r z R (size-wider B (powerOfTwo 300) z wide Z .0) (size-wider B (powerOfTwo 300) z
+        wide Z .1)
 
     r-finite : T (finite r)
     r-finite = rounded-size .is-finite
@@ -131,7 +133,8 @@ module _ (P : ℚ) (S : Scale P) (K : ℕ) (positive : 1 ≤ K) (small : K ≤ 2
     pB-not-negative = rationalOrder .nonnegative-mul p B p-not-negative B-not-negative
 
     widened : (c : ℕ) (y : ℚ) → c ≤ 8 → Size (whole c *q (p *q B)) y → Size (whole K *q (unit *q P)) y
-    widened c y l h = size-same _ _ _ _ eight refl (size-wider _ _ _ (le-one rationalRing _≤q_ rationalOrder (whole c ∷ whole 8 ∷ (p *q B) ∷ [])
+    widened c y l h = size-same _ _ _ _ eight refl (size-wider _ _ _ (le-one rationalRing _≤q_ rationalOrder (whole c ∷ whole 8 ∷ (p *q B)
+        ∷ [])
         (v0 ⊗ v2) (v1 ⊗ v2) v2 v0 v1 tt pB-not-negative (whole-order c 8 l)) h)
 
     pub nearest-rounds : Rounds P K z r
@@ -150,11 +153,14 @@ module _ (P : ℚ) (S : Scale P) (K : ℕ) (positive : 1 ≤ K) (small : K ≤ 2
     up-size =
         let u = nextUp binary64 r in
         let U = up-number 300 (omega arith) r rounded-size in (
-          le-two rationalRing _≤q_ rationalOrder (value u ∷ value r ∷ z ∷ (p *q B) ∷ []) (opposite (con (pos 5) ⊗ v3)) (v0 ⊖ v2) (con (pos 1)) v1 v0
+          le-two rationalRing _≤q_ rationalOrder (value u ∷ value r ∷ z ∷ (p *q B) ∷ []) (opposite (con (pos 5) ⊗ v3)) (v0 ⊖ v2) (con (pos
+              1)) v1 v0
               (con (pos 1)) (opposite (con (pos 5) ⊗ v3)) (v1 ⊖ v2) tt (≤q-whole 1) (raised 300 (omega arith) r rounded-size) (≤q-whole 1)
               (five .0),
-          le-two rationalRing _≤q_ rationalOrder (value u ∷ value r ∷ z ∷ (p *q B) ∷ []) (v0 ⊖ v2) (con (pos 5) ⊗ v3) (con (pos 1)) v0 (v1 ⊕ con (pos 3) ⊗ v3)
-              (con (pos 1)) (v1 ⊖ v2) (con (pos 2) ⊗ v3) tt (≤q-whole 1) (≤q-trans _ _ _ (up-near binary64 r (rounded-size .is-double) r-finite
+          le-two rationalRing _≤q_ rationalOrder (value u ∷ value r ∷ z ∷ (p *q B) ∷ []) (v0 ⊖ v2) (con (pos 5) ⊗ v3) (con (pos 1)) v0 (v1
+              ⊕ con (pos 3) ⊗ v3)
+              (con (pos 1)) (v1 ⊖ v2) (con (pos 2) ⊗ v3) tt (≤q-whole 1) (≤q-trans _ _ _ (up-near binary64 r (rounded-size .is-double)
+              r-finite
               (U .is-finite)) (more (value r))) (≤q-whole 1) (near .1),
         )
 
@@ -168,9 +174,11 @@ module _ (P : ℚ) (S : Scale P) (K : ℕ) (positive : 1 ≤ K) (small : K ≤ 2
     down-size =
         let u = nextDown binary64 r in
         let U = down-number 300 (omega arith) r rounded-size in (
-          le-two rationalRing _≤q_ rationalOrder (value u ∷ value r ∷ z ∷ (p *q B) ∷ []) (opposite (con (pos 5) ⊗ v3)) (v0 ⊖ v2) (con (pos 1)) v1
+          le-two rationalRing _≤q_ rationalOrder (value u ∷ value r ∷ z ∷ (p *q B) ∷ []) (opposite (con (pos 5) ⊗ v3)) (v0 ⊖ v2) (con (pos
+              1)) v1
               (v0 ⊕ con (pos 3) ⊗ v3) (con (pos 1)) (opposite (con (pos 2) ⊗ v3)) (v1 ⊖ v2) tt (≤q-whole 1)
-              (≤q-trans _ _ _ (down-near binary64 r (rounded-size .is-double) r-finite (U .is-finite)) (more (value u))) (≤q-whole 1) (near .0),
+              (≤q-trans _ _ _ (down-near binary64 r (rounded-size .is-double) r-finite (U .is-finite)) (more (value u))) (≤q-whole 1)
+              (near .0),
           le-two rationalRing _≤q_ rationalOrder (value u ∷ value r ∷ z ∷ (p *q B) ∷ []) (v0 ⊖ v2) (con (pos 5) ⊗ v3) (con (pos 1)) v0 v1
               (con (pos 1)) (v1 ⊖ v2) (con (pos 5) ⊗ v3) tt (≤q-whole 1) (lowered 300 (omega arith) r rounded-size) (≤q-whole 1)
               (five .1),

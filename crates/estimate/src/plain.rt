@@ -40,7 +40,13 @@ fn curve_powers(p: [f64; 6], u: f64, w: f64) -> Six
     let w3 = w2 * w;
     let w4 = w3 * w;
     let w5 = w4 * w;
-    let zero = 0.0 + 1.0 * p0 * 1.0 + 1.0 * p1 * u1 + 1.0 * p2 * u2 + 1.0 * p3 * u3 + 1.0 * p4 * u4 + 1.0 * p5 * u5;
+    let zero = 0.0
+        + 1.0 * p0 * 1.0
+        + 1.0 * p1 * u1
+        + 1.0 * p2 * u2
+        + 1.0 * p3 * u3
+        + 1.0 * p4 * u4
+        + 1.0 * p5 * u5;
     let one = 0.0 + 1.0 * p1 * 1.0 + 2.0 * p2 * u1 + 3.0 * p3 * u2 + 4.0 * p4 * u3 + 5.0 * p5 * u4;
     let two = 0.0 + 1.0 * p2 * 1.0 + 3.0 * p3 * u1 + 6.0 * p4 * u2 + 10.0 * p5 * u3;
     let three = 0.0 + 1.0 * p3 * 1.0 + 4.0 * p4 * u1 + 10.0 * p5 * u2;
@@ -86,8 +92,17 @@ fn bernstein(q: Six) -> Six
     let one = b + q.one * 1.0 / 5.0;
     let two = b + q.one * 2.0 / 5.0 + q.two * 1.0 / 10.0;
     let three = b + q.one * 3.0 / 5.0 + q.two * 3.0 / 10.0 + q.three * 1.0 / 10.0;
-    let four = b + q.one * 4.0 / 5.0 + q.two * 6.0 / 10.0 + q.three * 4.0 / 10.0 + q.four * 1.0 / 5.0;
-    let five = b + q.one * 5.0 / 5.0 + q.two * 10.0 / 10.0 + q.three * 10.0 / 10.0 + q.four * 5.0 / 5.0 + q.five * 1.0 / 1.0;
+    let four = b
+        + q.one * 4.0 / 5.0
+        + q.two * 6.0 / 10.0
+        + q.three * 4.0 / 10.0
+        + q.four * 1.0 / 5.0;
+    let five = b
+        + q.one * 5.0 / 5.0
+        + q.two * 10.0 / 10.0
+        + q.three * 10.0 / 10.0
+        + q.four * 5.0 / 5.0
+        + q.five * 1.0 / 1.0;
     Six {
         zero: b,
         one,

@@ -248,7 +248,7 @@ module _ (f : Format) where
       (step-zero false)))
   down-go false (suc b) l F =
       let e : downBits f (0 + suc b) ≡ 0 + b = ap (downBits f) (zero-add (suc b)) ∙ down-positive f b (finite-below-sign f l)
-          ∙ sym (zero-add b) in
+      ∙ sym (zero-add b) in
       subst (λ (x : ℚ). placeValue f false (suc b) ≤q x +q room f (placeValue f false (suc b)))
       (sym (ap (λ (b : ℕ). value (ofBits f b)) e ∙ value-is (ofBits f (0 + b)) false (magnitude (hid f) b) (2 ^ low f)
       (pow-pos (low f)) (ofBits-value f false b (le-trans (le-suc (suc b)) l)))) (step-high false b)
@@ -274,7 +274,7 @@ pub up-near : (f : Format) (x : Float) → T (fits f x) → T (finite x) → T (
 up-near f x fx F G =
     let E = encoded f x fx F in
     let e : nextUp f x ≡ ofBits f (upBits f (cond (E .sign) (top f) 0 + E .place)) = next-up-finite f x F
-        ∙ ap (λ (b : ℕ). ofBits f (upBits f b)) (E .bits) in
+    ∙ ap (λ (b : ℕ). ofBits f (upBits f b)) (E .bits) in
     subst (λ (v : ℚ). value (nextUp f x) ≤q v +q room f v) (sym (E .exact))
     (subst (λ (y : Float). value y ≤q placeValue f (E .sign) (E .place) +q room f (placeValue f (E .sign) (E .place))) (sym e)
     (up-go f (E .sign) (E .place) (E .below-infinity) (subst (λ (y : Float). T (finite y)) e G)))
@@ -284,7 +284,7 @@ pub down-near : (f : Format) (x : Float) → T (fits f x) → T (finite x) → T
 down-near f x fx F G =
     let E = encoded f x fx F in
     let e : nextDown f x ≡ ofBits f (downBits f (cond (E .sign) (top f) 0 + E .place)) = next-down-finite f x F
-        ∙ ap (λ (b : ℕ). ofBits f (downBits f b)) (E .bits) in
+    ∙ ap (λ (b : ℕ). ofBits f (downBits f b)) (E .bits) in
     subst (λ (v : ℚ). v ≤q value (nextDown f x) +q room f v) (sym (E .exact))
     (subst (λ (y : Float). placeValue f (E .sign) (E .place) ≤q value y +q room f (placeValue f (E .sign) (E .place))) (sym e)
     (down-go f (E .sign) (E .place) (E .below-infinity) (subst (λ (y : Float). T (finite y)) e G)))

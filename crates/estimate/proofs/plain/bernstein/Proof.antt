@@ -1,12 +1,10 @@
+-- `plain::bernstein` meets its contract.
 use mathlib.Core.Path.{refl}
 use lib.Ieee.{ofBits, round}
 use Rattle.figure.specs.Intersection.{bernstein, total}
 use Rattle.estimate.proofs.plain.bernstein.Statement.{statement}
 use Rattle.estimate.proofs.plain.bernstein.Tie as tie
-use Rattle.estimate.proofs.plain.bernstein.Reads as reads
-use Rattle.estimate.proofs.plain.bernstein.Lts as lts
 
--- src/plain.rt:82:1
 returns : tie.Need-returns
 unfolding bernstein total ofBits round
 returns c = λ f h. (
