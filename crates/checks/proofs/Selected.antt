@@ -17,7 +17,7 @@ use Rattle.window.specs.Rows.{join, listOf}
 use Rattle.window.proofs.Joined.{list-length, list-at}
 use Rattle.request.specs.Any.{any}
 use Rattle.request.proofs.Anys.{any-found}
-use Rattle.curve.specs.First.{firstOf}
+use Rattle.arith.specs.First.{firstOf}
 use Rattle.curve.specs.Places.{positionOf}
 use Rattle.curve.specs.Form.{axesFormed}
 use Rattle.curve.proofs.Formed.{axes-good}

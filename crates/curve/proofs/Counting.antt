@@ -8,9 +8,9 @@ use native.Mathlib.Numerals.{add-one}
 use borrow.Author.Tests.{eq-eqb, ne-eqb, eqb-true}
 use lib.Dec.{eqb}
 use mir.Val.{boolByte}
-use Rattle.curve.specs.First.{firstOf, every}
-use Rattle.curve.proofs.Order.{clash}
-use Rattle.curve.proofs.Firsts.{first-next, first-le, first-more, first-stays}
+use Rattle.arith.proofs.Truth.{clash}
+use Rattle.arith.specs.First.{firstOf, every}
+use Rattle.arith.proofs.Firsts.{first-next, first-le, first-more, first-stays}
 
 -- c of the numbers below i pass: all do exactly where c is i
 abbrev pub Counted : (ℕ → Bool) → ℕ → ℕ → Type 0

@@ -8,13 +8,13 @@ use borrow.Author.Tests.{leb-true, ltb-true, eqb-true, lt-ltb, eq-eqb}
 use lib.Dec.{leb, ltb, eqb}
 use lib.ListN.{length, getD}
 use lib.Ieee.{Float, binary64, ofBits, eq}
+use Rattle.arith.proofs.Truth.{and-parts}
 use Rattle.window.specs.Cells.{+0, at}
 use Rattle.curve.specs.declared.Curve.{Curve}
 use Rattle.curve.specs.Form.{Slices, axesFormed, breaksRise, setFormed, othersFormed, rangeFormed, wellFormed}
 use Rattle.curve.specs.Places.{positionOf}
-use Rattle.curve.proofs.Order.{and-parts}
 use Rattle.curve.proofs.Placing.{Distinct}
-use Rattle.curve.proofs.Firsts.{every-all, every-at, first-all, first-same}
+use Rattle.arith.proofs.Firsts.{every-all, every-at, first-all, first-same}
 
 -- the numbers of a set
 pub record Sizes (m n : ℕ) (breaks coefficients : List Float) : Type 0 where

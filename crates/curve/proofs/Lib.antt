@@ -1,7 +1,6 @@
 -- Laws that the proofs cite.
 
 pub mod Order
-pub mod Firsts
 pub mod Counting
 pub mod Placing
 pub mod Formed

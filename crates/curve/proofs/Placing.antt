@@ -10,9 +10,9 @@ use borrow.Author.Tests.{lt-ltb, le-ltb, eq-eqb, ne-eqb}
 use lib.Dec.{ltb, eqb}
 use lib.ListN.{length, getD, set}
 use lib.Seq.{getD-set-same, getD-set-other}
-use Rattle.curve.specs.First.{firstOf}
+use Rattle.arith.specs.First.{firstOf}
 use Rattle.curve.specs.Places.{positionOf, othersBelow, axisPlace}
-use Rattle.curve.proofs.Firsts.{first-le, first-more, first-stays}
+use Rattle.arith.proofs.Firsts.{first-le, first-more, first-stays}
 
 module _ (axes : List ℕ) (k : ℕ) where
   -- a listed axis is at its index

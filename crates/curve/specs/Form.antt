@@ -8,7 +8,7 @@ use lib.Ieee.{Float, binary64, ofBits, sub, lt, eq}
 use lib.Ieee.Scale.{finite}
 use Rattle.window.specs.Cells.{+0, at}
 use Rattle.curve.specs.declared.Curve.{Curve}
-use Rattle.curve.specs.First.{every}
+use Rattle.arith.specs.First.{every}
 use Rattle.curve.specs.Places.{positionOf}
 
 -- the four slices beside a curve: breaks and coefficients of the selected axes, and of the other axes

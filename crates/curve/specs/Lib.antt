@@ -1,6 +1,5 @@
 -- Definitions that the contracts cite.
 
-pub mod First
 pub mod Places
 pub mod Form
 pub mod Put

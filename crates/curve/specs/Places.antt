@@ -4,7 +4,7 @@ use mathlib.Core.List.{List}
 use Prim.Native.Nat.{ℕ, zero, suc, _+_}
 use lib.Dec.{ltb, eqb}
 use lib.ListN.{getD}
-use Rattle.curve.specs.First.{firstOf}
+use Rattle.arith.specs.First.{firstOf}
 
 -- the place of axis a among the first n listed axes; n where it is not there
 abbrev pub positionOf : List ℕ → ℕ → ℕ → ℕ

@@ -11,6 +11,7 @@ use lib.Ieee.Bits.{ofBits-fits}
 use lib.Ieee.Scale.{finite}
 use lib.IntN.{pos}
 use lib.Pow.{pow-pos}
+use Rattle.arith.proofs.Truth.{never}
 use Rattle.fraction.specs.Order.{le-two}
 use Rattle.fraction.specs.Pair.{highest}
 use Rattle.fraction.specs.Rational.{Above, _+q_, _-q_, _<q_, _≤q_, atMostq, negq, ℚ, 𝟘}
@@ -25,7 +26,7 @@ use Rattle.fraction.proofs.Rounding.{sub-rounded}
 use Rattle.fraction.proofs.Value.{neg-finite, value-neg}
 use Rattle.figure.specs.Intersection.{Intersection}
 use Rattle.pairs.specs.Spreads.{Number, powerOfTwo}
-use Rattle.pairs.proofs.Numbers.{larger-power, le-value, never, rounded-number, turned, twice}
+use Rattle.pairs.proofs.Numbers.{larger-power, le-value, rounded-number, turned, twice}
 use Rattle.estimate.specs.Measure.{AtMost, Long, Placed, Sized, shortLength, sizeOf, smallSize, two}
 use Rattle.estimate.specs.Plain.{largerSize}
 use Rattle.estimate.proofs.Formula.{Double, Measured}

@@ -18,7 +18,7 @@ use Rattle.request.specs.Parameters.{parameterOf, miscounted, lengthOf, normali
 use Rattle.request.specs.Points.{unfit}
 use Rattle.curve.specs.declared.Curve.{Curve}
 use Rattle.curve.specs.declared.Mode.the-variants.{Error}
-use Rattle.curve.specs.First.{firstOf}
+use Rattle.arith.specs.First.{firstOf}
 use Rattle.curve.specs.Form.{Slices, slices, axesFormed, setFormed, othersFormed, rangeFormed, wellFormed}
 use Rattle.figure.specs.Certify.{CertificateOutcome, certifyOf, outcome}
 use Rattle.figure.specs.Figure.{absoluteEnd, figure, figureOf, halvedFigure, intersectionFigure, larger, sixFigure, smaller}

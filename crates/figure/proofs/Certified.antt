@@ -20,7 +20,7 @@ use Rattle.request.proofs.Normalised.{normalised-first, normalised-last, normal
 use Rattle.curve.specs.declared.Curve.{Curve}
 use Rattle.curve.specs.Form.{Slices, breaksRise, setFormed, wellFormed}
 use Rattle.curve.specs.Places.{positionOf}
-use Rattle.curve.proofs.Firsts.{every-at, first-passes}
+use Rattle.arith.proofs.Firsts.{every-at, first-passes}
 use Rattle.curve.proofs.Formed.{axes-good, formed, set-sizes}
 use Rattle.figure.specs.Certify.{Certified, CertificateOutcome, certifiedAxis, certifyOf, outcome}
 use Rattle.figure.specs.Distance.{Rises}

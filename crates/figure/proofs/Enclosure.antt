@@ -2,7 +2,7 @@
 -- `bernstein-keeps` follows for any two arithmetics and any such relation. At end pairs and exact fractions the relation is `Encloses`: so
 -- the theorems above this file rest on the four operations enclosing, and on nothing else of them.
 use mathlib.Core.Bool.{Bool, _&&_, cond, false, true}
-use mathlib.Core.Path.{_≡_, refl, subst, sym}
+use mathlib.Core.Path.{_≡_, subst, sym}
 use Prim.Native.Nat.{ℕ, zero, suc, _+_, _-_, _<_, _≤_}
 use native.Mathlib.Decide.{decLt}
 use native.Mathlib.Omega.{arith}
@@ -14,7 +14,7 @@ use Rattle.fraction.specs.Binomial.{choose}
 use Rattle.fraction.specs.Pair.{Between, Contains, Ends, addPairs, dividePairs, finiteEnds, isPair, multiplyPairs, none, pair, subtractPairs}
 use Rattle.fraction.specs.Rational.{_*q_, _+q_, _-q_, _/q_, atMostq, wholeq, ℚ}
 use Rattle.fraction.specs.Value.{value}
-use Rattle.fraction.proofs.Pair.{add-contains, divide-contains, multiply-contains, point-contains, subtract-contains}
+use Rattle.fraction.proofs.Pair.{Strict, add-contains, add-strict, divide-contains, divide-strict, multiply-contains, multiply-strict, point-contains, subtract-contains, subtract-strict}
 use Rattle.figure.specs.Operations.{Operations, ends}
 use Rattle.figure.specs.Intersection.{Intersection, bernstein, differenceBernstein, differencePower, lineAtLeft, lineRise, offset, power, raised, scale, total, without}
 
@@ -138,28 +138,7 @@ whole-encloses n l =
     let u = both (atMostq (value w) (wholeq (pos n))) (atMostq (wholeq (pos n)) (value w)) (t .1) in
     record { low-finite = t .0; high-finite = t .0; above = u .0; below = u .1 }
 
--- an operation that gives none where one side is none
-pub record Strict (f : Ends → Ends → Ends) : Type 0 where
-  pub left : (Y : Ends) → f none Y ≡ none
-  pub right : (a b : Float) → f (pair a b) none ≡ none
-
-pub add-strict : Strict (addPairs binary64)
-unfolding addPairs
-add-strict = record { left = λ Y. refl; right = λ a b. refl }
-
-pub subtract-strict : Strict (subtractPairs binary64)
-unfolding subtractPairs
-subtract-strict = record { left = λ Y. refl; right = λ a b. refl }
-
-pub multiply-strict : Strict (multiplyPairs binary64)
-unfolding multiplyPairs
-multiply-strict = record { left = λ Y. refl; right = λ a b. refl }
-
-pub divide-strict : Strict (dividePairs binary64)
-unfolding dividePairs
-divide-strict = record { left = λ Y. refl; right = λ a b. refl }
-
--- such an operation that encloses where it gives a pair
+-- an operation that gives none where one side is none, and encloses where it gives a pair
 lifted : (f : Ends → Ends → Ends) (g : ℚ → ℚ → ℚ) → Strict f
     → ((X Y : Ends) (x y : ℚ) → Contains X x → Contains Y y → T (isPair (f X Y)) → Contains (f X Y) (g x y))
     → (X Y : Ends) (x y : ℚ) → Encloses X x → Encloses Y y → Encloses (f X Y) (g x y)
@@ -177,10 +156,10 @@ ends-enclose =
     record {
       number = number-encloses;
       whole = whole-encloses;
-      plus = lifted (addPairs binary64) _+q_ add-strict (add-contains binary64);
-      minus = lifted (subtractPairs binary64) _-q_ subtract-strict (subtract-contains binary64);
-      times = lifted (multiplyPairs binary64) _*q_ multiply-strict (multiply-contains binary64);
-      over = lifted (dividePairs binary64) _/q_ divide-strict (divide-contains binary64);
+      plus = lifted (addPairs binary64) _+q_ (add-strict binary64) (add-contains binary64);
+      minus = lifted (subtractPairs binary64) _-q_ (subtract-strict binary64) (subtract-contains binary64);
+      times = lifted (multiplyPairs binary64) _*q_ (multiply-strict binary64) (multiply-contains binary64);
+      over = lifted (dividePairs binary64) _/q_ (divide-strict binary64) (divide-contains binary64);
     }
 
 -- each Bernstein pair of an intersection encloses the exact coefficient

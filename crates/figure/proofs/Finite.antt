@@ -17,7 +17,7 @@ use Rattle.figure.specs.Distance.{Rises}
 use Rattle.figure.specs.Figure.{Axis, absoluteEnd, figure, figureOf, intersection}
 use Rattle.figure.specs.Intersection.{Intersection, bernstein, differenceBernstein, differencePower, lineAtLeft, offset, power, raised, scale, total}
 use Rattle.figure.specs.Operations.{ends}
-use Rattle.figure.proofs.Enclosure.{Strict, add-strict, divide-strict, multiply-strict, subtract-strict}
+use Rattle.fraction.proofs.Pair.{Strict, add-strict, divide-strict, multiply-strict, subtract-strict}
 use Rattle.figure.proofs.Largest.{Known, given-at-least, intersection-pairs}
 use Rattle.figure.proofs.Overlap.{located, overlap}
 use Rattle.figure.proofs.Rising.{rises-strictly, some-step}
@@ -40,7 +40,7 @@ total-terms : (first count : ℕ) (f : ℕ → Ends) → T (isPair (total ends f
 unfolding total
 total-terms first zero f t k l = absurd (omega arith)
 total-terms first (suc n) f t k l =
-    let h = sides (addPairs binary64) add-strict (total ends first n f) (f (first + n)) t in
+    let h = sides (addPairs binary64) (add-strict binary64) (total ends first n f) (f (first + n)) t in
     elim (decLt k n) [
       | yes a ↦ total-terms first n f (h .0) k a
       | no a ↦ let e : n ≡ k = omega arith in subst (λ (j : ℕ). T (isPair (f (first + j)))) e (h .1)
@@ -52,12 +52,12 @@ module _ (x : Intersection) (t : T (isPair (differenceBernstein ends x 0))) wher
   power-zero =
       let h = total-terms 0 1 (λ j. dividePairs binary64 (multiplyPairs binary64 (differencePower ends x j) (ends .whole (choose 0 j)))
       (ends .whole (choose 5 j))) t 0 (omega arith) in
-      sides (multiplyPairs binary64) multiply-strict (differencePower ends x 0) (ends .whole 1)
-      (sides (dividePairs binary64) divide-strict (multiplyPairs binary64 (differencePower ends x 0) (ends .whole 1)) (ends .whole 1)
+      sides (multiplyPairs binary64) (multiply-strict binary64) (differencePower ends x 0) (ends .whole 1)
+      (sides (dividePairs binary64) (divide-strict binary64) (multiplyPairs binary64 (differencePower ends x 0) (ends .whole 1)) (ends .whole 1)
       h .0) .0
 
   parts : T (isPair (power ends (λ k. ends .number (x .coefficient k)) (offset ends x) (scale ends x) 0)) × T (isPair (lineAtLeft ends x))
-  parts = sides (subtractPairs binary64) subtract-strict (power ends (λ k. ends .number (x .coefficient k)) (offset ends x) (scale ends x)
+  parts = sides (subtractPairs binary64) (subtract-strict binary64) (power ends (λ k. ends .number (x .coefficient k)) (offset ends x) (scale ends x)
       0) (lineAtLeft ends x) power-zero
 
   coefficient-finite : (k : ℕ) → k < 6 → T (finite (x .coefficient k))
@@ -67,12 +67,12 @@ module _ (x : Intersection) (t : T (isPair (differenceBernstein ends x 0))) wher
       (raised ends (offset ends x) (k - 0)) in
       let e : 0 + k ≡ k = omega arith in
       let h = subst (λ (j : ℕ). T (isPair (f j))) e
-      (total-terms 0 6 f (sides (multiplyPairs binary64) multiply-strict (total ends 0 6 f) (raised ends (scale ends x) 0) (parts .0) .0)
+      (total-terms 0 6 f (sides (multiplyPairs binary64) (multiply-strict binary64) (total ends 0 6 f) (raised ends (scale ends x) 0) (parts .0) .0)
       k
       l) in
       number-finite (x .coefficient k)
-      (sides (multiplyPairs binary64) multiply-strict (ends .whole (choose k 0)) (ends .number (x .coefficient k))
-      (sides (multiplyPairs binary64) multiply-strict (multiplyPairs binary64 (ends .whole (choose k 0))
+      (sides (multiplyPairs binary64) (multiply-strict binary64) (ends .whole (choose k 0)) (ends .number (x .coefficient k))
+      (sides (multiplyPairs binary64) (multiply-strict binary64) (multiplyPairs binary64 (ends .whole (choose k 0))
       (ends .number (x .coefficient k)))
       (raised ends (offset ends x) (k - 0)) h .0) .1)
 
@@ -81,9 +81,9 @@ module _ (x : Intersection) (t : T (isPair (differenceBernstein ends x 0))) wher
       let D = subtractPairs binary64 (ends .number (x .second)) (ends .number (x .first)) in
       let q = dividePairs binary64 (subtractPairs binary64 (ends .number (x .left)) (ends .number (x .from)))
       (subtractPairs binary64 (ends .number (x .to)) (ends .number (x .from))) in
-      let h = sides (addPairs binary64) add-strict (ends .number (x .first)) (multiplyPairs binary64 q D) (parts .1) in
-      let g = sides (subtractPairs binary64) subtract-strict (ends .number (x .second)) (ends .number (x .first))
-      (sides (multiplyPairs binary64) multiply-strict q D (h .1) .1) in
+      let h = sides (addPairs binary64) (add-strict binary64) (ends .number (x .first)) (multiplyPairs binary64 q D) (parts .1) in
+      let g = sides (subtractPairs binary64) (subtract-strict binary64) (ends .number (x .second)) (ends .number (x .first))
+      (sides (multiplyPairs binary64) (multiply-strict binary64) q D (h .1) .1) in
       (number-finite (x .first) (h .0), number-finite (x .second) (g .0))
 
 has-pair : (e : Ends) → Known (absoluteEnd e) → T (isPair e)

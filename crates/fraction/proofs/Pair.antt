@@ -92,6 +92,28 @@ module _ (f : Format) (p q r s : Float) (P Q R S z : ℚ) (rp : Rounded f p P) (
   pub outward-contains : T (isPair (outward f p q r s)) → Contains (outward f p q r s) z
   outward-contains h = let o = outward-is f p q r s h in subst (λ (e : Ends). Contains e z) (sym (o .is)) (lows-and-highs o)
 
+-- ---- none
+-- an operation that gives none where one side is none
+pub record Strict (f : Ends → Ends → Ends) : Type 0 where
+  pub left : (Y : Ends) → f none Y ≡ none
+  pub right : (a b : Float) → f (pair a b) none ≡ none
+
+pub add-strict : (f : Format) → Strict (addPairs f)
+unfolding addPairs
+add-strict f = record { left = λ Y. refl; right = λ a b. refl }
+
+pub subtract-strict : (f : Format) → Strict (subtractPairs f)
+unfolding subtractPairs
+subtract-strict f = record { left = λ Y. refl; right = λ a b. refl }
+
+pub multiply-strict : (f : Format) → Strict (multiplyPairs f)
+unfolding multiplyPairs
+multiply-strict f = record { left = λ Y. refl; right = λ a b. refl }
+
+pub divide-strict : (f : Format) → Strict (dividePairs f)
+unfolding dividePairs
+divide-strict f = record { left = λ Y. refl; right = λ a b. refl }
+
 -- ---- the four operations
 -- what lies between two exact sums lies between the one downward and the other upward
 directed-contains : (f : Format) (p q : Float) (P Q z : ℚ) → Downward f P p → Upward f Q q → P ≤q z → z ≤q Q → T (isPair (finiteEnds p q))

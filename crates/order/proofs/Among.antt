@@ -8,7 +8,7 @@ use native.Mathlib.Decide.{decLt}
 use borrow.Author.Tests.{eqb-true, eq-eqb, ne-eqb}
 use lib.Dec.{eqb}
 use lib.ListN.{length}
-use Rattle.curve.proofs.Order.{clash}
+use Rattle.arith.proofs.Truth.{clash}
 use Rattle.order.specs.Pairs.{laneAt}
 use Rattle.order.specs.Order.{among}
 

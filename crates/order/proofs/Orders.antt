@@ -11,9 +11,9 @@ use borrow.Author.Tests.{lt-ltb, ltb-true, eqb-true, eq-eqb, not-true, not-false
 use lib.Dec.{eqb, ltb}
 use lib.ListN.{length, take, length-append, length-take}
 use lib.Seq.{ext-getD, getD-take, getD-at, take-at, take-take, take-length, length-take-le}
-use Rattle.curve.specs.First.{firstOf, every}
-use Rattle.curve.proofs.Firsts.{first-all, first-before, first-passes, every-all, every-at}
-use Rattle.curve.proofs.Order.{clash, and-parts}
+use Rattle.arith.proofs.Truth.{and-parts, clash}
+use Rattle.arith.specs.First.{firstOf, every}
+use Rattle.arith.proofs.Firsts.{first-all, first-before, first-passes, every-all, every-at}
 use Rattle.order.specs.Pairs.{Pairs, beforeOf, afterOf, laneAt, Before, Meets, Lower}
 use Rattle.order.specs.Order.{among, passes, ready, nextOf, orderFrom, orderOf}
 use Rattle.order.proofs.Among.{among-at, at-among, Once, outside, full}

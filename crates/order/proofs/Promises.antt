@@ -9,9 +9,9 @@ use borrow.Author.Tests.{lt-ltb, le-ltb, ltb-true}
 use lib.Dec.{ltb}
 use lib.ListN.{length, take, drop}
 use lib.Seq.{take-at}
-use Rattle.curve.specs.First.{firstOf}
-use Rattle.curve.proofs.Firsts.{every-at}
-use Rattle.curve.proofs.Order.{clash, and-parts}
+use Rattle.arith.proofs.Truth.{and-parts, clash}
+use Rattle.arith.specs.First.{firstOf}
+use Rattle.arith.proofs.Firsts.{every-at}
 use Rattle.order.specs.Pairs.{Pairs, beforeOf, afterOf, Meets}
 use Rattle.order.specs.Order.{orderFrom, orderOf}
 use Rattle.order.specs.Sets.{Fitting}

@@ -6,8 +6,8 @@ use Prim.Native.Nat.{ℕ, zero, suc, _≤_}
 use borrow.Author.Tests.{le-ltb}
 use lib.Dec.{ltb}
 use lib.ListN.{length, getD}
-use Rattle.curve.specs.First.{every}
-use Rattle.curve.proofs.Firsts.{first-all, first-same, every-all, every-at}
+use Rattle.arith.specs.First.{every}
+use Rattle.arith.proofs.Firsts.{first-all, first-same, every-all, every-at}
 use Rattle.order.specs.Pairs.{Pairs, Within}
 use Rattle.order.specs.Order.{among, ready, nextOf, orderFrom}
 use Rattle.order.specs.Outcome.{cuttingOrderOf}

@@ -10,9 +10,9 @@ use native.Mathlib.Decide.{decLt}
 use borrow.Author.Tests.{eqb-true, eqb-false, eq-eqb, ne-eqb, lt-ltb, le-ltb}
 use lib.Dec.{eqb}
 use lib.ListN.{length, length-append}
-use Rattle.curve.specs.First.{firstOf, every}
-use Rattle.curve.proofs.Firsts.{first-le, first-more, first-stays, first-same}
-use Rattle.curve.proofs.Order.{clash}
+use Rattle.arith.proofs.Truth.{clash}
+use Rattle.arith.specs.First.{firstOf, every}
+use Rattle.arith.proofs.Firsts.{first-le, first-more, first-stays, first-same}
 use Rattle.order.specs.Pairs.{Pairs, beforeOf, afterOf}
 use Rattle.order.specs.Order.{among, passes, ready, nextOf, orderFrom, orderOf}
 use Rattle.order.specs.Sets.{held, SetOf}

@@ -5,7 +5,7 @@ use mathlib.Core.Option.{Option, some, none}
 use Prim.Native.Nat.{ℕ, zero, suc}
 use lib.Dec.{eqb, ltb}
 use lib.ListN.{length}
-use Rattle.curve.specs.First.{firstOf, every}
+use Rattle.arith.specs.First.{firstOf, every}
 use Rattle.order.specs.Pairs.{Pairs, beforeOf, afterOf}
 
 -- whether the lane stands in the list

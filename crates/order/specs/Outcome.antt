@@ -7,7 +7,7 @@ use mathlib.Core.Option.{Option, some, none}
 use Prim.Native.Nat.{ℕ, _≤_}
 use lib.Dec.{ltb}
 use lib.ListN.{length, take, drop}
-use Rattle.curve.specs.First.{every}
+use Rattle.arith.specs.First.{every}
 use Rattle.order.specs.declared.Answer.{Answer}
 use Rattle.order.specs.declared.Answer.the-variants.{Ordered, AboveLimits, NoSuchLane, TooShort, Ring}
 use Rattle.order.specs.Pairs.{Pairs, beforeOf, afterOf, Meets, Lower}

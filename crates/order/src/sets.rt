@@ -3,7 +3,7 @@ ghost use mathlib.Core.Path.{_≡_};
 ghost use mathlib.Core.Bool.{not, _||_};
 ghost use Prim.Native.Nat.{ℕ, _≤_, _<_};
 ghost use lib.Dec.{eqb};
-ghost use Rattle.curve.specs.First.{firstOf};
+ghost use Rattle.arith.specs.First.{firstOf};
 ghost use Rattle.order.specs.Sets.{held};
 
 // Whether the lane is in the set.

@@ -5,7 +5,7 @@ ghost use mathlib.Core.List.{List};
 ghost use Prim.Native.Nat.{ℕ, _≤_, _<_};
 ghost use lib.Dec.{eqb};
 ghost use lib.ListN.{length};
-ghost use Rattle.curve.specs.First.{every};
+ghost use Rattle.arith.specs.First.{every};
 ghost use Rattle.order.specs.Order.{passes, nextOf, orderOf};
 ghost use Rattle.order.specs.Sets.{held, SetOf, Fitting};
 ghost use Rattle.order.specs.Outcome.{isRing, placed};

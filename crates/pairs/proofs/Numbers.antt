@@ -280,7 +280,3 @@ raised a l x N = value-le-of-lt x (nextUp binary64 x) (N .is-finite) (up-number 
 pub lowered : (a : ℕ) → a ≤ 999 → (x : Float) → Number a x → value (nextDown binary64 x) ≤q value x
 lowered a l x N = value-le-of-lt (nextDown binary64 x) x (down-number a l x N .is-finite) (N .is-finite) (below-it x (N .is-double) (N
     .is-finite))
-
--- ---- tests that fail
-pub never : {A : Type 0} → false ≡ true → A
-never h = absurd (true≢false (sym h))

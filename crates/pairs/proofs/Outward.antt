@@ -156,10 +156,6 @@ moved-tested (fin s m e) (fin t n k) L H u d =
     (fin t n k))) none) b
 
 -- ---- the same by one test before the move
-pub both-hold : (a b : Bool) → (a && b) ≡ true → (a ≡ true) × (b ≡ true)
-both-hold true b h = (refl, h)
-both-hold false b h = absurd (true≢false (sym h))
-
 both-ways : (a b : Bool) → (a ≡ true → b ≡ true) → (b ≡ true → a ≡ true) → a ≡ b
 both-ways true b f g = sym (f refl)
 both-ways false true f g = g refl

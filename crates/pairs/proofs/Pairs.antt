@@ -4,7 +4,7 @@ use mathlib.Core.Path.{_∙_, _≡_, refl, sym}
 use lib.Ieee.{Float, binary64, mul}
 use lib.Ieee.Scale.{finite}
 use Rattle.fraction.specs.Pair.{Ends, finiteEnds, multiplyPairs, none, outward, pair, point}
-use Rattle.figure.proofs.Enclosure.{Strict}
+use Rattle.fraction.proofs.Pair.{Strict}
 
 -- kept by its flag alone
 pub kept-flag : (g h : Bool) (e : Ends) → cond (g && h) e none ≡ cond g (cond h e none) none

@@ -9,9 +9,9 @@ use lib.Dec.{eqb, ltb}
 use lib.ListN.{length, take, drop}
 use lib.Seq.{take-at}
 use lib.Ieee.{Float}
+use Rattle.arith.proofs.Truth.{and-parts}
 use Rattle.request.specs.Parameters.{Doubles}
 use Rattle.curve.specs.Form.{Slices, slices, setFormed, othersFormed, wellFormed}
-use Rattle.curve.proofs.Order.{and-parts}
 use Rattle.curve.proofs.Formed.{set-sizes, formed}
 use Rattle.smoothing.specs.Answer.{Answer, numberOf}
 use Rattle.smoothing.specs.Answer.Answer.{done, refused, exhausted}

@@ -15,12 +15,12 @@ use lib.Ieee.Fits.{up-pos}
 use lib.Ieee.Exact.{HasValue}
 use lib.Ieee.Order.{le-of-values}
 use lib.Ieee.Positive.{positive, values-of-le, first-pos}
+use Rattle.arith.proofs.Truth.{and-parts, clash}
 use Rattle.fraction.specs.Magnitude.{magnitude}
 use Rattle.fraction.proofs.Magnitude.{magnitude-mono, magnitude-back}
 use Rattle.fraction.proofs.Encoding.{hidden-pos, ofBits-value, toBits-finite, finite-below-sign}
 use Rattle.fraction.proofs.Value.{encoded, plus-zero}
 use Rattle.window.specs.Cells.{+0}
-use Rattle.curve.proofs.Order.{clash, and-parts}
 
 -- a number with its sign clear has a pattern below the infinity's
 module _ (f : Format) (m : ℕ) (e : ℤ) where

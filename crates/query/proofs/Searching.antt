@@ -8,13 +8,13 @@ use native.Mathlib.Omega.{arith}
 use native.Mathlib.Decide.{decLt}
 use lib.ListN.{length}
 use lib.Ieee.{Float, nan, lt, le}
+use Rattle.arith.proofs.Truth.{clash}
 use Rattle.window.specs.Cells.{+0, at}
 use Rattle.bspline.specs.Search.{partitionPoint}
 use Rattle.bspline.proofs.PartitionPoint.{all-before, none-from}
 use Rattle.arith.proofs.FloatOrder.{le-trans, lt-le, le-lt-trans, lt-le-trans}
 use Rattle.polynomial.specs.Span.{breakSpan}
 use Rattle.query.specs.Search.{RisingBreaks, Found}
-use Rattle.curve.proofs.Order.{clash}
 
 module _ (breaks : List Float) (rising : RisingBreaks breaks) where
   -- no break is below 0

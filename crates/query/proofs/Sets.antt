@@ -9,13 +9,13 @@ use lib.Dec.{leb, eqb}
 use lib.ListN.{length}
 use lib.IntN.{pos}
 use lib.Ieee.{Float, nan, inf, fin, binary64, up, down, below, ofBits, lt, le, eq}
+use Rattle.arith.proofs.Truth.{and-parts, clash}
 use Rattle.arith.proofs.Rows.{row-end}
 use Rattle.fraction.proofs.Value.{plus-zero}
 use Rattle.window.specs.Cells.{+0, at}
 use Rattle.polynomial.specs.Span.{breakSpan}
 use Rattle.curve.specs.Form.{breaksRise, setFormed, othersFormed}
-use Rattle.curve.proofs.Order.{clash, and-parts}
-use Rattle.curve.proofs.Firsts.{every-at}
+use Rattle.arith.proofs.Firsts.{every-at}
 use Rattle.curve.proofs.Formed.{set-sizes}
 use Rattle.query.specs.Search.{RisingBreaks}
 use Rattle.query.specs.Segment.{located}

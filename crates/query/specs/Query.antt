@@ -15,7 +15,7 @@ use Rattle.query.specs.declared.entry.Answer.{Answer}
 use Rattle.query.specs.declared.entry.Answer.the-variants.{Done, Malformed, OrderAboveThree, TooShort, Outside}
 use Rattle.query.specs.declared.entry.Answers.{Answers}
 use Rattle.query.specs.declared.entry.Answers.the-variants as many
-use Rattle.curve.specs.First.{firstOf}
+use Rattle.arith.specs.First.{firstOf}
 use Rattle.curve.specs.Places.{axisPlace}
 use Rattle.curve.specs.Form.{Slices, wellFormed}
 use Rattle.query.specs.Segment.{located, axisAt}

@@ -36,7 +36,7 @@ use Rattle.seed.specs.Regions.{rangeOf, merged, regionsOf}
 use Rattle.request.specs.Any.{any}
 use Rattle.request.specs.Parameters.{parameterOf, miscounted, lengthOf, normalisedOf, misplaced, unreliable}
 use Rattle.request.specs.Points.{unfit}
-use Rattle.curve.specs.First.{firstOf}
+use Rattle.arith.specs.First.{firstOf}
 use Rattle.curve.specs.Form.{axesFormed}
 use Rattle.smoothing.specs.Answer.{andThen, unless, numberOf}
 use Rattle.smoothing.specs.Build.{selectedOf, otherOf, resultOf, smoothedOf, checkedOf, answerOf, buildOf}

@@ -21,7 +21,7 @@ use Rattle.bspline.proofs.Breaks.{breakTurn, breaks-are, polynomial-room}
 use Rattle.window.proofs.Joined.{list-at, list-length}
 use Rattle.request.proofs.Difference.{difference-above}
 use Rattle.curve.specs.Form.{breaksRise, setFormed}
-use Rattle.curve.proofs.Firsts.{first-all, every-all}
+use Rattle.arith.proofs.Firsts.{first-all, every-all}
 use Rattle.smoothing.specs.Rising.{Rising}
 
 ends-equal : (eq +0 +0 && true && eq (floats .one) (ofBits binary64 0x3ff0_0000_0000_0000)) ≡ true

@@ -1,6 +1,6 @@
 -- The knots that the filter keeps lie strictly between 0 and 1, and each is less than the next. There are no more than there were.
 use mathlib.Core.Path.{_≡_, refl, sym, ap, _∙_, subst}
-use mathlib.Core.Bool.{Bool, true, false, not, _&&_, cond, true≢false}
+use mathlib.Core.Bool.{Bool, true, false, not, _&&_, cond}
 use mathlib.Core.List.{List, [], _∷_}
 use mathlib.Core.Option.{Option, some, none}
 use Prim.Native.Nat.{ℕ, zero, suc, _+_, _-_, _*_, _≤_, _<_}
@@ -13,6 +13,7 @@ use lib.ListN.{length}
 use lib.Ieee.{Float, nan, inf, fin, binary64, up, down, lt, mul, sub, sum, round, ofBits}
 use lib.Ieee.Fits.{down-pos}
 use lib.Ieee.Scale.{finite, round-same}
+use Rattle.arith.proofs.Truth.{never}
 use Rattle.arith.specs.Operations.{floats}
 use Rattle.fraction.specs.Rational.{negq}
 use Rattle.fraction.specs.Value.{value}
@@ -51,9 +52,6 @@ pub record Between (x : Float) : Type 0 where
   pub number : T (finite x)
   pub above : lt (floats .zero) x ≡ true
   pub below : lt x (floats .one) ≡ true
-
-never : {A : Type 0} → false ≡ true → A
-never e = absurd (true≢false (sym e))
 
 over-gap : (w : Float) → lt gap′ w ≡ true → lt zero′ w ≡ true
 unfolding lt

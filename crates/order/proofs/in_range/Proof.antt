@@ -6,8 +6,8 @@ use native.Mathlib.Omega.{arith}
 use borrow.Author.Tests.{lt-ltb, le-ltb}
 use lib.Dec.{ltb}
 use lib.ListN.{length}
-use Rattle.curve.specs.First.{firstOf}
-use Rattle.curve.proofs.Firsts.{first-next, every-all, every-not}
+use Rattle.arith.specs.First.{firstOf}
+use Rattle.arith.proofs.Firsts.{first-next, every-all, every-not}
 use Rattle.order.specs.Pairs.{Pairs, beforeOf, afterOf}
 use Rattle.order.proofs.in_range.Statement.{statement}
 use Rattle.order.proofs.in_range.Tie as tie

@@ -1,6 +1,6 @@
 -- `quick::divisible` meets its contract.
-use Rattle.pairs.proofs.Numbers.{never}
 use lib.Ieee.{neg, ofBits}
+use Rattle.arith.proofs.Truth.{never}
 use Rattle.certificate.proofs.quick.divisible.Statement.{statement}
 use Rattle.certificate.proofs.quick.divisible.Tie as tie
 

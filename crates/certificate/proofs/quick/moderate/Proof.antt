@@ -1,8 +1,8 @@
 -- `quick::moderate` meets its contract.
 use mathlib.Core.Path.{refl}
 use lib.Ieee.{ofBits}
-use Rattle.pairs.proofs.Numbers.{never}
 use borrow.Author.Needs.{needs}
+use Rattle.arith.proofs.Truth.{never}
 use Rattle.certificate.proofs.quick.moderate.Statement.{statement}
 use Rattle.certificate.proofs.quick.moderate.Tie as tie
 

@@ -1,8 +1,8 @@
 -- `quick::parameters_within` meets its contract.
 use mathlib.Core.Path.{refl}
 use lib.Ieee.{ofBits}
-use Rattle.pairs.proofs.Numbers.{never}
 use borrow.Author.Needs.{needs}
+use Rattle.arith.proofs.Truth.{never}
 use Rattle.certificate.proofs.quick.parameters_within.Statement.{statement}
 use Rattle.certificate.proofs.quick.parameters_within.Tie as tie
 

@@ -1,8 +1,8 @@
 -- `quick::sums_of` meets its contract.
 use native.Mathlib.Omega.{arith}
 use mathlib.Core.Path.{_∙_, sym}
-use Rattle.pairs.proofs.Numbers.{never}
 use borrow.Author.Needs.{needs}
+use Rattle.arith.proofs.Truth.{never}
 use Rattle.certificate.proofs.quick.sums_of.Statement.{statement}
 use Rattle.certificate.proofs.quick.sums_of.Tie as tie
 

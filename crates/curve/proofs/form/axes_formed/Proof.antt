@@ -9,8 +9,8 @@ use lib.Dec.{ltb, eqb}
 use lib.ListN.{getD}
 use Rattle.curve.specs.Form.{axesFormed}
 use Rattle.curve.specs.Places.{positionOf}
-use Rattle.curve.specs.First.{firstOf}
-use Rattle.curve.proofs.Firsts.{first-next, first-le, every-all, every-not}
+use Rattle.arith.specs.First.{firstOf}
+use Rattle.arith.proofs.Firsts.{first-next, first-le, every-all, every-not}
 use Rattle.curve.proofs.form.axes_formed.Statement.{statement}
 use Rattle.curve.proofs.form.axes_formed.Tie as tie
 

@@ -5,8 +5,8 @@ use native.Mathlib.Omega.{arith}
 use borrow.Author.Tests.{eq-eqb, ne-eqb}
 use lib.Dec.{eqb}
 use lib.ListN.{getD}
-use Rattle.curve.specs.First.{firstOf}
-use Rattle.curve.proofs.Firsts.{first-next, first-found}
+use Rattle.arith.specs.First.{firstOf}
+use Rattle.arith.proofs.Firsts.{first-next, first-found}
 use Rattle.curve.proofs.place.position.Statement.{statement}
 use Rattle.curve.proofs.place.position.Tie as tie
 

@@ -1,5 +1,5 @@
 -- `comparison::not_above` meets its contract.
-use Rattle.pairs.proofs.Numbers.{never}
+use Rattle.arith.proofs.Truth.{never}
 use Rattle.estimate.proofs.Above.{estimated}
 use Rattle.estimate.proofs.Measuring.{measured-is, size-number}
 use borrow.Author.Needs.{needs}

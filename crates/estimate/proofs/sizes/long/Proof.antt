@@ -1,6 +1,6 @@
 -- `sizes::long` meets its contract.
-use Rattle.pairs.proofs.Numbers.{never}
 use borrow.Author.Needs.{needs}
+use Rattle.arith.proofs.Truth.{never}
 use Rattle.estimate.proofs.sizes.long.Statement.{statement}
 use Rattle.estimate.proofs.sizes.long.Tie as tie
 

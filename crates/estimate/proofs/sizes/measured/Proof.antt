@@ -1,6 +1,6 @@
 -- `sizes::measured` meets its contract.
-use Rattle.pairs.proofs.Numbers.{never}
 use borrow.Author.Needs.{needs}
+use Rattle.arith.proofs.Truth.{never}
 use Rattle.estimate.proofs.sizes.measured.Statement.{statement}
 use Rattle.estimate.proofs.sizes.measured.Tie as tie
 

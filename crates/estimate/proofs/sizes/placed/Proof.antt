@@ -1,6 +1,6 @@
 -- `sizes::placed` meets its contract.
-use Rattle.pairs.proofs.Numbers.{never}
 use borrow.Author.Needs.{needs}
+use Rattle.arith.proofs.Truth.{never}
 use Rattle.estimate.proofs.sizes.placed.Statement.{statement}
 use Rattle.estimate.proofs.sizes.placed.Tie as tie
 

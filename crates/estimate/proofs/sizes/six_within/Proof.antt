@@ -1,7 +1,7 @@
 -- `sizes::six_within` meets its contract.
 use mathlib.Core.Path.{refl}
 use lib.Ieee.{ofBits}
-use Rattle.pairs.proofs.Numbers.{never}
+use Rattle.arith.proofs.Truth.{never}
 use Rattle.estimate.proofs.Largest.{six-all}
 use borrow.Author.Needs.{needs}
 use Rattle.estimate.proofs.sizes.six_within.Statement.{statement}

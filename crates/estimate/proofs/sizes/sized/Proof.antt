@@ -1,8 +1,8 @@
 -- `sizes::sized` meets its contract.
 use mathlib.Core.Path.{refl}
 use lib.Ieee.{ofBits}
-use Rattle.pairs.proofs.Numbers.{never}
 use borrow.Author.Needs.{needs}
+use Rattle.arith.proofs.Truth.{never}
 use Rattle.estimate.proofs.sizes.sized.Statement.{statement}
 use Rattle.estimate.proofs.sizes.sized.Tie as tie
 

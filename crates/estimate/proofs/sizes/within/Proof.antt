@@ -1,7 +1,8 @@
 -- `sizes::within` meets its contract.
 use mathlib.Core.Path.{subst, sym}
 use lib.Dec.{T}
-use Rattle.pairs.proofs.Numbers.{never, number-between}
+use Rattle.arith.proofs.Truth.{never}
+use Rattle.pairs.proofs.Numbers.{number-between}
 use Rattle.estimate.proofs.sizes.within.Statement.{statement}
 use Rattle.estimate.proofs.sizes.within.Tie as tie
 

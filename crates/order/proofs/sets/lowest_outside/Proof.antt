@@ -3,8 +3,8 @@ use mathlib.Core.Bool.{Bool, not}
 use mathlib.Core.Path.{_≡_, refl, sym, ap, _∙_}
 use Prim.Native.Nat.{ℕ, _-_, _≤_}
 use native.Mathlib.Omega.{arith}
-use Rattle.curve.specs.First.{firstOf}
-use Rattle.curve.proofs.Firsts.{first-next, first-found}
+use Rattle.arith.specs.First.{firstOf}
+use Rattle.arith.proofs.Firsts.{first-next, first-found}
 use Rattle.order.specs.Sets.{held}
 use Rattle.order.proofs.sets.lowest_outside.Statement.{statement}
 use Rattle.order.proofs.sets.lowest_outside.Tie as tie

@@ -3,7 +3,7 @@ use mathlib.Core.Bool.{true}
 use mathlib.Core.Path.{refl}
 use lib.Ieee.{binary64}
 use Rattle.fraction.specs.Pair.{dividePairs}
-use Rattle.figure.proofs.Enclosure.{divide-strict}
+use Rattle.fraction.proofs.Pair.{divide-strict}
 use Rattle.pairs.proofs.Pairs.{operation-is}
 use borrow.Author.Needs.{needs}
 use Rattle.pairs.proofs.ends.divide_by.Statement.{statement}
@@ -13,7 +13,7 @@ returns : tie.Need-returns
 unfolding dividePairs
 returns c =
     let a = c .before .before .before .before .before .args in
-    operation-is (dividePairs binary64) divide-strict (a .x .good) true (a .x .low) (a .x .high) (a .c) (a .c) _ _ _ (c .kept2 .ensures)
+    operation-is (dividePairs binary64) (divide-strict binary64) (a .x .good) true (a .x .low) (a .x .high) (a .c) (a .c) _ _ _ (c .kept2 .ensures)
     refl
     (rw (c .before .before .widened .ensures) at (c .before .kept .ensures))
 

@@ -3,7 +3,7 @@ use mathlib.Core.Bool.{true}
 use mathlib.Core.Path.{refl}
 use lib.Ieee.{binary64}
 use Rattle.fraction.specs.Pair.{multiplyPairs}
-use Rattle.figure.proofs.Enclosure.{multiply-strict}
+use Rattle.fraction.proofs.Pair.{multiply-strict}
 use Rattle.pairs.proofs.Pairs.{operation-is}
 use borrow.Author.Needs.{needs}
 use Rattle.pairs.proofs.ends.multiply_by.Statement.{statement}
@@ -13,7 +13,7 @@ returns : tie.Need-returns
 unfolding multiplyPairs
 returns c =
     let a = c .before .before .before .before .args in
-    operation-is (multiplyPairs binary64) multiply-strict (a .x .good) true (a .x .low) (a .x .high) (a .c) (a .c) _ _ _ (c .kept
+    operation-is (multiplyPairs binary64) (multiply-strict binary64) (a .x .good) true (a .x .low) (a .x .high) (a .c) (a .c) _ _ _ (c .kept
     .ensures) refl
     (c .before .widened .ensures)
 

@@ -2,10 +2,11 @@
 use mathlib.Core.Bool.{cond}
 use mathlib.Core.Path.{_∙_, _≡_, sym}
 use lib.Ieee.{binary64, lt}
+use Rattle.arith.proofs.Truth.{and-parts}
 use Rattle.fraction.specs.NextNumber.{nextDown, nextUp}
 use Rattle.fraction.specs.Pair.{none, outward, pair}
 use Rattle.pairs.specs.Structs.{largestNumber, lowestNumber}
-use Rattle.pairs.proofs.Outward.{both-hold, outward-tested, over-infinity, under-infinity}
+use Rattle.pairs.proofs.Outward.{outward-tested, over-infinity, under-infinity}
 use borrow.Author.Needs.{needs}
 use Rattle.pairs.proofs.ends.widened.Statement.{statement}
 use Rattle.pairs.proofs.ends.widened.Tie as tie
@@ -13,13 +14,13 @@ use Rattle.pairs.proofs.ends.widened.Tie as tie
 step-down-requires : tie.Need-step-down-requires
 step-down-requires c κs =
     let m = c .before in
-    over-infinity _ (both-hold (lt lowestNumber (m .before .before .before .before .lower3 .result)) (lt (m .before .higher3 .result)
+    over-infinity _ (and-parts (lt lowestNumber (m .before .before .before .before .lower3 .result)) (lt (m .before .higher3 .result)
     largestNumber) (sym (m .movable .ensures) ∙ c .if1 .taken) .0)
 
 step-up-requires : tie.Need-step-up-requires
 step-up-requires c κs =
     let m = c .before .before in
-    under-infinity _ (both-hold (lt lowestNumber (m .before .before .before .before .lower3 .result)) (lt (m .before .higher3 .result)
+    under-infinity _ (and-parts (lt lowestNumber (m .before .before .before .before .lower3 .result)) (lt (m .before .higher3 .result)
     largestNumber) (sym (m .movable .ensures) ∙ c .before .if1 .taken) .1)
 
 -- the pair, if the test holds

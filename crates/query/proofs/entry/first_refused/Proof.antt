@@ -10,8 +10,8 @@ use Rattle.window.specs.Cells.{at}
 use Rattle.curve.specs.declared.Curve.{Curve}
 use Rattle.query.specs.declared.range.Ranged.{Ranged}
 use Rattle.query.specs.Range.{rangedOf}
-use Rattle.curve.specs.First.{firstOf}
-use Rattle.curve.proofs.Firsts.{first-next, first-found, first-all}
+use Rattle.arith.specs.First.{firstOf}
+use Rattle.arith.proofs.Firsts.{first-next, first-found, first-all}
 use Rattle.query.proofs.entry.first_refused.Statement.{statement}
 use Rattle.query.proofs.entry.first_refused.Tie as tie
 

@@ -7,9 +7,9 @@ use native.Mathlib.Nat.{mul-le-mul-right}
 use native.Mathlib.Omega.{arith}
 use lib.ListN.{length}
 use lib.Ieee.{Float, le}
+use Rattle.arith.proofs.Truth.{and-parts}
 use Rattle.window.specs.Cells.{at}
-use Rattle.curve.proofs.Order.{and-parts}
-use Rattle.curve.proofs.Firsts.{every-at}
+use Rattle.arith.proofs.Firsts.{every-at}
 use Rattle.curve.proofs.Counting.{Counted, counted-none, counted-next, both}
 use Rattle.query.proofs.Standing.{inside-within}
 use Rattle.query.proofs.range.all_inside.Statement.{statement}

@@ -7,7 +7,7 @@ use native.Mathlib.Decide.{decLt}
 use native.Mathlib.Numerals.{add-one}
 use borrow.Author.Tests.{lt-ltb, le-ltb, eq-eqb, ne-eqb, eqb-true, ltb-true, ltb-false, not-false}
 use lib.Dec.{ltb}
-use Rattle.curve.specs.First.{firstOf, every}
+use Rattle.arith.specs.First.{firstOf, every}
 
 module _ (test : ℕ → Bool) where
   -- none passed up to i, and i does not
