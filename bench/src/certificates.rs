@@ -203,14 +203,28 @@ fn compare(count: usize) {
     );
 }
 
-/// One row: all axes of a smooth lane that is built with tolerance 1e-4; `rising`: each waypoint moved, further and
-/// further off, so that each intersection has a larger figure than all before it.
-fn measure(r: &mut Random, n: usize, d: usize, rising: bool, time: Duration) {
-    let request = builds::lane(r, Shape::Smooth, d, n, 1e-4);
+/// How a lane's waypoints are moved.
+#[derive(Clone, Copy, PartialEq)]
+enum Moved {
+    Not,
+    /// All of them, to grid coordinates: before the lane is built.
+    Far,
+    /// Further and further off, so that each intersection has a larger figure than all before it: after it is built.
+    Rising,
+}
+
+/// One row: all axes of a smooth lane that is built with tolerance 1e-4.
+fn measure(r: &mut Random, n: usize, d: usize, moved: Moved, time: Duration) {
+    let mut request = builds::lane(r, Shape::Smooth, d, n, 1e-4);
+    if moved == Moved::Far {
+        for point in &mut request.points {
+            *point += 5e6;
+        }
+    }
     let mut questions: Vec<_> = (0..d).filter_map(|axis| built(&request, axis)).collect();
-    if rising {
-        for point in questions.iter_mut().flat_map(|q| q.points.iter_mut().enumerate()) {
-            *point.1 += 1e-3 * point.0 as f64;
+    if moved == Moved::Rising {
+        for (i, point) in questions.iter_mut().flat_map(|q| q.points.iter_mut().enumerate()) {
+            *point += 1e-3 * i as f64;
         }
     }
     let segments = questions[0].curve.segments;
@@ -257,9 +271,10 @@ fn measure(r: &mut Random, n: usize, d: usize, rising: bool, time: Duration) {
     println!(
         "{n:6} {d:2} {segments:5} | {against} | {a:8.3} {c:8.3} {:5.2} | {}",
         a / c,
-        match (good, rising) {
-            (true, false) => "alike",
-            (true, true) => "alike, rising",
+        match (good, moved) {
+            (true, Moved::Not) => "alike",
+            (true, Moved::Far) => "alike, far",
+            (true, Moved::Rising) => "alike, rising",
             _ => "DIFFERENT",
         }
     );
@@ -282,8 +297,10 @@ pub fn run() {
     let mut r = Random::new(6);
     for n in [100, 1000, 20_000] {
         for d in [1, 3] {
-            measure(&mut r, n, d, false, Duration::from_secs_f64(seconds));
+            measure(&mut r, n, d, Moved::Not, Duration::from_secs_f64(seconds));
         }
     }
-    measure(&mut r, 20_000, 3, true, Duration::from_secs_f64(seconds));
+    for moved in [Moved::Far, Moved::Rising] {
+        measure(&mut r, 20_000, 3, moved, Duration::from_secs_f64(seconds));
+    }
 }

@@ -1,4 +1,4 @@
--- Where the largest Bernstein coefficient in plain floats, with 2^-35 of the numbers' size, is at most s, the figure of the pairs is
+-- Where the largest Bernstein coefficient in plain floats, with 2^-38 of the numbers' size, is at most s, the figure of the pairs is
 -- not above s: both are close to the exact coefficients.
 use mathlib.Core.Bool.{Bool, false, true, true≢false}
 use mathlib.Core.List.{[], _∷_}
@@ -37,7 +37,7 @@ use Rattle.estimate.proofs.Close.{Close, ClosePair, ends-approximate, p
 use Rattle.estimate.proofs.Formula.{Measured, bernstein-close}
 use Rattle.estimate.proofs.Largest.{absolute-below, highest-either, six-largest}
 use Rattle.estimate.proofs.Measuring.{larger-either, larger-first, larger-second}
-use Rattle.estimate.proofs.Nearness.{Size, few, near-size, size-negated, size-not-negative, size-same, size-sum, size-wider, unit, unit-not-negative, whole}
+use Rattle.estimate.proofs.Nearness.{Size, few, near-size, size-negated, size-not-negative, size-same, size-sum, size-wider, slack, slack-not-negative, unit, unit-not-negative, whole}
 use Rattle.estimate.proofs.Rounds.{Rounds, Scale, nearest-rounds, scale-not-negative}
 
 -- ---- tests
@@ -58,15 +58,15 @@ not-above-test (fin t m e) r v R G h k = go (lt (fin t m e) v) (λ u. lt-value (
     go true f = absurd (rationals.never (value (fin t m e)) (value v) (f tt)
         (≤q-trans (value v) (value r) (value (fin t m e)) h (le-value r (fin t m e) R tt k)))
 
--- 2^-35
+-- 2^-38
 abbrev costs : Float
-costs = ofBits binary64 0x3dc0_0000_0000_0000
+costs = ofBits binary64 0x3d90_0000_0000_0000
 
 costs-finite : T (finite costs)
 unfolding ofBits
 costs-finite = tt
 
-costs-value : value costs ≡ whole 16384 *q unit
+costs-value : value costs ≡ whole 65536 *q unit
 unfolding ofBits _*q_ atMostq
 costs-value = ≤q-antisymmetric _ _ tt tt
 
@@ -143,10 +143,10 @@ module _ (x : Intersection) (m : Float) (F : Number 100 m) (D : Measured x (valu
     abbrev v : ℕ → ℚ
     v = differenceBernstein exact x
 
-    plain-close : (k : ℕ) → k < 6 → Close M 68 3000 (v k) (differenceBernstein plain x k)
+    plain-close : (k : ℕ) → k < 6 → Close M 68 16200 (v k) (differenceBernstein plain x k)
     plain-close = bernstein-close plain Close plain-approximates x M D
 
-    pairs-close : (k : ℕ) → k < 6 → ClosePair M 68 3000 (v k) (differenceBernstein ends x k)
+    pairs-close : (k : ℕ) → k < 6 → ClosePair M 68 16200 (v k) (differenceBernstein ends x k)
     pairs-close = bernstein-close ends ClosePair ends-approximate x M D
 
     -- a plain coefficient, as the code has it
@@ -161,7 +161,7 @@ module _ (x : Intersection) (m : Float) (F : Number 100 m) (D : Measured x (valu
         rw e (record {
           is-double = C .is-double;
           is-finite = C .is-finite;
-          size = near-size M M-not-negative 68 3000 (v k) _ (omega arith) (C .near);
+          size = near-size M M-not-negative 68 16200 (v k) _ (omega arith) (C .near);
         })
 
     turned-is : (z : Float) → Plain z → Plain (neg z)
@@ -271,24 +271,29 @@ module _ (x : Intersection) (m : Float) (F : Number 100 m) (D : Measured x (valu
     in-largest-5 = size-wider _ _ _ up-5 (larger-second l4 (b .five) (largest-4 .is-finite) (plain-5 .is-finite))
 
     -- ---- what is added for the roundings, and the sum
+    with-slack : (k : ℕ) (z : ℚ) → Size (whole k *q M) z → Size ((whole k +q slack) *q M) z
+    with-slack k z h = size-wider _ _ _ (le-one rationalRing _≤q_ rationalOrder (whole k ∷ slack ∷ M ∷ []) (v0 ⊗ v2) ((v0 ⊕ v1) ⊗ v2) v2
+        (con (pos 0)) v1 tt M-not-negative slack-not-negative) h
+
     cost-size : Size (whole 1 *q M) (M *q value costs)
     cost-size = rw costs-value (
-      le-two rationalRing _≤q_ rationalOrder (M ∷ unit ∷ whole 16384 ∷ []) (opposite (con (pos 1) ⊗ v0)) (v0 ⊗ (v2 ⊗ v1)) v0 (con (pos 0))
+      le-two rationalRing _≤q_ rationalOrder (M ∷ unit ∷ whole 65536 ∷ []) (opposite (con (pos 1) ⊗ v0)) (v0 ⊗ (v2 ⊗ v1)) v0 (con (pos 0))
           (con (pos 1)) v0 (con (pos 0)) (v2 ⊗ v1) tt M-not-negative (≤q-whole 1) M-not-negative
-          (rationalOrder .nonnegative-mul (whole 16384) unit (≤q-whole 16384) unit-not-negative),
-      le-one rationalRing _≤q_ rationalOrder (M ∷ unit ∷ whole 16384 ∷ []) (v0 ⊗ (v2 ⊗ v1)) (con (pos 1) ⊗ v0) v0 (v2 ⊗ v1) (con (pos 1)) tt
-          M-not-negative (few 16384 (omega arith)),
+          (rationalOrder .nonnegative-mul (whole 65536) unit (≤q-whole 65536) unit-not-negative),
+      le-one rationalRing _≤q_ rationalOrder (M ∷ unit ∷ whole 65536 ∷ []) (v0 ⊗ (v2 ⊗ v1)) (con (pos 1) ⊗ v0) v0 (v2 ⊗ v1) (con (pos 1)) tt
+          M-not-negative (few 65536 (omega arith)),
     )
 
     cost-rounds : Rounds M 1 (M *q value costs) (mul binary64 m costs)
-    cost-rounds = nearest-rounds M S 1 (omega arith) (omega arith) _ cost-size _ (mul-rounded binary64 m costs (F .is-finite) costs-finite)
+    cost-rounds = nearest-rounds M S 1 (omega arith) _ (with-slack 1 _ cost-size) _ (mul-rounded binary64 m costs (F .is-finite)
+        costs-finite)
 
     abbrev g : ℚ
     g = value (mul binary64 m costs)
 
-    U-in-M : whole 1 *q U ≤q M
-    U-in-M = le-one rationalRing _≤q_ rationalOrder (M ∷ unit ∷ []) (con (pos 1) ⊗ (v1 ⊗ v0)) v0 v0 (con (pos 1) ⊗ v1) (con (pos 1)) tt
-        M-not-negative (few 1 (omega arith))
+    U-in-M : whole 9 *q U ≤q M
+    U-in-M = le-one rationalRing _≤q_ rationalOrder (M ∷ unit ∷ []) (con (pos 9) ⊗ (v1 ⊗ v0)) v0 v0 (con (pos 9) ⊗ v1) (con (pos 1)) tt
+        M-not-negative (few 9 (omega arith))
 
     sum-size : Size (whole 71 *q M) (value l5 +q g)
     sum-size = size-same _ _ _ _ (solve rationalRing (M ∷ []) (con (pos 69) ⊗ v0 ⊕ (con (pos 1) ⊗ v0 ⊕ v0)) (con (pos 71) ⊗ v0) tt)
@@ -299,35 +304,36 @@ module _ (x : Intersection) (m : Float) (F : Number 100 m) (D : Measured x (valu
     r = add binary64 l5 (mul binary64 m costs)
 
     sum-rounds : Rounds M 71 (value l5 +q g) r
-    sum-rounds = nearest-rounds M S 71 (omega arith) (omega arith) _ sum-size _ (add-rounded binary64 l5 (mul binary64 m costs)
+    sum-rounds = nearest-rounds M S 71 (omega arith) _ (with-slack 71 _ sum-size) _ (add-rounded binary64 l5 (mul binary64 m costs)
         (largest-5 .is-finite) (cost-rounds .1))
 
-    -- the sum is above the largest by 6,000 units
-    margin : value l5 +q whole 6000 *q U ≤q value r
+    -- the sum is above the largest by 32,400 units
+    margin : value l5 +q whole 32400 *q U ≤q value r
     margin =
-        ≤q-trans _ (value l5 +q (g -q whole 71 *q U)) _
-        (le-two rationalRing _≤q_ rationalOrder (value l5 ∷ g ∷ U ∷ []) (v0 ⊕ con (pos 6000) ⊗ v2) (v0 ⊕ (v1 ⊖ con (pos 71) ⊗ v2))
-        (con (pos 1)) (con (pos 16383) ⊗ v2) v1 (con (pos 10312)) (con (pos 0)) v2 tt (≤q-whole 1) cost-least (≤q-whole 10312)
+        ≤q-trans _ (value l5 +q (g -q whole 569 *q U)) _
+        (le-two rationalRing _≤q_ rationalOrder (value l5 ∷ g ∷ U ∷ []) (v0 ⊕ con (pos 32400) ⊗ v2) (v0 ⊕ (v1 ⊖ con (pos 569) ⊗ v2))
+        (con (pos 1)) (con (pos 65527) ⊗ v2) v1 (con (pos 32558)) (con (pos 0)) v2 tt (≤q-whole 1) cost-least (≤q-whole 32558)
         U-not-negative)
-        (le-one rationalRing _≤q_ rationalOrder (value l5 ∷ g ∷ U ∷ value r ∷ []) (v0 ⊕ (v1 ⊖ con (pos 71) ⊗ v2)) v3 (con (pos 1))
-        (opposite (con (pos 71) ⊗ v2)) (v3 ⊖ (v0 ⊕ v1)) tt (≤q-whole 1) (sum-rounds .2 .0))
+        (le-one rationalRing _≤q_ rationalOrder (value l5 ∷ g ∷ U ∷ value r ∷ []) (v0 ⊕ (v1 ⊖ con (pos 569) ⊗ v2)) v3 (con (pos 1))
+        (opposite (con (pos 569) ⊗ v2)) (v3 ⊖ (v0 ⊕ v1)) tt (≤q-whole 1) (sum-rounds .2 .0))
       where
-        cost-is : M *q value costs ≡ whole 16384 *q U
-        cost-is = ap (λ (z : ℚ). M *q z) costs-value ∙ solve rationalRing (M ∷ unit ∷ []) (v0 ⊗ (con (pos 16384) ⊗ v1))
-            (con (pos 16384) ⊗ (v1 ⊗ v0)) tt
+        cost-is : M *q value costs ≡ whole 65536 *q U
+        cost-is = ap (λ (z : ℚ). M *q z) costs-value ∙ solve rationalRing (M ∷ unit ∷ []) (v0 ⊗ (con (pos 65536) ⊗ v1))
+            (con (pos 65536) ⊗ (v1 ⊗ v0)) tt
 
-        cost-least : whole 16383 *q U ≤q g
-        cost-least = le-one rationalRing _≤q_ rationalOrder (g ∷ U ∷ []) (con (pos 16383) ⊗ v1) v0 (con (pos 1)) (opposite (con (pos 1) ⊗
+        cost-least : whole 65527 *q U ≤q g
+        cost-least = le-one rationalRing _≤q_ rationalOrder (g ∷ U ∷ []) (con (pos 65527) ⊗ v1) v0 (con (pos 1)) (opposite (con (pos 9) ⊗
             v1))
-            (v0 ⊖ con (pos 16384) ⊗ v1) tt (≤q-whole 1) (subst (λ (z : ℚ). negq (whole 1 *q U) ≤q g -q z) cost-is (cost-rounds .2 .0))
+            (v0 ⊖ con (pos 65536) ⊗ v1) tt (≤q-whole 1) (subst (λ (z : ℚ). negq (whole 9 *q U) ≤q g -q z) cost-is (cost-rounds .2 .0))
 
     -- so each end of each pair is at most the sum
-    end-size : (k : ℕ) (l : k < 6) (z e : Float) → z ≡ differenceBernstein plain x k → Size (value l5) (value z) → Close M 68 3000 (v k) e
+    end-size : (k : ℕ) (l : k < 6) (z e : Float) → z ≡ differenceBernstein plain x k → Size (value l5) (value z) → Close M 68 16200 (v k) e
         → Size (value r) (value e)
     end-size k l z e h s E =
-        let C = subst (λ (y : Float). Close M 68 3000 (v k) y) (sym h) (plain-close k l) in
-        size-wider _ _ _ margin (size-same _ _ _ _ (solve rationalRing (value l5 ∷ U ∷ []) (v0 ⊕ con (pos 3000) ⊗ v1 ⊕ con (pos 3000) ⊗ v1)
-        (v0 ⊕ con (pos 6000) ⊗ v1) tt)
+        let C = subst (λ (y : Float). Close M 68 16200 (v k) y) (sym h) (plain-close k l) in
+        size-wider _ _ _ margin (size-same _ _ _ _ (solve rationalRing (value l5 ∷ U ∷ []) (v0 ⊕ con (pos 16200) ⊗ v1 ⊕ con (pos 16200) ⊗
+        v1)
+        (v0 ⊕ con (pos 32400) ⊗ v1) tt)
         (solve rationalRing (value z ∷ v k ∷ value e ∷ []) (v0 ⊕ opposite (v0 ⊖ v1) ⊕ (v2 ⊖ v1)) v2 tt)
         (size-sum _ _ _ _ (size-sum _ _ _ _ s (size-negated _ _ (C .near .apart))) (E .near .apart)))
 
@@ -339,7 +345,7 @@ module _ (x : Intersection) (m : Float) (F : Number 100 m) (D : Measured x (valu
         → Told (value r) r-not-negative (differenceBernstein ends x) k (largestAbsolute (pairs-close k l .low) (pairs-close k l .high))
     told k l z h s =
         let E = pairs-close k l in
-        end-below (value r) r-not-negative (differenceBernstein ends x) M 68 3000 (v k) (differenceBernstein ends x k) E
+        end-below (value r) r-not-negative (differenceBernstein ends x) M 68 16200 (v k) (differenceBernstein ends x k) E
         (end-size k l z (E .low) h s (E .low-close)) (end-size k l z (E .high) h s (E .high-close))
 
     pub estimated : (s : Float) → le (add binary64 (largestSize b) (mul binary64 m costs)) s ≡ true

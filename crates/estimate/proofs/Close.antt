@@ -30,7 +30,7 @@ use Rattle.figure.specs.Operations.{Operations, ends}
 use Rattle.figure.proofs.Enclosure.{ends-enclose}
 use Rattle.estimate.specs.Plain.{plain}
 use Rattle.estimate.proofs.Rounds.{Rounds, Scale, down-rounds, downward-rounds, nearest-rounds, one-scale, scale-not-negative, up-rounds, upward-rounds}
-use Rattle.estimate.proofs.Nearness.{Near, Size, divisor-above, near-over-whole, near-product, near-quotient, near-rounded, near-size, near-sum, near-negated, near-wider, size-same, unit, whole, whole-order}
+use Rattle.estimate.proofs.Nearness.{Near, Size, divisor-above, near-over-whole, near-product, near-quotient, near-rounded, near-size-finely, near-sum, near-negated, near-wider, size-same, slack, unit, whole, whole-order}
 
 -- What each operation costs. `R M k n v x`: v, the exact value, is at most k M in size, and x at most n units of M from it.
 pub record Approximates {A : Type 0} (o : Operations A) (R : ℚ → ℕ → ℕ → ℚ → A → Type 0) : Type 0 where
@@ -38,17 +38,17 @@ pub record Approximates {A : Type 0} (o : Operations A) (R : ℚ → ℕ → ℕ
   pub nothing : (M : ℚ) → 𝟘 ≤q M → R M 0 0 𝟘 (o .whole 0)
   pub whole-number : (c : ℕ) → c ≤ 10 → R 𝟙 c 0 (whole c) (o .whole c)
   pub difference : (l : ℚ) → Scale l → (x y : Float) → T (fits binary64 x) → T (finite x) → T (fits binary64 y) → T (finite y)
-      → Size l (value x -q value y) → R l 1 1 (value x -q value y) (o .minus (o .number x) (o .number y))
+      → Size l (value x -q value y) → R l 1 9 (value x -q value y) (o .minus (o .number x) (o .number y))
   pub plus : (M : ℚ) → Scale M → (k n : ℕ) (v : ℚ) (x : A) (k′ n′ : ℕ) (v′ : ℚ) (x′ : A) → k + k′ < 2 ^ 30 → n + n′ ≤ 2 ^ 49
-      → R M k n v x → R M k′ n′ v′ x′ → R M (k + k′) (n + n′ + (k + k′ + 1)) (v +q v′) (o .plus x x′)
+      → R M k n v x → R M k′ n′ v′ x′ → R M (k + k′) (n + n′ + (8 * (k + k′) + 1)) (v +q v′) (o .plus x x′)
   pub minus : (M : ℚ) → Scale M → (k n : ℕ) (v : ℚ) (x : A) (k′ n′ : ℕ) (v′ : ℚ) (x′ : A) → k + k′ < 2 ^ 30 → n + n′ ≤ 2 ^ 49
-      → R M k n v x → R M k′ n′ v′ x′ → R M (k + k′) (n + n′ + (k + k′ + 1)) (v -q v′) (o .minus x x′)
+      → R M k n v x → R M k′ n′ v′ x′ → R M (k + k′) (n + n′ + (8 * (k + k′) + 1)) (v -q v′) (o .minus x x′)
   pub times : (M M′ P : ℚ) → M *q M′ ≡ P → Scale P → (k n : ℕ) (v : ℚ) (x : A) (k′ n′ : ℕ) (v′ : ℚ) (x′ : A) → k * k′ < 2 ^ 30
       → n * n′ ≤ 2 ^ 49 → n * k′ + k * n′ + 1 ≤ 2 ^ 49 → R M k n v x → R M′ k′ n′ v′ x′
-      → R P (k * k′) (n * k′ + k * n′ + 1 + (k * k′ + 1)) (v *q v′) (o .times x x′)
+      → R P (k * k′) (n * k′ + k * n′ + 1 + (8 * (k * k′) + 1)) (v *q v′) (o .times x x′)
   pub over-whole : (M : ℚ) → Scale M → (c : ℕ) → 1 ≤ c → c ≤ 10 → (k n : ℕ) (v : ℚ) (x : A) (k′ n′ : ℕ) → k ≤ c * k′ → n ≤ c * n′
-      → k′ < 2 ^ 30 → n′ ≤ 2 ^ 49 → R M k n v x → R M k′ (n′ + (k′ + 1)) (v /q whole c) (o .over x (o .whole c))
-  pub ratio : (l : ℚ) → Scale l → Above l → (v : ℚ) (x y : A) → R l 1 1 v x → R l 1 1 l y → R 𝟙 1 5 (v /q l) (o .over x y)
+      → k′ < 2 ^ 30 → n′ ≤ 2 ^ 49 → R M k n v x → R M k′ (n′ + (8 * k′ + 1)) (v /q whole c) (o .over x (o .whole c))
+  pub ratio : (l : ℚ) → Scale l → Above l → (v : ℚ) (x y : A) → R l 1 9 v x → R l 1 9 l y → R 𝟙 1 28 (v /q l) (o .over x y)
   pub wider : (M : ℚ) → 𝟘 ≤q M → (k n k′ n′ : ℕ) (v : ℚ) (x : A) → k ≤ k′ → n ≤ n′ → R M k n v x → R M k′ n′ v x
 
 -- ---- floats
@@ -58,24 +58,24 @@ pub record Close (M : ℚ) (k n : ℕ) (v : ℚ) (x : Float) : Type 0 where
   pub near : Near M k n v (value x)
 
 -- the exact result z of an operation is near to v, and r is z rounded
-settled : (P : ℚ) (S : Scale P) (k n K : ℕ) (v z : ℚ) → Near P k n v z → (r : Float) → Rounds P K z r → Close P k (n + K) v r
-settled P S k n K v z h r R =
-    record { is-double = R .0; is-finite = R .1; near = near-rounded P (scale-not-negative P S) k n K v z (value r) h (R .2) }
+settled : (P : ℚ) (S : Scale P) (k n j : ℕ) (v z : ℚ) → Near P k n v z → (r : Float) → Rounds P j z r → Close P k (n + (8 * j + 1)) v r
+settled P S k n j v z h r R =
+    record { is-double = R .0; is-finite = R .1; near = near-rounded P (scale-not-negative P S) k n (8 * j + 1) v z (value r) h (R .2) }
 
 -- the size of the exact result, and of what it is rounded to
 module _ (P : ℚ) (S : Scale P) (k n : ℕ) (v z : ℚ) (l : k < 2 ^ 30) (m : n ≤ 2 ^ 49) (h : Near P k n v z) where
-  exact-size : Size (whole (k + 1) *q P) z
-  exact-size = near-size P (scale-not-negative P S) k n v z m h
+  exact-size : Size ((whole k +q slack) *q P) z
+  exact-size = near-size-finely P (scale-not-negative P S) k n v z m h
 
   module _ (r : Float) (R : Rounded binary64 r z) where
-    to-nearest : Close P k (n + (k + 1)) v r
-    to-nearest = settled P S k n (k + 1) v z h r (nearest-rounds P S (k + 1) (omega arith) (omega arith) z exact-size r R)
+    to-nearest : Close P k (n + (8 * k + 1)) v r
+    to-nearest = settled P S k n k v z h r (nearest-rounds P S k l z exact-size r R)
 
-    next-up : Close P k (n + (k + 1)) v (nextUp binary64 r)
-    next-up = settled P S k n (k + 1) v z h _ (up-rounds P S (k + 1) (omega arith) (omega arith) z exact-size r R)
+    next-up : Close P k (n + (8 * k + 1)) v (nextUp binary64 r)
+    next-up = settled P S k n k v z h _ (up-rounds P S k l z exact-size r R)
 
-    next-down : Close P k (n + (k + 1)) v (nextDown binary64 r)
-    next-down = settled P S k n (k + 1) v z h _ (down-rounds P S (k + 1) (omega arith) (omega arith) z exact-size r R)
+    next-down : Close P k (n + (8 * k + 1)) v (nextDown binary64 r)
+    next-down = settled P S k n k v z h _ (down-rounds P S k l z exact-size r R)
 
 -- what is v itself
 near-itself : (M v : ℚ) (k : ℕ) → Size (whole k *q M) v → Near M k 0 v v
@@ -154,8 +154,8 @@ plain-approximates =
       number = number-close;
       nothing = λ M h. whole-close 0 (omega arith) M (nothing-size M h);
       whole-number = λ c l. whole-close c l 𝟙 (whole-of-one c l);
-      difference = λ l S x y F X G Y h. settled l S 1 0 1 (value x -q value y) (value x -q value y) (near-itself l _ 1 (once l _ h)) _
-          (nearest-rounds l S 1 (omega arith) (omega arith) _ (once l _ h) _ (sub-rounded binary64 x y X Y));
+      difference = λ l S x y F X G Y h. to-nearest l S 1 0 _ _ (omega arith) (omega arith) (near-itself l _ 1 (once l _ h)) _
+          (sub-rounded binary64 x y X Y);
       plus = λ M S k n v x k′ n′ v′ x′ l m X Y. to-nearest M S (k + k′) (n + n′) _ _ l m (near-plus M S k n v x k′ n′ v′ x′ X Y) _
           (add-rounded binary64 x x′ (X .is-finite) (Y .is-finite));
       minus = λ M S k n v x k′ n′ v′ x′ l m X Y. to-nearest M S (k + k′) (n + n′) _ _ l m (near-minus M S k n v x k′ n′ v′ x′ X Y) _
@@ -166,7 +166,7 @@ plain-approximates =
       over-whole = λ M S c p l k n v x k′ n′ h g a m X. to-nearest M S k′ n′ _ _ a m
           (near-over-whole M (scale-not-negative M S) c (whole-above c l p) k n k′ n′ v (value x) h g (X .near)) _
           (over-rounded c l p x (X .is-finite));
-      ratio = λ l S p v x y X Y. to-nearest 𝟙 one-scale 1 3 _ _ (omega arith) (omega arith)
+      ratio = λ l S p v x y X Y. to-nearest 𝟙 one-scale 1 19 _ _ (omega arith) (omega arith)
           (near-quotient l p v (value x) (value y) (X .near) (Y .near)) _
           (divide-rounded binary64 x y (X .is-finite) (Y .is-finite) (divisor-above l p v (value x) (value y) (X .near) (Y .near)));
       wider = close-wider;
@@ -192,14 +192,13 @@ number-pair M x F X h =
 -- sums of ends
 module _ (M : ℚ) (S : Scale M) (k n : ℕ) (v : ℚ) (l : k < 2 ^ 30) (m : n ≤ 2 ^ 49) (a b c d : Float) (A : T (finite a)) (B : T (finite b))
     (C : T (finite c)) (D : T (finite d)) (low : Near M k n v (value a +q value c)) (high : Near M k n v (value b +q value d)) where
-  sum-pair : (K : ℕ) → 1 ≤ K → K ≤ 2 ^ 30 → Size (whole K *q M) (value a +q value c) → Size (whole K *q M) (value b +q value d)
-      → ClosePair M k (n + K) v (addPairs binary64 (pair a b) (pair c d))
+  sum-pair : ClosePair M k (n + (8 * k + 1)) v (addPairs binary64 (pair a b) (pair c d))
   unfolding addPairs
-  sum-pair K p q s t =
-      let L = settled M S k n K v _ low _ (downward-rounds M S K p q _ s _ (add-rounded binary64 a c A C) (downwardSum binary64 a c)
-      (downward-sum binary64 a c A C)) in
-      let H = settled M S k n K v _ high _ (upward-rounds M S K p q _ t _ (add-rounded binary64 b d B D) (upwardSum binary64 b d)
-      (upward-sum binary64 b d B D)) in
+  sum-pair =
+      let L = settled M S k n k v _ low _ (downward-rounds M S k l _ (exact-size M S k n v _ l m low) _ (add-rounded binary64 a c A C)
+      (downwardSum binary64 a c) (downward-sum binary64 a c A C)) in
+      let H = settled M S k n k v _ high _ (upward-rounds M S k l _ (exact-size M S k n v _ l m high) _ (add-rounded binary64 b d B D)
+      (upwardSum binary64 b d) (upward-sum binary64 b d B D)) in
       record {
         low = downwardSum binary64 a c;
         high = upwardSum binary64 b d;
@@ -207,9 +206,6 @@ module _ (M : ℚ) (S : Scale M) (k n : ℕ) (v : ℚ) (l : k < 2 ^ 30) (m : n �
         low-close = L;
         high-close = H;
       }
-
-  plain-sum-pair : ClosePair M k (n + (k + 1)) v (addPairs binary64 (pair a b) (pair c d))
-  plain-sum-pair = sum-pair (k + 1) (omega arith) (omega arith) (exact-size M S k n v _ l m low) (exact-size M S k n v _ l m high)
 
 turned-close : (M : ℚ) (k n : ℕ) (v : ℚ) (x : Float) → Close M k n v x → Close M k n (negq v) (neg x)
 turned-close M k n v x X =
@@ -225,16 +221,17 @@ unfolding addPairs subtractPairs
 turned-pair e g a b c d h k = rw (h, k) refl
 
 pair-plus : (M : ℚ) → Scale M → (k n : ℕ) (v : ℚ) (x : Ends) (k′ n′ : ℕ) (v′ : ℚ) (x′ : Ends) → k + k′ < 2 ^ 30 → n + n′ ≤ 2 ^ 49
-    → ClosePair M k n v x → ClosePair M k′ n′ v′ x′ → ClosePair M (k + k′) (n + n′ + (k + k′ + 1)) (v +q v′) (addPairs binary64 x x′)
+    → ClosePair M k n v x → ClosePair M k′ n′ v′ x′ → ClosePair M (k + k′) (n + n′ + (8 * (k + k′) + 1)) (v +q v′) (addPairs binary64 x x′)
 pair-plus M S k n v x k′ n′ v′ x′ l m X Y =
-    rw (X .is, Y .is) (plain-sum-pair M S (k + k′) (n + n′) (v +q v′) l m (X .low) (X .high) (Y .low) (Y .high) (X .low-close .is-finite)
+    rw (X .is, Y .is) (sum-pair M S (k + k′) (n + n′) (v +q v′) l m (X .low) (X .high) (Y .low) (Y .high) (X .low-close .is-finite)
     (X .high-close .is-finite) (Y .low-close .is-finite) (Y .high-close .is-finite)
     (near-plus M S k n v _ k′ n′ v′ _ (X .low-close) (Y .low-close)) (near-plus M S k n v _ k′ n′ v′ _ (X .high-close) (Y .high-close)))
 
 pair-minus : (M : ℚ) → Scale M → (k n : ℕ) (v : ℚ) (x : Ends) (k′ n′ : ℕ) (v′ : ℚ) (x′ : Ends) → k + k′ < 2 ^ 30 → n + n′ ≤ 2 ^ 49
-    → ClosePair M k n v x → ClosePair M k′ n′ v′ x′ → ClosePair M (k + k′) (n + n′ + (k + k′ + 1)) (v -q v′) (subtractPairs binary64 x x′)
+    → ClosePair M k n v x → ClosePair M k′ n′ v′ x′ → ClosePair M (k + k′) (n + n′ + (8 * (k + k′) + 1)) (v -q v′) (subtractPairs binary64
+    x x′)
 pair-minus M S k n v x k′ n′ v′ x′ l m X Y =
-    subst (ClosePair M (k + k′) (n + n′ + (k + k′ + 1)) (v -q v′)) (turned-pair x x′ _ _ _ _ (X .is) (Y .is))
+    subst (ClosePair M (k + k′) (n + n′ + (8 * (k + k′) + 1)) (v -q v′)) (turned-pair x x′ _ _ _ _ (X .is) (Y .is))
     (pair-plus M S k n v (pair (X .low) (X .high)) k′ n′ (negq v′) (pair (neg (Y .high)) (neg (Y .low))) l m
     (record { low = X .low; high = X .high; is = refl; low-close = X .low-close; high-close = X .high-close })
     (record {
@@ -246,17 +243,13 @@ pair-minus M S k n v x k′ n′ v′ x′ l m X Y =
     }))
 
 pair-difference : (l : ℚ) → Scale l → (x y : Float) → T (fits binary64 x) → T (finite x) → T (fits binary64 y) → T (finite y)
-    → Size l (value x -q value y) → ClosePair l 1 1 (value x -q value y) (subtractPairs binary64 (finiteEnds x x) (finiteEnds y y))
+    → Size l (value x -q value y) → ClosePair l 1 9 (value x -q value y) (subtractPairs binary64 (finiteEnds x x) (finiteEnds y y))
 pair-difference l S x y F X G Y h =
-    subst (ClosePair l 1 1 (value x -q value y)) (turned-pair _ _ _ _ _ _ (both-finite x x X X) (both-finite y y Y Y))
-    (sum-pair l S 1 0 (value x -q value y) (omega arith) (omega arith) x x (neg y) (neg y) X X N N exact exact 1 (omega arith) (omega arith)
-    size size)
+    subst (ClosePair l 1 9 (value x -q value y)) (turned-pair _ _ _ _ _ _ (both-finite x x X X) (both-finite y y Y Y))
+    (sum-pair l S 1 0 (value x -q value y) (omega arith) (omega arith) x x (neg y) (neg y) X X N N exact exact)
   where
     N : T (finite (neg y))
     N = neg-finite y Y
-
-    size : Size (whole 1 *q l) (value x +q value (neg y))
-    size = subst (λ (z : ℚ). Size (whole 1 *q l) (value x +q z)) (sym (value-neg y Y)) (once l _ h)
 
     exact : Near l 1 0 (value x -q value y) (value x +q value (neg y))
     exact = subst (λ (z : ℚ). Near l 1 0 (value x -q value y) (value x +q z)) (sym (value-neg y Y)) (near-itself l _ 1 (once l _ h))
@@ -268,7 +261,7 @@ record Candidate (P : ℚ) (k n : ℕ) (v : ℚ) (r : Float) : Type 0 where
   rounded : Rounded binary64 r exact
 
 outward-close : (P : ℚ) (S : Scale P) (k n : ℕ) (v : ℚ) → k < 2 ^ 30 → n ≤ 2 ^ 49 → (p q r s : Float) → Candidate P k n v p
-    → Candidate P k n v q → Candidate P k n v r → Candidate P k n v s → ClosePair P k (n + (k + 1)) v (outward binary64 p q r s)
+    → Candidate P k n v q → Candidate P k n v r → Candidate P k n v s → ClosePair P k (n + (8 * k + 1)) v (outward binary64 p q r s)
 unfolding outward moved
 outward-close P S k n v l m p q r s cp cq cr cs =
     let L = lowest-among (Candidate P k n v) p q r s cp cq cr cs in
@@ -288,7 +281,7 @@ outward-close P S k n v l m p q r s cp cq cr cs =
 
 pair-times : (M M′ P : ℚ) → M *q M′ ≡ P → Scale P → (k n : ℕ) (v : ℚ) (x : Ends) (k′ n′ : ℕ) (v′ : ℚ) (x′ : Ends) → k * k′ < 2 ^ 30
     → n * n′ ≤ 2 ^ 49 → n * k′ + k * n′ + 1 ≤ 2 ^ 49 → ClosePair M k n v x → ClosePair M′ k′ n′ v′ x′
-    → ClosePair P (k * k′) (n * k′ + k * n′ + 1 + (k * k′ + 1)) (v *q v′) (multiplyPairs binary64 x x′)
+    → ClosePair P (k * k′) (n * k′ + k * n′ + 1 + (8 * (k * k′) + 1)) (v *q v′) (multiplyPairs binary64 x x′)
 unfolding multiplyPairs
 pair-times M M′ P e S k n v x k′ n′ v′ x′ l a m X Y =
     let one : (c d : Float) → Close M k n v c → Close M′ k′ n′ v′ d → Candidate P (k * k′) (n * k′ + k * n′ + 1) (v *q v′) (mul binary64 c
@@ -312,31 +305,32 @@ divided e g a b c d h k t = rw (h, k, t) refl
 
 pair-over-whole : (M : ℚ) → Scale M → (c : ℕ) → 1 ≤ c → c ≤ 10 → (k n : ℕ) (v : ℚ) (x : Ends) (k′ n′ : ℕ) → k ≤ c * k′ → n ≤ c * n′
     → k′ < 2 ^ 30 → n′ ≤ 2 ^ 49 → ClosePair M k n v x
-    → ClosePair M k′ (n′ + (k′ + 1)) (v /q whole c) (dividePairs binary64 x (pair (round binary64 false c 1) (round binary64 false c 1)))
+    → ClosePair M k′ (n′ + (8 * k′ + 1)) (v /q whole c) (dividePairs binary64 x (pair (round binary64 false c 1) (round binary64 false c
+    1)))
 pair-over-whole M S c p l k n v x k′ n′ h g a m X =
     let one : (y : Float) → Close M k n v y → Candidate M k′ n′ (v /q whole c) (div binary64 y (w c l)) = λ y Y. record {
       exact = value y /q whole c;
       near = near-over-whole M (scale-not-negative M S) c (whole-above c l p) k n k′ n′ v (value y) h g (Y .near);
       rounded = over-rounded c l p y (Y .is-finite);
     } in
-    subst (ClosePair M k′ (n′ + (k′ + 1)) (v /q whole c))
+    subst (ClosePair M k′ (n′ + (8 * k′ + 1)) (v /q whole c))
     (divided x _ (X .low) (X .high) (w c l) (w c l) (X .is) refl (above-zero-test (w c l) (whole-finite c l)
     (subst Above (sym (whole-value c l)) (whole-above c l p))))
     (outward-close M S k′ n′ (v /q whole c) a m _ _ _ _ (one _ (X .low-close)) (one _ (X .low-close)) (one _ (X .high-close))
     (one _ (X .high-close)))
 
-pair-ratio : (l : ℚ) → Scale l → Above l → (v : ℚ) (x y : Ends) → ClosePair l 1 1 v x → ClosePair l 1 1 l y
-    → ClosePair 𝟙 1 5 (v /q l) (dividePairs binary64 x y)
+pair-ratio : (l : ℚ) → Scale l → Above l → (v : ℚ) (x y : Ends) → ClosePair l 1 9 v x → ClosePair l 1 9 l y
+    → ClosePair 𝟙 1 28 (v /q l) (dividePairs binary64 x y)
 pair-ratio l S p v x y X Y =
-    let one : (c d : Float) → Close l 1 1 v c → Close l 1 1 l d → Candidate 𝟙 1 3 (v /q l) (div binary64 c d) = λ c d C D. record {
+    let one : (c d : Float) → Close l 1 9 v c → Close l 1 9 l d → Candidate 𝟙 1 19 (v /q l) (div binary64 c d) = λ c d C D. record {
       exact = value c /q value d;
       near = near-quotient l p v (value c) (value d) (C .near) (D .near);
       rounded = divide-rounded binary64 c d (C .is-finite) (D .is-finite) (divisor-above l p v (value c) (value d) (C .near) (D .near));
     } in
-    subst (ClosePair 𝟙 1 5 (v /q l))
+    subst (ClosePair 𝟙 1 28 (v /q l))
     (divided x y (X .low) (X .high) (Y .low) (Y .high) (X .is) (Y .is) (above-zero-test (Y .low) (Y .low-close .is-finite)
     (divisor-above l p v (value (X .low)) (value (Y .low)) (X .low-close .near) (Y .low-close .near))))
-    (outward-close 𝟙 one-scale 1 3 (v /q l) (omega arith) (omega arith) _ _ _ _ (one _ _ (X .low-close) (Y .low-close))
+    (outward-close 𝟙 one-scale 1 19 (v /q l) (omega arith) (omega arith) _ _ _ _ (one _ _ (X .low-close) (Y .low-close))
     (one _ _ (X .low-close) (Y .high-close)) (one _ _ (X .high-close) (Y .low-close)) (one _ _ (X .high-close) (Y .high-close)))
 
 pub ends-approximate : Approximates ends ClosePair

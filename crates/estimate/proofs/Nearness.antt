@@ -40,7 +40,8 @@ halved y z h = elim (≤q-cases y z) [
 
 -- what has a size has one that is not below 0
 pub size-not-negative : (A a : ℚ) → Size A a → 𝟘 ≤q A
-size-not-negative A a h = halved 𝟘 A (le-two rationalRing _≤q_ rationalOrder (A ∷ a ∷ []) (con (pos 0) ⊕ con (pos 0)) (v0 ⊕ v0) (con (pos 1))
+size-not-negative A a h = halved 𝟘 A (le-two rationalRing _≤q_ rationalOrder (A ∷ a ∷ []) (con (pos 0) ⊕ con (pos 0)) (v0 ⊕ v0) (con (pos
+    1))
     (opposite v0) v1 (con (pos 1)) v1 v0 tt (≤q-whole 1) (h .0) (≤q-whole 1) (h .1))
 
 pub size-sum : (A B a b : ℚ) → Size A a → Size B b → Size (A +q B) (a +q b)
@@ -78,17 +79,31 @@ size-product A B a b h k = (
 )
 
 -- ---- near fractions
--- 2^-49
+-- 2^-54
 abbrev pub unit : ℚ
-unit = fraction (pos 1) (2 ^ 49) (pow-pos 49)
+unit = fraction (pos 1) (2 ^ 54) (pow-pos 54)
 
 pub unit-not-negative : 𝟘 ≤q unit
 unit-not-negative = fraction-le _ _ _ _ _ _ (omega arith)
 
 -- few units are at most 1
-pub few : (n : ℕ) → n ≤ 2 ^ 49 → wholeq (pos n) *q unit ≤q 𝟙
+pub few : (n : ℕ) → n ≤ 2 ^ 54 → wholeq (pos n) *q unit ≤q 𝟙
 unfolding _*q_
 few n l = fraction-le _ _ _ _ _ _ (omega arith)
+
+-- 1/32
+abbrev pub slack : ℚ
+slack = fraction (pos 1) 32 (omega arith)
+
+pub slack-not-negative : 𝟘 ≤q slack
+slack-not-negative = fraction-le _ _ _ _ _ _ (omega arith)
+
+fewer : (n : ℕ) → n ≤ 2 ^ 49 → wholeq (pos n) *q unit ≤q slack
+unfolding _*q_
+fewer n l = fraction-le _ _ _ _ _ _ (omega arith)
+
+larger-bound : (n : ℕ) → n ≤ 2 ^ 49 → n ≤ 2 ^ 54
+larger-bound n l = omega arith
 
 abbrev pub whole : ℕ → ℚ
 whole n = wholeq (pos n)
@@ -126,12 +141,20 @@ module _ (M : ℚ) where
 
   module _ (M-not-negative : 𝟘 ≤q M) where
     -- n units of M are at most M
-    few-units : (n : ℕ) → n ≤ 2 ^ 49 → whole n *q (unit *q M) ≤q M
+    few-units : (n : ℕ) → n ≤ 2 ^ 54 → whole n *q (unit *q M) ≤q M
     few-units n l = le-one rationalRing _≤q_ rationalOrder (whole n ∷ unit ∷ M ∷ []) (v0 ⊗ (v1 ⊗ v2)) v2 v2 (v0 ⊗ v1) (con (pos 1)) tt
         M-not-negative (few n l)
 
+    -- x is at most k M and a 32nd of M in size
+    pub near-size-finely : (k n : ℕ) (v x : ℚ) → n ≤ 2 ^ 49 → Near M k n v x → Size ((whole k +q slack) *q M) x
+    near-size-finely k n v x l h =
+        size-same _ _ _ _ (solve rationalRing (whole k ∷ slack ∷ M ∷ []) (v0 ⊗ v2 ⊕ v1 ⊗ v2) ((v0 ⊕ v1) ⊗ v2) tt)
+        (solve rationalRing (v ∷ x ∷ []) (v0 ⊕ (v1 ⊖ v0)) v1 tt)
+        (size-sum _ _ _ _ (h .size) (size-wider _ _ _ (le-one rationalRing _≤q_ rationalOrder (whole n ∷ unit ∷ M ∷ slack ∷ [])
+        (v0 ⊗ (v1 ⊗ v2)) (v3 ⊗ v2) v2 (v0 ⊗ v1) v3 tt M-not-negative (fewer n l)) (h .apart)))
+
     -- so x is at most (k + 1) M in size
-    pub near-size : (k n : ℕ) (v x : ℚ) → n ≤ 2 ^ 49 → Near M k n v x → Size (whole (k + 1) *q M) x
+    pub near-size : (k n : ℕ) (v x : ℚ) → n ≤ 2 ^ 54 → Near M k n v x → Size (whole (k + 1) *q M) x
     near-size k n v x l h =
         size-same _ _ _ _ (solve rationalRing (whole k ∷ M ∷ []) (v0 ⊗ v1 ⊕ v1) ((v0 ⊕ con (pos 1)) ⊗ v1) tt
         ∙ ap (λ (w : ℚ). w *q M) (sym (rationalRing .of-add (pos k) (pos 1))))
@@ -183,7 +206,7 @@ module _ (M M′ P : ℚ) (is : M *q M′ ≡ P) (P-not-negative : 𝟘 ≤q P) 
           ∙ ap (λ (z : ℚ). whole n *q whole k′ +q z) (rationalRing .of-mul (pos k) (pos n′)))
 
       last : whole n *q whole n′ *q unit ≤q 𝟙
-      last = subst (λ (z : ℚ). z *q unit ≤q 𝟙) (rationalRing .of-mul (pos n) (pos n′)) (few (n * n′) l)
+      last = subst (λ (z : ℚ). z *q unit ≤q 𝟙) (rationalRing .of-mul (pos n) (pos n′)) (few (n * n′) (larger-bound (n * n′) l))
 
       room : whole k *q M *q (whole n′ *q (unit *q M′)) +q whole n *q (unit *q M) *q (whole k′ *q M′)
           +q whole n *q (unit *q M) *q (whole n′ *q (unit *q M′)) ≤q whole (n * k′ + k * n′ + 1) *q (unit *q P)
@@ -236,32 +259,33 @@ module _ (M : ℚ) (M-not-negative : 𝟘 ≤q M) (d : ℕ) (positive : Above (w
       }
 
 -- quotients of lengths: v, at most l, over l
-module _ (l : ℚ) (positive : Above l) (v x y : ℚ) (X : Near l 1 1 v x) (Y : Near l 1 1 l y) where
+module _ (l : ℚ) (positive : Above l) (v x y : ℚ) (X : Near l 1 9 v x) (Y : Near l 1 9 l y) where
   abbrev E : ℚ
   E = unit *q l
 
   l-not-negative : 𝟘 ≤q l
   l-not-negative = <q-weaken 𝟘 l positive
 
-  -- 3 units are at most 1
-  three : whole 3 *q unit ≤q 𝟙
-  three = few 3 (omega arith)
+  -- 171 units are at most 1
+  some : whole 171 *q unit ≤q 𝟙
+  some = few 171 (omega arith)
 
-  -- 2 l ≤ 3 y
-  pub divisor-large : whole 2 *q l ≤q whole 3 *q y
-  divisor-large = le-two rationalRing _≤q_ rationalOrder (l ∷ y ∷ unit ∷ []) (con (pos 2) ⊗ v0) (con (pos 3) ⊗ v1) (con (pos 3))
-      (opposite (con (pos 1) ⊗ (v2 ⊗ v0))) (v1 ⊖ v0) v0 (con (pos 3) ⊗ v2) (con (pos 1)) tt (≤q-whole 3) (Y .apart .0) l-not-negative three
+  -- 18 l ≤ 19 y
+  pub divisor-large : whole 18 *q l ≤q whole 19 *q y
+  divisor-large = le-two rationalRing _≤q_ rationalOrder (l ∷ y ∷ unit ∷ []) (con (pos 18) ⊗ v0) (con (pos 19) ⊗ v1) (con (pos 19))
+      (opposite (con (pos 9) ⊗ (v2 ⊗ v0))) (v1 ⊖ v0) v0 (con (pos 171) ⊗ v2) (con (pos 1)) tt (≤q-whole 19) (Y .apart .0) l-not-negative
+      some
 
   pub divisor-above : Above y
   divisor-above = go (≤q-or-< y 𝟘)
     where
       go : (y ≤q 𝟘) ⊎ (𝟘 <q y) → Above y
       go (inr h) = h
-      go (inl h) = absurd (never 𝟘 l positive (≤q-trans l (whole 2 *q l) 𝟘
-          (le-one rationalRing _≤q_ rationalOrder (l ∷ []) v0 (con (pos 2) ⊗ v0) (con (pos 1)) (con (pos 0)) v0 tt (≤q-whole 1)
+      go (inl h) = absurd (never 𝟘 l positive (≤q-trans l (whole 18 *q l) 𝟘
+          (le-one rationalRing _≤q_ rationalOrder (l ∷ []) v0 (con (pos 18) ⊗ v0) (con (pos 17)) (con (pos 0)) v0 tt (≤q-whole 17)
           l-not-negative)
-          (≤q-trans (whole 2 *q l) (whole 3 *q y) 𝟘 divisor-large (le-one rationalRing _≤q_ rationalOrder (y ∷ []) (con (pos 3) ⊗ v0)
-          (con (pos 0)) (con (pos 3)) v0 (con (pos 0)) tt (≤q-whole 3) h))))
+          (≤q-trans (whole 18 *q l) (whole 19 *q y) 𝟘 divisor-large (le-one rationalRing _≤q_ rationalOrder (y ∷ []) (con (pos 19) ⊗ v0)
+          (con (pos 0)) (con (pos 19)) v0 (con (pos 0)) tt (≤q-whole 19) h))))
 
   abbrev i : ℚ
   i = inverse y
@@ -286,14 +310,15 @@ module _ (l : ℚ) (positive : Above l) (v x y : ℚ) (X : Near l 1 1 v x) (Y : 
   ratio = size-same _ _ _ _ (combine rationalRing (l ∷ j ∷ []) (con (pos 1) ⊗ v0 ⊗ v1) (con (pos 1) ⊗ con (pos 1)) (con (pos 1)) (v0 ⊗ v1)
       (con (pos 1)) tt j-is) refl (size-product _ _ _ _ (X .size) (own-size j j-not-negative))
 
-  -- x - (v / l) y is at most 2 units of l
-  rest : Size (E +q E) (x -q v *q j *q y)
-  rest = size-same _ _ _ _ (solve rationalRing (E ∷ []) (con (pos 1) ⊗ v0 ⊕ con (pos 1) ⊗ con (pos 1) ⊗ (con (pos 1) ⊗ v0)) (v0 ⊕ v0) tt)
+  -- x - (v / l) y is at most 18 units of l
+  rest : Size (whole 18 *q E) (x -q v *q j *q y)
+  rest = size-same _ _ _ _ (solve rationalRing (E ∷ []) (con (pos 9) ⊗ v0 ⊕ con (pos 1) ⊗ con (pos 1) ⊗ (con (pos 9) ⊗ v0))
+      (con (pos 18) ⊗ v0) tt)
       (combine rationalRing (v ∷ x ∷ y ∷ l ∷ j ∷ []) (v1 ⊖ v0 ⊕ opposite (v0 ⊗ v4 ⊗ (v2 ⊖ v3))) (v1 ⊖ v0 ⊗ v4 ⊗ v2) v0 (v3 ⊗ v4)
       (con (pos 1)) tt j-is)
       (size-sum _ _ _ _ (X .apart) (size-negated _ _ (size-product _ _ _ _ ratio (Y .apart))))
 
-  pub near-quotient : Near 𝟙 1 3 (v /q l) (x /q y)
+  pub near-quotient : Near 𝟙 1 19 (v /q l) (x /q y)
   near-quotient =
       record {
         size = ratio;
@@ -303,9 +328,9 @@ module _ (l : ℚ) (positive : Above l) (v x y : ℚ) (X : Near l 1 1 v x) (Y : 
             (size-product _ _ _ _ rest (own-size i i-not-negative)));
       }
     where
-      room : (E +q E) *q i ≤q whole 3 *q (unit *q 𝟙)
-      room = subst (λ (z : ℚ). (E +q E) *q i ≤q z) (combine rationalRing (y ∷ i ∷ unit ∷ []) (v2 ⊗ (con (pos 3) ⊗ v0) ⊗ v1)
-          (con (pos 3) ⊗ (v2 ⊗ con (pos 1))) (con (pos 3) ⊗ v2) (v0 ⊗ v1) (con (pos 1)) tt i-is)
-          (le-one rationalRing _≤q_ rationalOrder (l ∷ y ∷ i ∷ unit ∷ []) ((v3 ⊗ v0 ⊕ v3 ⊗ v0) ⊗ v2) (v3 ⊗ (con (pos 3) ⊗ v1) ⊗ v2)
-          (v3 ⊗ v2) (con (pos 2) ⊗ v0) (con (pos 3) ⊗ v1) tt (rationalOrder .nonnegative-mul unit i unit-not-negative i-not-negative)
+      room : whole 18 *q E *q i ≤q whole 19 *q (unit *q 𝟙)
+      room = subst (λ (z : ℚ). whole 18 *q E *q i ≤q z) (combine rationalRing (y ∷ i ∷ unit ∷ []) (v2 ⊗ (con (pos 19) ⊗ v0) ⊗ v1)
+          (con (pos 19) ⊗ (v2 ⊗ con (pos 1))) (con (pos 19) ⊗ v2) (v0 ⊗ v1) (con (pos 1)) tt i-is)
+          (le-one rationalRing _≤q_ rationalOrder (l ∷ y ∷ i ∷ unit ∷ []) (con (pos 18) ⊗ (v3 ⊗ v0) ⊗ v2) (v3 ⊗ (con (pos 19) ⊗ v1) ⊗ v2)
+          (v3 ⊗ v2) (con (pos 18) ⊗ v0) (con (pos 19) ⊗ v1) tt (rationalOrder .nonnegative-mul unit i unit-not-negative i-not-negative)
           divisor-large)

@@ -11,13 +11,13 @@ use crate::plain;
 use crate::sizes;
 
 // Whether the figure is known to be at most `so_far`, without the pairs of ends: the largest Bernstein coefficient
-// in plain floats, and 2^-35 of the numbers' size for all that the roundings cost. No more than that is known
+// in plain floats, and 2^-38 of the numbers' size for all that the roundings cost. No more than that is known
 // where the answer is no.
 pub fn not_above(x: Intersection, so_far: f64) -> bool
     ensures { λ r. ⌜ (r ≡ true → NotAbove (sixFigure (differenceBernstein ends (intersectionOf x))) «so_far») ⌝ }
 {
     if sizes::measured(x) {
-        let cost = sizes::size_of(x) * 2.9103830456733704e-11;
+        let cost = sizes::size_of(x) * 3.637978807091713e-12;
         return plain::largest(plain::coefficients(x)) + cost <= so_far;
     }
     false
