@@ -221,6 +221,7 @@ fn measure(r: &mut Random, n: usize, d: usize, moved: Moved, time: Duration) {
             *point += 5e6;
         }
     }
+    let size = request.points.iter().fold(0., |m: f64, p| m.max(p.abs()));
     let mut questions: Vec<_> = (0..d).filter_map(|axis| built(&request, axis)).collect();
     if moved == Moved::Rising {
         for (i, point) in questions.iter_mut().flat_map(|q| q.points.iter_mut().enumerate()) {
@@ -238,7 +239,7 @@ fn measure(r: &mut Random, n: usize, d: usize, moved: Moved, time: Duration) {
         .all(|(q, t)| alike(q.certify(), *t));
     let theirs: Vec<_> = questions.iter().filter_map(boost).collect();
     let near = theirs.iter().zip(&told).all(|((b, _), t)| match t {
-        Certificate::Figure(f) => (b - f).abs() <= 1e-9 * f + 1e-12,
+        Certificate::Figure(f) => (b - f).abs() <= 1e-9 * f + 1e-12 + 2e-15 * size,
         _ => false,
     });
     let mut ours = || {
