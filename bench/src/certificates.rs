@@ -224,7 +224,10 @@ fn measure(r: &mut Random, n: usize, d: usize, moved: Moved, time: Duration) {
     let size = request.points.iter().fold(0., |m: f64, p| m.max(p.abs()));
     let mut questions: Vec<_> = (0..d).filter_map(|axis| built(&request, axis)).collect();
     if moved == Moved::Rising {
-        for (i, point) in questions.iter_mut().flat_map(|q| q.points.iter_mut().enumerate()) {
+        for (i, point) in questions
+            .iter_mut()
+            .flat_map(|q| q.points.iter_mut().enumerate())
+        {
             *point += 1e-3 * i as f64;
         }
     }
