@@ -4,6 +4,7 @@ pub mod Bernstein
 pub mod Binomial
 pub mod Comparison
 pub mod Corners
+pub mod Difference
 pub mod DirectedSum
 pub mod Encoding
 pub mod Examples

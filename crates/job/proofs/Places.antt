@@ -10,7 +10,7 @@ use lib.Dec.{ltb}
 use lib.ListN.{length, take, drop, length-drop, length-map}
 use lib.Seq.{take-all, length-take-le}
 use lib.Ieee.{Float}
-use Rattle.request.proofs.Anys.{or-none}
+use Rattle.arith.proofs.Truth.{or-none}
 use Rattle.encoding.specs.Bytes.{lowFirst, floatOf, floatsOf}
 use Rattle.smoothing.specs.Answer.{Answer, andThen}
 use Rattle.smoothing.specs.Answer.Answer.{done, refused}

@@ -1,16 +1,13 @@
 -- The laws of `any`: how a loop that tests one number after the other ends.
 use mathlib.Core.Path.{_≡_, refl}
-use mathlib.Core.Bool.{Bool, true, false, _||_, true≢false}
+use mathlib.Core.Bool.{Bool, true, false, _||_}
 use Prim.Native.Nat.{ℕ, zero, suc, _+_, _<_}
 use native.Mathlib.Omega.{arith}
 use native.Mathlib.Decide.{decLt}
 use native.Mathlib.Numerals.{add-one}
 use lib.Ieee.{Float, le}
+use Rattle.arith.proofs.Truth.{or-none}
 use Rattle.request.specs.Any.{any}
-
-pub or-none : (a b : Bool) → (a || b) ≡ false → (a ≡ false) × (b ≡ false)
-or-none true b h = absurd (true≢false h)
-or-none false b h = (refl, h)
 
 module _ (test : ℕ → Bool) where
   -- none passed up to i, and i does not

@@ -9,13 +9,13 @@ use lib.Dec.{eqb, ltb}
 use lib.ListN.{length}
 use lib.Ieee.{Float}
 use lib.Ieee.Scale.{finite}
+use Rattle.arith.proofs.Truth.{or-none}
 use Rattle.window.specs.Cells.{at}
 use Rattle.request.specs.declared.parameters.Spacing.{Spacing}
 use Rattle.request.specs.declared.parameters.Spacing.the-variants.{Listed, Even}
 use Rattle.request.specs.Any.{any}
 use Rattle.request.specs.Parameters.{parameterOf, miscounted, anyFall, misplaced}
 use Rattle.request.specs.Points.{unfit}
-use Rattle.request.proofs.Anys.{or-none}
 
 pub counted : (spacing : Spacing) (list : List Float) (n : ℕ) → miscounted spacing list n ≡ false → spacing ≡ Listed → length list ≡ n
 unfolding miscounted

@@ -1,6 +1,5 @@
 -- The laws that other crates may cite.
 pub mod Anys
 pub mod Counts
-pub mod Difference
 pub mod Normalised
 pub mod ZeroToOne

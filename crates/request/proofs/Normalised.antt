@@ -13,7 +13,8 @@ use lib.Ieee.{Float, nan, inf, fin, Format, binary32, binary64, up, down, isNan,
 use lib.Ieee.Fits.{div-fits, down-pos, up-pos}
 use lib.Ieee.Positive.{above, positive}
 use lib.Ieee.Scale.{finite, round-same}
-use Rattle.window.specs.Cells.{+0, at}
+use Rattle.arith.proofs.Truth.{or-none}
+use Rattle.window.specs.Cells.{+0, at, Doubles}
 use Rattle.fraction.proofs.Comparison.{number-self}
 use Rattle.fraction.proofs.Rounding.{of-positive, quotient-number, rounded-not-nan, sub-rounded}
 use Rattle.fraction.proofs.Value.{finite-not-nan}
@@ -21,9 +22,9 @@ use Rattle.arith.proofs.FloatOrder.{le-trans, lt-le, lt-of-not-le}
 use Rattle.request.specs.declared.parameters.Spacing.{Spacing}
 use Rattle.request.specs.declared.parameters.Spacing.the-variants.{Listed, Even}
 use Rattle.request.specs.Any.{any}
-use Rattle.request.specs.Parameters.{Doubles, parameterOf, miscounted, anyFall, lengthOf, normalisedOf, misplaced, unreliable}
-use Rattle.request.proofs.Anys.{any-none, or-none}
-use Rattle.request.proofs.Difference.{difference-above}
+use Rattle.request.specs.Parameters.{parameterOf, miscounted, anyFall, lengthOf, normalisedOf, misplaced, unreliable}
+use Rattle.request.proofs.Anys.{any-none}
+use Rattle.fraction.proofs.Difference.{difference-above}
 
 -- ---- floats
 holds : {b : Bool} → b ≡ true → T b

@@ -11,7 +11,7 @@ use lib.Ieee.{Float, nan, inf, fin, binary64, fits, lt, le, eq, sub, ofBits}
 use lib.Ieee.Fits.{div-fits}
 use lib.Ieee.Positive.{above, positive}
 use lib.Ieee.Scale.{finite}
-use Rattle.window.specs.Cells.{+0}
+use Rattle.window.specs.Cells.{+0, Doubles}
 use Rattle.fraction.specs.Order.{le-by}
 use Rattle.fraction.specs.Rational.{ℚ, wholeq, atMostq, _≤q_, _<q_, _+q_, negq}
 use Rattle.fraction.specs.RationalRing.{rationalRing}
@@ -23,8 +23,8 @@ use Rattle.fraction.proofs.Rational.{<q-weaken, never, rationalOrder, ≤q-<q-t
 use Rattle.fraction.proofs.Rounding.{sub-rounded}
 use Rattle.fraction.proofs.Value.{plus-zero}
 use Rattle.request.specs.declared.parameters.Spacing.{Spacing}
-use Rattle.request.specs.Parameters.{Doubles, normalisedOf, misplaced, unreliable}
-use Rattle.request.proofs.Difference.{difference-above}
+use Rattle.request.specs.Parameters.{normalisedOf, misplaced, unreliable}
+use Rattle.fraction.proofs.Difference.{difference-above}
 use Rattle.request.proofs.Normalised.{normalised-first, normalised-rises, normalised-last}
 
 abbrev one : Float

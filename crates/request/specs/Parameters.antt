@@ -2,19 +2,15 @@
 use mathlib.Core.Bool.{Bool, true, false, not, _||_}
 use mathlib.Core.List.{List}
 use Prim.Native.Nat.{ℕ, _+_, _-_}
-use lib.Dec.{T, eqb}
+use lib.Dec.{eqb}
 use lib.IntN.{pos}
 use lib.ListN.{length}
-use lib.Ieee.{Float, binary64, div, fits, le, ofInt, sub}
+use lib.Ieee.{Float, binary64, div, le, ofInt, sub}
 use lib.Ieee.Scale.{finite}
 use Rattle.window.specs.Cells.{at}
 use Rattle.request.specs.declared.parameters.Spacing.{Spacing}
 use Rattle.request.specs.declared.parameters.Spacing.the-variants.{Listed, Even}
 use Rattle.request.specs.Any.{any}
-
--- Every cell is an f64. The model's `Float` has further numbers, which no slice holds.
-abbrev pub Doubles : List Float → Type 0
-Doubles list = (i : ℕ) → T (fits binary64 (at list i))
 
 -- parameter i of n: the list's, or `i as f64 / (n - 1) as f64`
 unfoldable pub parameterOf : Spacing → List Float → ℕ → ℕ → Float

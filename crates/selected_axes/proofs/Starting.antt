@@ -10,7 +10,7 @@ use lib.ListN.{length, take, drop}
 use lib.Seq.{length-take-le, getD-drop}
 use lib.Ieee.{Float, nan, binary64, fits}
 use Rattle.window.specs.Window.{window}
-use Rattle.window.specs.Cells.{zeros}
+use Rattle.window.specs.Cells.{zeros, Doubles}
 use Rattle.window.proofs.Windows.{length-window, window-before}
 use Rattle.window.proofs.Parts.{read-seam}
 use Rattle.window.specs.Rows.{written}
@@ -19,7 +19,6 @@ use Rattle.fit.specs.Fit.{Fit, Answer}
 use Rattle.polynomial.specs.declared.interval.AuditOutcome.{AuditOutcome}
 use Rattle.polynomial.specs.Outcome as audits
 use Rattle.seed.specs.Knots.{seedOf}
-use Rattle.request.specs.Parameters.{Doubles}
 use Rattle.smoothing.specs.Answer as answers
 use Rattle.smoothing.specs.Answer.{andThen, unless}
 use Rattle.smoothing.specs.Answer.Answer.{done, refused}

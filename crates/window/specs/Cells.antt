@@ -1,8 +1,9 @@
 -- The cells of a lent slice, as a list of floats.
 use Prim.Native.Nat.{ℕ}
 use mathlib.Core.List.{List}
+use lib.Dec.{T}
 use lib.ListN.{getD, replicate}
-use lib.Ieee.{Float, nan, binary64, ofBits}
+use lib.Ieee.{Float, nan, binary64, fits, ofBits}
 
 -- +0, by its bits
 abbrev pub +0 : Float
@@ -11,6 +12,10 @@ abbrev pub +0 : Float
 -- the cell at k
 abbrev pub at : List Float → ℕ → Float
 at l k = getD l k nan
+
+-- Every cell is an f64. The model's `Float` has further numbers, which no slice holds.
+abbrev pub Doubles : List Float → Type 0
+Doubles l = (i : ℕ) → T (fits binary64 (at l i))
 
 -- n cells of +0
 abbrev pub zeros : ℕ → List Float
