@@ -3,5 +3,6 @@
 pub mod Order
 pub mod Counting
 pub mod Placing
+pub mod SameBits
 pub mod Formed
 pub mod Putting

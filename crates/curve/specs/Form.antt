@@ -1,17 +1,19 @@
 -- When a curve is well formed: document 01, "The request and the curve".
 use mathlib.Core.Bool.{Bool, _&&_, cond}
-use mathlib.Core.List.{List}
+use mathlib.Core.List.{List, _++_}
 use Prim.Native.Nat.{ℕ, _+_, _-_, _*_}
 use lib.Dec.{leb, ltb, eqb}
 use lib.ListN.{length, getD}
-use lib.Ieee.{Float, binary64, ofBits, sub, lt, eq}
+use lib.Ieee.{Float, binary64, ofBits, toBits, sub, lt, eq}
 use lib.Ieee.Scale.{finite}
 use Rattle.window.specs.Cells.{+0, at}
+use Rattle.window.specs.Rows.{listOf}
 use Rattle.curve.specs.declared.Curve.{Curve}
 use Rattle.arith.specs.First.{every}
 use Rattle.curve.specs.Places.{positionOf}
 
--- the four slices beside a curve: breaks and coefficients of the selected axes, and of the other axes
+-- The four slices beside a curve: of the selected axes and of the other axes the breaks, and the coefficients. Behind the coefficients of a
+-- set lie the widths of its segments, one cell each (document 02, request 12).
 pub record Slices : Type 0 where
   pub breaks : List Float
   pub coefficients : List Float
@@ -29,14 +31,26 @@ axesFormed axes k d = every k (λ i. ltb (getD axes i 0) d && eqb (positionOf ax
 abbrev pub breaksRise : List Float → ℕ → Bool
 breaksRise breaks n = every n (λ i. lt (at breaks i) (at breaks (i + 1)))
 
+-- Document 02, request 12: a segment's width is "the rounded difference of its breaks".
+abbrev pub widthOf : List Float → ℕ → Float
+widthOf breaks i = sub binary64 (at breaks (i + 1)) (at breaks i)
+
+-- the coefficients of a set, and behind them the widths of its segments
+abbrev pub withWidths : List Float → List Float → List Float
+withWidths breaks coefficients = coefficients ++ listOf (length breaks - 1) (widthOf breaks)
+
+-- the widths that n segments keep, from the cell `from` on, are those: "a width that differs in bits is 24"
+unfoldable pub widthsKept : ℕ → ℕ → List Float → List Float → Bool
+widthsKept from n breaks cells = every n (λ i. eqb (toBits binary64 (at cells (from + i))) (toBits binary64 (widthOf breaks i)))
+
 -- A set of n segments with m axes: "slice lengths match, each set has at least one and at most 20,000 segments", "breaks rise strictly
--- from 0
--- to 1". Numbers are compared, so that a first break of -0 is 0.
+-- from 0 to 1", the widths are kept. Numbers are compared, so that a first break of -0 is 0.
 unfoldable pub setFormed : ℕ → ℕ → List Float → List Float → Bool
 setFormed m n breaks coefficients =
     leb 1 n && leb n 20000
-    && eqb (length breaks) (n + 1) && eqb (length coefficients) (6 * (n * m))
+    && eqb (length breaks) (n + 1) && eqb (length coefficients) (6 * (n * m) + n)
     && eq (at breaks 0) +0 && breaksRise breaks n && eq (at breaks n) (ofBits binary64 0x3ff0_0000_0000_0000)
+    && widthsKept (6 * (n * m)) n breaks coefficients
 
 -- the n segments of the m other axes: "when k = d the other set has neither segments nor breaks", so the lengths are 0
 unfoldable pub othersFormed : ℕ → ℕ → List Float → List Float → Bool

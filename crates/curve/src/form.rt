@@ -1,8 +1,9 @@
 // Whether a curve is well formed.
 ghost use mathlib.Core.Path.{_≡_};
+ghost use mathlib.Core.Bool.{true};
 ghost use Prim.Native.Nat.{_+_, _-_, _*_, _≤_, _<_};
 ghost use lib.ListN.{length};
-ghost use Rattle.curve.specs.Form.{slices, axesFormed, breaksRise, setFormed, othersFormed, rangeFormed, wellFormed};
+ghost use Rattle.curve.specs.Form.{slices, axesFormed, breaksRise, widthsKept, setFormed, othersFormed, rangeFormed, wellFormed};
 use crate::Curve;
 use crate::count::one_if;
 use crate::place::position;
@@ -40,6 +41,21 @@ fn rise(breaks: &[f64], n: usize) -> bool
     below == n
 }
 
+// Whether n segments, whose breaks rise, keep their widths from the cell `from` on: those that are the
+// difference of their breaks are counted. It is above 0, so that no other number equals it.
+fn widths_kept(breaks: &[f64], cells: &[f64], from: usize, n: usize) -> bool
+    requires { ⌜ (n < length (now breaks)) × (from + n ≤ length (now cells)) × (breaksRise (now breaks) n ≡ true) ⌝ }
+    ensures { λ r. ⌜ r ≡ widthsKept from n (now (breaks .entry)) (now (cells .entry)) ⌝ }
+{
+    let mut kept = 0;
+    let mut i = 0;
+    while i < n {
+        kept += one_if(cells[from + i] == breaks[i + 1] - breaks[i]);
+        i += 1;
+    }
+    kept == n
+}
+
 // Whether n segments with m axes each are well formed.
 fn set_formed(m: usize, n: usize, breaks: &[f64], coefficients: &[f64]) -> bool
     requires { ⌜ m ≤ 16 ⌝ }
@@ -54,12 +70,15 @@ fn set_formed(m: usize, n: usize, breaks: &[f64], coefficients: &[f64]) -> bool
     if breaks.len() != n + 1 {
         return false;
     }
-    if coefficients.len() != 6 * (n * m) {
+    let from = 6 * (n * m);
+    if coefficients.len() != from + n {
         return false;
     }
     if breaks[0] == 0.0 {
         if rise(breaks, n) {
-            return breaks[n] == 1.0;
+            if breaks[n] == 1.0 {
+                return widths_kept(breaks, coefficients, from, n);
+            }
         }
     }
     false

@@ -1,9 +1,11 @@
 // A curve, and when it is well formed. A curve is a struct by value; beside it stand four slices, which
 // are only read: the breaks and the coefficients of the selected axes, and those of the other axes.
-// Coefficients lie segment after segment, within it axis after axis, six each, from power 0 up.
+// Coefficients lie segment after segment, within it axis after axis, six each, from power 0 up; behind
+// them lie the widths of the segments.
 pub mod count; // count.rt: counts without a branch
 pub mod form; // form.rt: whether a curve is well formed
 pub mod place; // place.rt: where an axis stands in a list of axes
+pub mod widths; // widths.rt: the widths of segments
 
 // What a parameter outside start to end gets: a refusal, or the value at the nearer end, standing still.
 pub enum Mode {

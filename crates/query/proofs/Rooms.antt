@@ -1,5 +1,5 @@
 -- Slices that are not too short have the cells that are needed.
-use mathlib.Core.Path.{_≡_, refl, sym}
+use mathlib.Core.Path.{_≡_, sym}
 use mathlib.Core.Bool.{Bool, true, false, _&&_, _||_, true≢false}
 use Prim.Native.Nat.{ℕ, _*_, _/_, _≤_, _<_}
 use native.Mathlib.Nat.{div-lt-iff-lt-mul}
@@ -8,12 +8,9 @@ use native.Mathlib.Omega.{arith}
 use borrow.Author.Tests.{ltb-false, lt-ltb}
 use lib.Dec.{leb, ltb}
 use lib.ListN.{length}
+use Rattle.arith.proofs.Truth.{or-none}
 use Rattle.query.specs.Row.{Outputs, Room}
 use Rattle.query.specs.Query.{shortOf}
-
-or-parts : (a b : Bool) → (a || b) ≡ false → (a ≡ false) × (b ≡ false)
-or-parts true b h = absurd (true≢false h)
-or-parts false b h = (refl, h)
 
 and-second : (a b : Bool) → (a && b) ≡ false → a ≡ true → b ≡ false
 and-second true b h e = h
@@ -31,9 +28,9 @@ module _ (order n : ℕ) (o : Outputs) where
       let b = leb 1 order && ltb (length (o .dq)) n in
       let c = leb 2 order && ltb (length (o .ddq)) n in
       let d = leb 3 order && ltb (length (o .dddq)) n in
-      let p = or-parts (a || b || c) d h in
-      let r = or-parts (a || b) c (p .0) in
-      let s = or-parts a b (r .0) in (
+      let p = or-none (a || b || c) d h in
+      let r = or-none (a || b) c (p .0) in
+      let s = or-none a b (r .0) in (
         ltb-false (length (o .q)) n (s .0),
         λ e. ltb-false (length (o .dq)) n (and-second (leb 1 order) (ltb (length (o .dq)) n) (s .1) e),
         λ e. ltb-false (length (o .ddq)) n (and-second (leb 2 order) (ltb (length (o .ddq)) n) (r .1) e),

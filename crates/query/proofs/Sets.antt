@@ -4,20 +4,21 @@ use mathlib.Core.Bool.{Bool, true, false, _&&_, _||_, Bool·beq}
 use mathlib.Core.List.{List}
 use Prim.Native.Nat.{ℕ, zero, suc, _+_, _*_, _≤_, _<_}
 use native.Mathlib.Omega.{arith}
+use native.Mathlib.Nat.{mul-le-mul}
 use borrow.Author.Tests.{eqb-true, le-ltb, eq-eqb, ne-eqb}
-use lib.Dec.{leb, eqb}
+use lib.Dec.{eqb}
 use lib.ListN.{length}
 use lib.IntN.{pos}
-use lib.Ieee.{Float, nan, inf, fin, binary64, up, down, below, ofBits, lt, le, eq}
+use lib.Ieee.{Float, nan, inf, fin, binary64, up, down, below, lt, le, eq}
 use Rattle.arith.proofs.Truth.{and-parts, clash}
 use Rattle.arith.proofs.Rows.{row-end}
 use Rattle.fraction.proofs.Value.{plus-zero}
-use Rattle.window.specs.Cells.{+0, at}
+use Rattle.window.specs.Cells.{+0, at, Doubles}
 use Rattle.polynomial.specs.Span.{breakSpan}
-use Rattle.curve.specs.Form.{breaksRise, setFormed, othersFormed}
+use Rattle.curve.specs.Form.{setFormed, othersFormed}
 use Rattle.arith.proofs.Firsts.{every-at}
-use Rattle.curve.proofs.Formed.{set-sizes}
-use Rattle.query.specs.Search.{RisingBreaks}
+use Rattle.curve.proofs.Formed.{set-parts, kept-width}
+use Rattle.query.specs.Search.{RisingBreaks, Widths}
 use Rattle.query.specs.Segment.{located}
 
 tail : (p q : Bool) → (p || (true && (q || true))) ≡ true
@@ -38,17 +39,11 @@ zero-le (fin s m e) h =
 
 -- the breaks of a set rise from 0
 pub set-rising : (m n : ℕ) (breaks coefficients : List Float) → setFormed m n breaks coefficients ≡ true → RisingBreaks breaks
-unfolding setFormed
 set-rising m n b c h =
-    let z = set-sizes m n b c h in
-    let t3 = leb 1 n && leb n 20000 && eqb (length b) (n + 1) && eqb (length c) (6 * (n * m)) in
-    let t4 = t3 && eq (at b 0) +0 in
-    let p5 = and-parts (t4 && breaksRise b n) (eq (at b n) (ofBits binary64 0x3ff0_0000_0000_0000)) h in
-    let p4 = and-parts t4 (breaksRise b n) (p5 .0) in
-    let p3 = and-parts t3 (eq (at b 0) +0) (p4 .0) in (
+    let z = set-parts m n b c h in (
       λ l. subst (λ (o : Float). le o (at b 0) ≡ true) (sym (plus-zero binary64))
-          (zero-le (at b 0) (subst (λ (o : Float). eq (at b 0) o ≡ true) (plus-zero binary64) (p3 .1))),
-      λ i l. every-at (λ i. lt (at b i) (at b (i + 1))) n (p4 .1) i (omega (arith, z .breaks-length)),
+          (zero-le (at b 0) (subst (λ (o : Float). eq (at b 0) o ≡ true) (plus-zero binary64) (z .from-zero))),
+      λ i l. every-at (λ i. lt (at b i) (at b (i + 1))) n (z .rising) i (omega (arith, z .breaks-length)),
     )
 
 pub others-rising : (m n : ℕ) (breaks coefficients : List Float) → othersFormed m n breaks coefficients ≡ true → RisingBreaks breaks
@@ -60,6 +55,9 @@ others-rising zero n b c h =
 others-rising (suc m) n b c h = set-rising (suc m) n b c (rw (ne-eqb (suc m) 0 (λ e. absurd (omega arith))) at h)
 
 -- a parameter lies on a segment
+pub span-below : (breaks : List Float) (u : Float) → 2 ≤ length breaks → breakSpan breaks u + 1 < length breaks
+span-below b u h = omega arith
+
 pub located-within : (breaks : List Float) (u : Float) → 2 ≤ length breaks → located breaks u .span + 1 < length breaks
 unfolding located
 located-within b u h = rw (le-ltb (length b) 2 h) (omega arith)
@@ -69,7 +67,7 @@ pub set-rows : (m n : ℕ) (breaks coefficients : List Float) (u : Float) → se
     → 6 * (located breaks u .span * m + m) ≤ length coefficients
 unfolding located
 set-rows m n b c u h =
-    let z = set-sizes m n b c h in
+    let z = set-parts m n b c h in
     let l : 2 ≤ length b = omega (arith, z .some, z .breaks-length) in
     rw (le-ltb (length b) 2 l) (let r = row-end (breakSpan b u) n m (n * m) (omega (arith, z .some, z .breaks-length)) (omega arith) in omega
     (arith, z .coefficients-length))
@@ -79,3 +77,31 @@ pub other-rows : (m n : ℕ) (breaks coefficients : List Float) (u : Float) → 
 unfolding othersFormed
 other-rows zero n b c u h = omega arith
 other-rows (suc m) n b c u h = set-rows (suc m) n b c u (rw (ne-eqb (suc m) 0 (λ e. absurd (omega arith))) at h)
+
+-- the widths of a set's segments lie behind its coefficients
+pub set-widths : (m n : ℕ) (breaks coefficients : List Float) → Doubles coefficients → setFormed m n breaks coefficients ≡ true
+    → Widths breaks coefficients (6 * (n * m))
+set-widths m n b c F h i l =
+    let z = set-parts m n b c h in
+    let k : i < n = omega (arith, z .breaks-length) in
+    (omega (arith, z .coefficients-length), kept-width (6 * (n * m)) n b c (z .kept) i k (F (6 * (n * m) + i)))
+
+pub other-widths : (m n : ℕ) (breaks coefficients : List Float) → Doubles coefficients → othersFormed m n breaks coefficients ≡ true
+    → Widths breaks coefficients (6 * (n * m))
+unfolding othersFormed
+other-widths zero n b c F h = λ i l.
+    let p = and-parts (eqb n 0 && eqb (length b) 0) (eqb (length c) 0) h in
+    let z = eqb-true (length b) 0 (and-parts (eqb n 0) (eqb (length b) 0) (p .0) .1) in
+    absurd (omega arith)
+other-widths (suc m) n b c F h = set-widths (suc m) n b c F (rw (ne-eqb (suc m) 0 (λ e. absurd (omega arith))) at h)
+
+-- the coefficients of a set of up to 16 axes are few
+pub set-few : (m n : ℕ) (breaks coefficients : List Float) → m ≤ 16 → setFormed m n breaks coefficients ≡ true → n * m ≤ 320000
+set-few m n b c l h = let z = set-parts m n b c h in
+    let few : n ≤ 20000 = z .most in
+    mul-le-mul few l
+
+pub others-few : (m n : ℕ) (breaks coefficients : List Float) → m ≤ 16 → othersFormed m n breaks coefficients ≡ true → n * m ≤ 320000
+unfolding othersFormed
+others-few zero n b c l h = omega arith
+others-few (suc m) n b c l h = set-few (suc m) n b c l (rw (ne-eqb (suc m) 0 (λ e. absurd (omega arith))) at h)

@@ -6,6 +6,7 @@ use Prim.Native.Nat.{ℕ, _+_, _≤_, _<_}
 use lib.ListN.{length}
 use lib.Ieee.{Float, lt, le}
 use Rattle.window.specs.Cells.{+0, at}
+use Rattle.curve.specs.Form.{widthOf}
 
 -- "breaks rise strictly from 0": the first is not below 0, and each is below the next
 abbrev pub RisingBreaks : List Float → Type 0
@@ -20,3 +21,7 @@ Found breaks x r =
 -- a search may begin at this segment: it is one, where there are segments
 abbrev pub Begins : List Float → ℕ → Type 0
 Begins breaks near = 2 ≤ length breaks → near + 1 < length breaks
+
+-- the widths of the segments lie in these cells, from the cell `from` on
+abbrev pub Widths : List Float → List Float → ℕ → Type 0
+Widths breaks cells from = (i : ℕ) → i + 1 < length breaks → (from + i < length cells) × (at cells (from + i) ≡ widthOf breaks i)

@@ -12,6 +12,7 @@ use Rattle.window.specs.Cells.{+0, at}
 use Rattle.float.specs.Power.{powerOf}
 use Rattle.bspline.specs.Choose.{factorials}
 use Rattle.polynomial.specs.Span.{breakSpan}
+use Rattle.curve.specs.Form.{widthOf}
 use Rattle.query.specs.declared.segment.Derivatives.{Derivatives}
 use Rattle.query.specs.declared.segment.Local.{Local}
 
@@ -35,7 +36,7 @@ atOf p u h = record { value = orderOf p u h 0; first = orderOf p u h 1; second =
 -- `let h = breaks[span + 1] - breaks[span]`, `let u = (x - breaks[span]) / h`
 abbrev pub localOn : List Float → ℕ → Float → Local
 localOn breaks span x =
-    let h = sub binary64 (at breaks (span + 1)) (at breaks span) in
+    let h = widthOf breaks span in
     record { span = span; u = div binary64 (sub binary64 x (at breaks span)) h; width = h }
 
 -- where x lies among the breaks; a set without segments has nothing to find

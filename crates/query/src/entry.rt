@@ -130,16 +130,20 @@ fn write_rows<'a>(
 {
     let d = curve.d;
     let k = curve.k;
+    let n = curve.segments;
+    let others = curve.other_segments;
     let m = d - k;
     let start = curve.start;
+    let from = 6 * (n * k);
+    let other_from = 6 * (others * m);
     let mut span = near;
     let mut other_span = other_near;
     let mut i = 0;
     while i < xs.len() {
         let ranged = range::answered(curve, xs[i], inside);
         let u = (ranged.at - start) / whole;
-        let here = segment::locate(breaks, u, span);
-        let there = segment::locate(other_breaks, u, other_span);
+        let here = segment::locate(breaks, coefficients, from, u, span);
+        let there = segment::locate(other_breaks, other_coefficients, other_from, u, other_span);
         span = here.span;
         other_span = there.span;
         row::put_axes(

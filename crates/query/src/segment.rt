@@ -2,7 +2,8 @@
 ghost use mathlib.Core.Path.{_≡_};
 ghost use Prim.Native.Nat.{_+_, _-_, _*_, _≤_, _<_};
 ghost use lib.ListN.{length};
-ghost use Rattle.query.specs.Search.{RisingBreaks, Begins};
+ghost use Rattle.curve.specs.Form.{widthOf};
+ghost use Rattle.query.specs.Search.{RisingBreaks, Begins, Widths};
 ghost use Rattle.query.specs.Segment.{hornerOf, atOf, localOn, located, coefficientsOf, scaledOf, axisAt};
 use crate::search;
 use bspline::choose::FACT;
@@ -66,24 +67,22 @@ fn scaled(v: Derivatives, scale: f64) -> Derivatives
     }
 }
 
-// Where x lies on a span that is known.
-fn on_span(breaks: &[f64], span: usize, x: f64) -> Local
-    requires { ⌜ span + 1 < length (now breaks) ⌝ }
+// Where x lies on a span that is known, whose width is kept.
+fn on_span(breaks: &[f64], span: usize, width: f64, x: f64) -> Local
+    requires { ⌜ (span < length (now breaks)) × (width ≡ widthOf (now breaks) span) ⌝ }
     ensures { λ r. ⌜ r ≡ localOn (now (breaks .entry)) span x ⌝ }
 {
-    let from = breaks[span];
-    let width = breaks[span + 1] - from;
     Local {
         span,
-        u: (x - from) / width,
+        u: (x - breaks[span]) / width,
         width,
     }
 }
 
-// Where x lies among the breaks, of which the segment `near` is tried first. A set without segments has
-// nothing to find.
-pub fn locate(breaks: &[f64], x: f64, near: usize) -> Local
-    requires { ⌜ RisingBreaks (now breaks) × Begins (now breaks) near ⌝ }
+// Where x lies among the breaks, of which the segment `near` is tried first; the widths of the segments
+// lie in `cells`, from the cell `from` on. A set without segments has nothing to find.
+pub fn locate(breaks: &[f64], cells: &[f64], from: usize, x: f64, near: usize) -> Local
+    requires { ⌜ RisingBreaks (now breaks) × Begins (now breaks) near × Widths (now breaks) (now cells) from ⌝ }
     ensures { λ r. ⌜ r ≡ located (now (breaks .entry)) x ⌝ }
 {
     if breaks.len() < 2 {
@@ -94,7 +93,7 @@ pub fn locate(breaks: &[f64], x: f64, near: usize) -> Local
         };
     }
     let span = search::span(breaks, x, near);
-    on_span(breaks, span, x)
+    on_span(breaks, span, cells[from + span], x)
 }
 
 // Where a search may begin: at the segment `near` if there is such a one, otherwise at the first.

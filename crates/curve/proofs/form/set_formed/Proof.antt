@@ -1,14 +1,19 @@
 -- `form::set_formed` meets its contract: by cases on the tests.
-use mathlib.Core.Bool.{and-false}
-use mathlib.Core.Path.{sym, _∙_}
+use mathlib.Core.Bool.{_&&_, and-false}
+use mathlib.Core.Path.{_≡_, sym, _∙_}
 use Prim.Native.Nat.{_*_, _≤_}
 use native.Mathlib.Nat.{mul-le-mul-left}
 use native.Mathlib.Omega.{arith}
 use borrow.Author.Tests.{le-leb, lt-leb, eq-eqb, ne-eqb}
 use borrow.Author.Needs.{needs}
-use Rattle.curve.specs.Form.{setFormed}
+use lib.Ieee.{Float, binary64, eq, ofBits}
+use Rattle.window.specs.Cells.{+0, at}
+use Rattle.curve.specs.Form.{breaksRise, widthsKept, setFormed}
 use Rattle.curve.proofs.form.set_formed.Statement.{statement}
 use Rattle.curve.proofs.form.set_formed.Tie as tie
+
+abbrev one : Float
+one = ofBits binary64 0x3ff0_0000_0000_0000
 
 returns : tie.Need-returns
 unfolding setFormed
@@ -22,40 +27,55 @@ returns-3 : tie.Need-returns-3
 unfolding setFormed
 returns-3 c = rw (ne-eqb _ _ (c .if3 .taken), and-false)
 
-mul-if4 : tie.Need-mul-if4
-mul-if4 c = let a = c .before .before .before .before .before .args in
-    let h : a .n * a .m ≤ a .n * 16 = mul-le-mul-left (a .n) (c .before .before .before .before .before .pre) in
-    omega arith
-
-mul-if4-2 : tie.Need-mul-if4-2
-mul-if4-2 c = let a = c .before .before .before .before .before .args in
-    let h : a .n * a .m ≤ a .n * 16 = mul-le-mul-left (a .n) (c .before .before .before .before .before .pre) in
-    omega arith
+-- the coefficients are few
+rows-few : (c : tie.Else3) → let a = c .before .before .before .before .before .args in a .n * a .m ≤ a .n * 16
+rows-few c =
+    let b = c .before .before .before .before .before in mul-le-mul-left (b .args .n) (b .pre)
 
 returns-4 : tie.Need-returns-4
 unfolding setFormed
 returns-4 c = rw (ne-eqb _ _ (c .if4 .taken), and-false)
 
-returns-5 : tie.Need-returns-5
+-- the lengths are right
+lengths : (c : tie.Else4) → let a = c .before .before .before .before .before .before .args in
+    setFormed (a .m) (a .n) (a .breaks .now) (a .coefficients .now)
+    ≡ (eq (at (a .breaks .now) 0) +0 && breaksRise (a .breaks .now) (a .n) && eq (at (a .breaks .now) (a .n)) one
+    && widthsKept (6 * (a .n * a .m)) (a .n) (a .breaks .now) (a .coefficients .now))
 unfolding setFormed
-returns-5 c = let zero = c .before .before .before in
-    let cells = zero .before .before in
+lengths c = rw (
+  le-leb _ _ (c .before .before .before .if1 .left),
+  le-leb _ _ (c .before .before .if2 .left),
+  eq-eqb _ _ (c .before .if3 .left),
+  eq-eqb _ _ (c .if4 .left),
+)
+
+widths-kept-requires : tie.Need-widths-kept-requires
+widths-kept-requires c κs =
+    let risen = c .before .before in
+    (omega arith, omega arith, sym (risen .before .rise .ensures) ∙ risen .if6 .taken)
+
+returns-5 : tie.Need-returns-5
+returns-5 c =
+    let risen = c .before .before .before in
+    let zero = risen .before .before in
     rw (
-      le-leb _ _ (cells .before .before .before .if1 .left),
-      le-leb _ _ (cells .before .before .if2 .left),
-      eq-eqb _ _ (cells .before .if3 .left),
-      eq-eqb _ _ (cells .if4 .left),
+      lengths (zero .before .before),
       zero .if5 .taken,
-      sym (c .before .before .rise .ensures) ∙ c .before .if6 .taken,
-    )
+      sym (risen .before .rise .ensures) ∙ risen .if6 .taken,
+      c .before .if7 .taken,
+    ) (c .widths-kept .ensures)
 
 returns-6 : tie.Need-returns-6
-unfolding setFormed
-returns-6 c = rw (sym (c .before .rise .ensures) ∙ c .if6 .left, and-false)
+returns-6 c =
+    let risen = c .before .before in
+    rw (lengths (risen .before .before .before .before), c .if7 .left, and-false)
 
 returns-7 : tie.Need-returns-7
-unfolding setFormed
-returns-7 c = rw (c .if5 .left, and-false)
+returns-7 c =
+    rw (lengths (c .before .before .before .before), sym (c .before .rise .ensures) ∙ c .if6 .left, and-false)
+
+returns-8 : tie.Need-returns-8
+returns-8 c = rw (lengths (c .before .before), c .if5 .left)
 
 pub set-formed-spec : {M : Type 1} → statement M
 set-formed-spec =
@@ -65,13 +85,16 @@ set-formed-spec =
     returns-2
     (λ c. search needs)
     returns-3
-    mul-if4
-    mul-if4-2
+    (λ c. omega (arith, rows-few c))
+    (λ c. omega (arith, rows-few c))
+    (λ c. omega (arith, rows-few c))
     returns-4
     (λ c. search needs)
     (λ c κs. search needs)
     (λ c. search needs)
     (λ c. search needs)
+    widths-kept-requires
     returns-5
     returns-6
-    returns-7)
+    returns-7
+    returns-8)

@@ -17,7 +17,7 @@ use Rattle.query.specs.Row.{Outputs, outputs, filled}
 use Rattle.query.specs.Search.{Begins}
 use Rattle.query.specs.Query.{columnOf, Last}
 use Rattle.query.specs.Range.{rangedOf}
-use Rattle.query.proofs.Sets.{set-rows, other-rows, set-rising, others-rising, located-within}
+use Rattle.query.proofs.Sets.{set-rows, other-rows, set-rising, others-rising, set-widths, other-widths, set-few, others-few, located-within}
 use Rattle.query.proofs.Columns.{rows-columns, column-length, span-found}
 use Rattle.query.proofs.Filled.{SameLengths, as-long, room-for, filled-none, rows-next}
 use Rattle.query.proofs.entry.write_rows.Statement.{statement}
@@ -29,7 +29,7 @@ column c s xs part j = columnOf part c s (rangedOf c (at xs j))
 
 abbrev Inv-loop : tie.InvT-loop
 Inv-loop curve table whole scale breaks coefficients other-breaks other-coefficients near other-near xs inside order q₀ dq₀ ddq₀ dddq₀
-    d k m start span₀ other-span₀ i₀ q dq ddq dddq span other-span i =
+    d k n others m start from other-from span₀ other-span₀ i₀ q dq ddq dddq span other-span i =
     let s = slices breaks coefficients other-breaks other-coefficients in
     let o₀ = outputs q₀ dq₀ ddq₀ dddq₀ in
     let o = outputs q dq ddq dddq in
@@ -38,7 +38,7 @@ Inv-loop curve table whole scale breaks coefficients other-breaks other-coeffici
 
 abbrev μ-loop : tie.MeasureT-loop
 μ-loop curve table whole scale breaks coefficients other-breaks other-coefficients near other-near xs inside order q₀ dq₀ ddq₀ dddq₀
-    d k m start span₀ other-span₀ i₀ q dq ddq dddq span other-span i =
+    d k n others m start from other-from span₀ other-span₀ i₀ q dq ddq dddq span other-span i =
     length xs - i
 
 abbrev Start : Type 0
@@ -60,6 +60,15 @@ well-formed b = formed _ _ (b .pre .0)
 sub-m : tie.Need-sub-m Inv-loop μ-loop
 sub-m c = omega (arith, well-formed (c .before .before .before .before .before .before .before .before .before) .k-high)
 
+-- the coefficients are few
+few : (c : tie.After-slice-known4 Inv-loop μ-loop) → let v = c .before .before .before .before .before .before .before .before .before .args .curve in
+    (v .segments * v .k ≤ 320000) × (v .«other_segments» * (v .d - v .k) ≤ 320000)
+few c =
+    let f = well-formed (c .before .before .before .before .before .before .before .before .before) in (
+      set-few _ _ _ _ (omega (arith, f .k-high, f .d-high)) (f .set-formed),
+      others-few _ _ _ _ (omega (arith, f .d-high)) (f .others-formed),
+    )
+
 loop-holds : tie.Need-loop-holds Inv-loop μ-loop
 unfolding join
 loop-holds c = let b = c .before .before .before .before .before .before .before .before .before in
@@ -70,13 +79,16 @@ answered-requires : tie.Need-answered-requires Inv-loop μ-loop
 answered-requires c κs = λ h. start (c .before .before) .pre .1 .1 .1 .0 h (c .before .before .loop .i) (c .before .loop-test .taken)
 
 locate-requires : tie.Need-locate-requires Inv-loop μ-loop
-locate-requires c κs = let l = c .before .before .before .before in (set-rising _ _ _ _ (well-formed (start l) .set-formed), l .loop .inv .1)
+locate-requires c κs = let l = c .before .before .before .before in
+    let known = l .before .before .before .before .before .before .before .before in
+    let f = well-formed (start l) .set-formed in
+    (set-rising _ _ _ _ f, l .loop .inv .1, set-widths _ _ _ _ (known .shared-slice-known2 .given) f)
 
 locate-requires-2 : tie.Need-locate-requires-2 Inv-loop μ-loop
-locate-requires-2 c κs = let l = c .before .before .before .before .before in (
-  others-rising _ _ _ _ (well-formed (start l) .others-formed),
-  l .loop .inv .2,
-)
+locate-requires-2 c κs = let l = c .before .before .before .before .before in
+    let known = l .before .before .before .before .before .before in
+    let f = well-formed (start l) .others-formed in
+    (others-rising _ _ _ _ f, l .loop .inv .2, other-widths _ _ _ _ (known .shared-slice-known4 .given) f)
 
 mul-put-axes : tie.Need-mul-put-axes Inv-loop μ-loop
 mul-put-axes c = let l = c .before .before .before .before .before .before in
@@ -168,6 +180,10 @@ write-rows-spec =
     Inv-loop
     μ-loop
     sub-m
+    (λ c. omega (arith, few c .0))
+    (λ c. omega (arith, few c .0))
+    (λ c. omega (arith, few c .1))
+    (λ c. omega (arith, few c .1))
     loop-holds
     (λ c. omega arith)
     (λ c. omega arith)
