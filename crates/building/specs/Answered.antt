@@ -11,6 +11,7 @@ use Rattle.bspline.specs.Segments.{Polynomial}
 use Rattle.request.specs.declared.parameters.Spacing.the-variants.{Listed}
 use Rattle.curve.specs.declared.Curve.{Curve}
 use Rattle.curve.specs.declared.Mode.{Mode}
+use Rattle.curve.specs.Form.{withWidths}
 use Rattle.smoothing.specs.Answer.{Answer, andThen}
 use Rattle.smoothing.specs.Answer.Answer.{done, refused}
 use Rattle.smoothing.specs.Request.{Lane, Limits, axisCount, smoothedAxes}
@@ -48,8 +49,9 @@ runIn l m r w = computedIn (planOf l m) (length (otherAxes l)) (r .computed) w
 abbrev pub resultsFrom : Plan → ℕ → Computed → List Float → Results → Results
 resultsFrom p j r w s =
     results
-    (onto (memoryAt p w .breaks) (s .breaks)) (onto (memoryAt p w .coefficients) (s .coefficients))
-    (onto (otherAt p j r w .breaks) (s .otherBreaks)) (onto (otherAt p j r w .coefficients) (s .otherCoefficients))
+    (onto (memoryAt p w .breaks) (s .breaks)) (onto (withWidths (memoryAt p w .breaks) (memoryAt p w .coefficients)) (s .coefficients))
+    (onto (otherAt p j r w .breaks) (s .otherBreaks))
+    (onto (withWidths (otherAt p j r w .breaks) (otherAt p j r w .coefficients)) (s .otherCoefficients))
     (onto (take (p .axes) (r .errors)) (s .errors))
 
 -- they have room for that
@@ -60,17 +62,17 @@ pub record Writable (p : Plan) (j : ℕ) (r : Computed) (cells : ℕ) (s : Resul
   pub waypoints-fit : p .samples + 16 ≤ p .room
   pub segments-few : r .«other_segments» < p .samples
   pub breaks : p .count - 5 + 1 ≤ length (s .breaks)
-  pub coefficients : (p .count - 5) * (6 * p .axes) ≤ length (s .coefficients)
+  pub coefficients : (p .count - 5) * (6 * p .axes) + (p .count - 5) ≤ length (s .coefficients)
   pub other-breaks : p .samples ≤ length (s .otherBreaks)
-  pub other-coefficients : r .«other_segments» * (6 * j) ≤ length (s .otherCoefficients)
+  pub other-coefficients : r .«other_segments» * (6 * j) + r .«other_segments» ≤ length (s .otherCoefficients)
   pub errors : p .axes ≤ length (s .errors)
 
 -- 19 lets these lengths through
 pub record Fitting (d n : ℕ) (m : Limits) (s : Results) : Type 0 where
   pub breaks : m .segments + 1 ≤ length (s .breaks)
-  pub coefficients : m .segments * (6 * d) ≤ length (s .coefficients)
+  pub coefficients : m .segments * (6 * d) + m .segments ≤ length (s .coefficients)
   pub other-breaks : n ≤ length (s .otherBreaks)
-  pub other-coefficients : n * (6 * d) ≤ length (s .otherCoefficients)
+  pub other-coefficients : n * (6 * d) + n ≤ length (s .otherCoefficients)
   pub errors : d ≤ length (s .errors)
 
 -- what 18, 20 and 19 let through

@@ -8,6 +8,7 @@ use lib.Ieee.{Float}
 use Rattle.window.specs.Cells.{+0, zeros}
 use Rattle.curve.specs.declared.Curve.{Curve}
 use Rattle.curve.specs.declared.Mode.{Mode}
+use Rattle.curve.specs.Form.{withWidths}
 use Rattle.smoothing.specs.Answer as answers
 use Rattle.smoothing.specs.Answer.Answer.{done, refused, exhausted}
 use Rattle.smoothing.specs.Request.{Request}
@@ -99,8 +100,8 @@ lengthsOf work s =
 unfoldable pub resultsAfter : answers.Answer Result → Results → Results
 resultsAfter (done x) s =
     results
-    (onto (x .selected .breaks) (s .breaks)) (onto (x .selected .coefficients) (s .coefficients))
-    (onto (x .other .breaks) (s .otherBreaks)) (onto (x .other .coefficients) (s .otherCoefficients))
+    (onto (x .selected .breaks) (s .breaks)) (onto (withWidths (x .selected .breaks) (x .selected .coefficients)) (s .coefficients))
+    (onto (x .other .breaks) (s .otherBreaks)) (onto (withWidths (x .other .breaks) (x .other .coefficients)) (s .otherCoefficients))
     (onto (x .report .errors) (s .errors))
 resultsAfter (refused n) s = s
 resultsAfter (exhausted x) s = s

@@ -105,7 +105,7 @@ pub(crate) fn walk(
     depth: usize,
 ) -> Figure
     requires { ⌜ (place < k) × (k ≤ 16) × (2 ≤ length (now breaks)) × (length (now breaks) ≤ 20001)
-        × (length (now coefficients) ≡ 6 * ((length (now breaks) - 1) * k))
+        × (6 * ((length (now breaks) - 1) * k) ≤ length (now coefficients))
         × (axis < d) × (d ≤ 16) × (2 ≤ n) × (n ≤ 20000) × (length (now points) ≡ d * n) × (spacing ≡ Listed → length (now parameters) ≡ n) ⌝ }
     requires { ⌜ Rises (length (now breaks) - 1) (at (now breaks)) × Rises (n - 1) (normalisedOf spacing (now parameters) n) ⌝ }
     ensures { λ r. ⌜ figureIn r ≡ figureOf depth (axisOf (now (breaks .entry)) (now (coefficients .entry)) k place (now (points .entry)) d

@@ -6,7 +6,7 @@ use native.Mathlib.Omega.{arith}
 use borrow.Author.Tests.{ltb-false, eqb-true, not-false}
 use lib.Dec.{eqb}
 use lib.ListN.{length}
-use Rattle.request.proofs.Anys.{or-none}
+use Rattle.arith.proofs.Truth.{or-none}
 use Rattle.smoothing.specs.Request.{Lane, Limits}
 use Rattle.smoothing.specs.Checks.{wideLane, wideLimits, miscountedPoints, Room, shortRoom}
 use Rattle.smoothing.proofs.Passed.{passed}
@@ -25,8 +25,8 @@ in-domain l m e =
 -- what 19 lets through
 pub has-room : (room : Room) (l : Lane) (m : Limits) → shortRoom room l m ≡ false
     → ((max (l .n) (m .segments) + 16) * (16 * l .d + 32) ≤ room .work) × (m .segments + 1 ≤ room .breaks)
-    × (m .segments * (6 * l .d) ≤ room .coefficients)
-    × (l .n ≤ room .otherBreaks) × (l .n * (6 * l .d) ≤ room .otherCoefficients) × (l .d ≤ room .errors)
+    × (m .segments * (6 * l .d) + m .segments ≤ room .coefficients)
+    × (l .n ≤ room .otherBreaks) × (l .n * (6 * l .d) + l .n ≤ room .otherCoefficients) × (l .d ≤ room .errors)
 unfolding shortRoom
 has-room room l m e =
     let a = or-none _ _ e in

@@ -6,11 +6,11 @@ use native.Mathlib.Omega.{arith}
 use borrow.Author.Tests.{not-false, eqb-true}
 use lib.Dec.{eqb}
 use lib.ListN.{length, getD}
+use Rattle.arith.proofs.Truth.{or-none}
 use Rattle.request.specs.declared.parameters.Spacing.{Spacing}
 use Rattle.request.specs.declared.parameters.Spacing.the-variants.{Listed}
 use Rattle.request.specs.Parameters.{miscounted, misplaced}
 use Rattle.request.specs.Points.{unfit}
-use Rattle.request.proofs.Anys.{or-none}
 use Rattle.request.proofs.Counts.{waypoint-count}
 use Rattle.smoothing.specs.Request.{Lane, axisCount, smoothedAxes, toleranceList}
 use Rattle.smoothing.specs.Rows.{taskOf, laneTask, otherAxes}

@@ -66,13 +66,13 @@ fn is_short(
     if breaks < segments + 1 {
         return true;
     }
-    if coefficients < segments * (6 * d) {
+    if coefficients < segments * (6 * d) + segments {
         return true;
     }
     if other_breaks < n {
         return true;
     }
-    if other_coefficients < n * (6 * d) {
+    if other_coefficients < n * (6 * d) + n {
         return true;
     }
     errors < d

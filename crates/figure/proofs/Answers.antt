@@ -1,7 +1,7 @@
 -- Answers computed from the definition alone: each refusal, with what the checks after it would refuse too, so that their order shows; and
 -- three figures.
 use mathlib.Core.Path.{_≡_, refl}
-use mathlib.Core.List.{List, [], _∷_}
+use mathlib.Core.List.{List, [], _∷_, _++_}
 use Prim.Native.Nat.{ℕ}
 use lib.ListN.{replicate}
 use lib.Ieee.{Float, binary64, ofBits, div, ofInt, le, sub, lt, eq, mul, add, neg, isNan, toBits}
@@ -19,7 +19,7 @@ use Rattle.request.specs.Points.{unfit}
 use Rattle.curve.specs.declared.Curve.{Curve}
 use Rattle.curve.specs.declared.Mode.the-variants.{Error}
 use Rattle.arith.specs.First.{firstOf}
-use Rattle.curve.specs.Form.{Slices, slices, axesFormed, setFormed, othersFormed, rangeFormed, wellFormed}
+use Rattle.curve.specs.Form.{Slices, slices, axesFormed, setFormed, widthsKept, othersFormed, rangeFormed, wellFormed}
 use Rattle.figure.specs.Certify.{CertificateOutcome, certifyOf, outcome}
 use Rattle.figure.specs.Figure.{absoluteEnd, figure, figureOf, halvedFigure, intersectionFigure, larger, sixFigure, smaller}
 use Rattle.figure.specs.Halving.{level}
@@ -52,12 +52,12 @@ curve d segments = record {
 }
 
 abbrev flat : Slices
-flat = slices (+0 ∷ one ∷ []) (zeros 6) [] []
+flat = slices (+0 ∷ one ∷ []) (zeros 6 ++ (one ∷ [])) [] []
 
 -- what the answers below are computed by
 unfoldable pub checks : Unit {0}
 unfolding certifyOf unfit any misplaced miscounted parameterOf unreliable lengthOf normalisedOf wellFormed axesFormed firstOf setFormed
-    othersFormed rangeFormed ofBits div ofInt le sub lt eq
+    widthsKept othersFormed rangeFormed ofBits toBits div ofInt le sub lt eq
 checks = tt
 
 unfoldable pub figures : Unit {0}
@@ -85,7 +85,7 @@ unfolding checks
 numbers = refl
 
 -- the figure of the curve 1/2 against the line 0, at depth 0
-pub half : certifyOf (curve 1 1) (slices (+0 ∷ one ∷ []) (float 0x3fe0_0000_0000_0000 ∷ zeros 5) [] []) (+0 ∷ +0 ∷ []) 2 Even [] 0 0
+pub half : certifyOf (curve 1 1) (slices (+0 ∷ one ∷ []) (float 0x3fe0_0000_0000_0000 ∷ zeros 5 ++ (one ∷ [])) [] []) (+0 ∷ +0 ∷ []) 2 Even [] 0 0
     ≡ outcome 0 (figure (float 0x3fe0_0000_0000_0010))
 unfolding checks figures
 half = refl
@@ -94,7 +94,7 @@ half = refl
 -- the largest of its right half is 1.2, of its left half 0.375.
 abbrev bulge : ℕ → CertificateOutcome
 bulge depth = certifyOf (curve 1 1)
-    (slices (+0 ∷ one ∷ []) (+0 ∷ +0 ∷ +0 ∷ +0 ∷ float 0x4028_0000_0000_0000 ∷ float 0xc028_0000_0000_0000 ∷ []) [] []) (+0 ∷ +0 ∷ []) 2
+    (slices (+0 ∷ one ∷ []) (+0 ∷ +0 ∷ +0 ∷ +0 ∷ float 0x4028_0000_0000_0000 ∷ float 0xc028_0000_0000_0000 ∷ one ∷ []) [] []) (+0 ∷ +0 ∷ []) 2
     Even [] 0 depth
 
 pub whole-bulge : bulge 0 ≡ outcome 0 (figure (float 0x4003_3333_3333_3343))

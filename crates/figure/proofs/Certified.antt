@@ -1,27 +1,25 @@
 -- What a certificate says: the distance rule, for the selected axis that was asked for.
 use mathlib.Core.Path.{_≡_, refl, sym, ap, subst, _∙_}
-use mathlib.Core.Bool.{Bool, true, false, not, cond, _&&_, _||_}
+use mathlib.Core.Bool.{Bool, true, false, not, cond, _||_}
 use mathlib.Core.List.{List}
 use Prim.Native.Nat.{ℕ, zero, suc, _+_, _-_, _*_, _≤_, _<_}
 use native.Mathlib.Omega.{arith}
 use borrow.Author.Tests.{eqb-true, ltb-false, ltb-true, not-false}
-use lib.Dec.{T, eqb, leb, ltb}
+use lib.Dec.{T, eqb, ltb}
 use lib.ListN.{length, getD}
-use lib.Ieee.{Float, binary64, eq, lt, ofBits}
-use lib.Ieee.Bits.{is-true}
-use lib.Ieee.Fits.{and-l, and-r}
-use Rattle.window.specs.Cells.{+0, at}
+use lib.Ieee.{Float, lt}
+use Rattle.arith.proofs.Truth.{or-none}
+use Rattle.window.specs.Cells.{at, Doubles}
 use Rattle.request.specs.declared.parameters.Spacing.{Spacing}
-use Rattle.request.specs.Parameters.{Doubles, misplaced, normalisedOf, unreliable}
+use Rattle.request.specs.Parameters.{misplaced, normalisedOf, unreliable}
 use Rattle.request.specs.Points.{unfit}
-use Rattle.request.proofs.Anys.{or-none}
 use Rattle.request.proofs.Counts.{waypoint-count}
 use Rattle.request.proofs.Normalised.{normalised-first, normalised-last, normalised-rises}
 use Rattle.curve.specs.declared.Curve.{Curve}
-use Rattle.curve.specs.Form.{Slices, breaksRise, setFormed, wellFormed}
+use Rattle.curve.specs.Form.{Slices, setFormed, wellFormed}
 use Rattle.curve.specs.Places.{positionOf}
 use Rattle.arith.proofs.Firsts.{every-at, first-passes}
-use Rattle.curve.proofs.Formed.{axes-good, formed, set-sizes}
+use Rattle.curve.proofs.Formed.{axes-good, formed, set-parts}
 use Rattle.figure.specs.Certify.{Certified, CertificateOutcome, certifiedAxis, certifyOf, outcome}
 use Rattle.figure.specs.Distance.{Rises}
 use Rattle.figure.specs.Figure.{Figure, figure, figureOf, noFigure}
@@ -31,19 +29,12 @@ use Rattle.figure.proofs.Distance.{distance-theorem}
 -- ---- a set of segments that is well formed
 -- its breaks rise strictly from 0 to 1
 set-rises : (m n : ℕ) (breaks coefficients : List Float) → setFormed m n breaks coefficients ≡ true → Rises n (at breaks)
-unfolding setFormed
 set-rises m n b c h =
-    let t = leb 1 n && leb n 20000 && eqb (length b) (n + 1) && eqb (length c) (6 * (n * m)) in
-    let zero = eq (at b 0) +0 in
-    let one = eq (at b n) (ofBits binary64 0x3ff0_0000_0000_0000) in
-    let all : T (t && zero && breaksRise b n && one) = subst T (sym h) tt in
-    let below = and-l (t && zero && breaksRise b n) one all in
+    let z = set-parts m n b c h in
     record {
-      from-zero = and-r t zero (and-l (t && zero) (breaksRise b n) below);
-      rising = λ i l. subst T (sym (every-at (λ i. lt (at b i) (at b (i + 1))) n (is-true (breaksRise b n)
-          (and-r (t && zero) (breaksRise b n) below))
-          i l)) tt;
-      to-one = and-r (t && zero && breaksRise b n) one all;
+      from-zero = subst T (sym (z .from-zero)) tt;
+      rising = λ i l. subst T (sym (every-at (λ i. lt (at b i) (at b (i + 1))) n (z .rising) i l)) tt;
+      to-one = subst T (sym (z .to-one)) tt;
     }
 
 -- ---- the place of an axis
@@ -102,22 +93,22 @@ module _ (c : Curve) (s : Slices) (points : List Float) (n : ℕ) (spacing : Spa
       )
 
   module _ (A : Accepted) where
-    pub lengths : (c .k ≤ 16) × (2 ≤ length (s .breaks)) × (length (s .breaks) ≤ 20001) × (length (s .coefficients) ≡ 6 *
-        ((length (s .breaks) - 1) * c .k))
+    pub lengths : (c .k ≤ 16) × (2 ≤ length (s .breaks)) × (length (s .breaks) ≤ 20001)
+        × (6 * ((length (s .breaks) - 1) * c .k) ≤ length (s .coefficients))
     lengths =
         let F = formed c s (A .well-formed) in
-        let z = set-sizes (c .k) (c .segments) (s .breaks) (s .coefficients) (F .set-formed) in
+        let z = set-parts (c .k) (c .segments) (s .breaks) (s .coefficients) (F .set-formed) in
         let e : length (s .breaks) - 1 ≡ c .segments = omega (arith, z .breaks-length) in (
           omega (arith, F .k-high, F .d-high),
           omega (arith, z .some, z .breaks-length),
           omega (arith, z .most, z .breaks-length),
-          z .coefficients-length ∙ ap (λ (m : ℕ). 6 * (m * c .k)) (sym e),
+          rw e (omega (arith, z .coefficients-length)),
         )
 
     pub breaks-rise : Rises (length (s .breaks) - 1) (at (s .breaks))
     breaks-rise =
         let F = formed c s (A .well-formed) in
-        let z = set-sizes (c .k) (c .segments) (s .breaks) (s .coefficients) (F .set-formed) in
+        let z = set-parts (c .k) (c .segments) (s .breaks) (s .coefficients) (F .set-formed) in
         let e : c .segments ≡ length (s .breaks) - 1 = omega (arith, z .breaks-length) in
         subst (λ (m : ℕ). Rises m (at (s .breaks))) e (set-rises (c .k) (c .segments) (s .breaks) (s .coefficients) (F .set-formed))
 

@@ -40,8 +40,8 @@ module _ (room : Room) (r : Request) where
   m = r .limits .segments
 
   pub roomy : d ≤ 2 → n ≤ 100 → m ≤ 100
-      → (7424 ≤ room .work) × (101 ≤ room .breaks) × (1200 ≤ room .coefficients) × (100 ≤ room .otherBreaks)
-      × (1200 ≤ room .otherCoefficients)
+      → (7424 ≤ room .work) × (101 ≤ room .breaks) × (1300 ≤ room .coefficients) × (100 ≤ room .otherBreaks)
+      × (1300 ≤ room .otherCoefficients)
       × (2 ≤ room .errors) → buildIn room r ≡ buildOf r
   unfolding buildIn buildOf shortRoom
   roomy x y z w = ap (λ (b : Bool). answerOf b r) fine
@@ -57,9 +57,9 @@ module _ (room : Room) (r : Request) where
           rw (
             le-ltb (room .work) ((max n m + 16) * (16 * d + 32)) (omega (arith, work, w .0)),
             le-ltb (room .breaks) (m + 1) (omega (arith, w .1)),
-            le-ltb (room .coefficients) (m * (6 * d)) (omega (arith, selected, w .2)),
+            le-ltb (room .coefficients) (m * (6 * d) + m) (omega (arith, selected, w .2)),
             le-ltb (room .otherBreaks) n (omega (arith, w .3)),
-            le-ltb (room .otherCoefficients) (n * (6 * d)) (omega (arith, other, w .4)),
+            le-ltb (room .otherCoefficients) (n * (6 * d) + n) (omega (arith, other, w .4)),
             le-ltb (room .errors) d (omega (arith, w .5)),
           )
 

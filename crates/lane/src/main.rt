@@ -46,9 +46,9 @@ fn main() {
     let mut cells = [0.0; 201];
     let mut work = [0.0; 7424];
     let mut breaks = [0.0; 101];
-    let mut coefficients = [0.0; 1200];
+    let mut coefficients = [0.0; 1300];
     let mut other_breaks = [0.0; 100];
-    let mut other_coefficients = [0.0; 1200];
+    let mut other_coefficients = [0.0; 1300];
     let mut errors = [0.0; 2];
     run(
         &mut bytes,

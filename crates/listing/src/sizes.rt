@@ -1,9 +1,10 @@
 // How many cells a curve's parts have.
 ghost use Prim.Native.Nat.{_≤_};
 
-// Six for each of d axes on each of n segments; none above document 01's domain.
+// Six coefficients for each of d axes on each of n segments, and the width of each segment; none above
+// document 01's domain.
 pub fn rows(d: usize, n: usize) -> usize
-    ensures { λ r. ⌜ r ≤ 1920000 ⌝ }
+    ensures { λ r. ⌜ r ≤ 1940000 ⌝ }
 {
     if 16 < d {
         return 0;
@@ -11,7 +12,7 @@ pub fn rows(d: usize, n: usize) -> usize
     if 20000 < n {
         return 0;
     }
-    6 * (n * d)
+    6 * (n * d) + n
 }
 
 // The breaks of n segments: none without segments, and none above the domain.

@@ -13,9 +13,9 @@ abbrev pub Room01 : Room → Type 0
 Room01 r =
     (r .work ≤ 5764608)
     × (r .breaks ≤ 20001)
-    × (r .coefficients ≤ 1920000)
+    × (r .coefficients ≤ 1940000)
     × (r .«other_breaks» ≤ 20000)
-    × (r .«other_coefficients» ≤ 1920000)
+    × (r .«other_coefficients» ≤ 1940000)
     × (r .errors ≤ 16)
 
 -- a part begins at cell 8

@@ -5,7 +5,7 @@ use Prim.Native.Nat.{ℕ}
 use borrow.Author.Tests.{eqb-true}
 use lib.Dec.{eqb}
 use lib.Ieee.{Float}
-use Rattle.request.proofs.Anys.{or-none}
+use Rattle.arith.proofs.Truth.{or-none}
 use Rattle.bspline.specs.Segments.{Polynomial}
 use Rattle.smoothing.specs.Answer.{Answer, andThen, unless}
 use Rattle.smoothing.specs.Answer.Answer.{done, refused, exhausted}

@@ -12,14 +12,13 @@ use lib.Ieee.{Float, fin, binary64, fits, round}
 use lib.Ieee.Fits.{add-fits, sub-fits, div-fits}
 use lib.Ieee.Positive.{positive}
 use Rattle.arith.specs.Operations.{floats}
-use Rattle.window.specs.Cells.{at}
+use Rattle.window.specs.Cells.{at, Doubles}
 use Rattle.fraction.proofs.Rounding.{add-rounded, quotient-number, rounded-not-nan}
 use Rattle.float.specs.Order.{totalLe}
 use Rattle.window.specs.Rows.{join}
 use Rattle.bspline.proofs.InsertPlaced.{span-within}
 use Rattle.sorting.specs.Sort.{placed, sortOf}
 use Rattle.sorting.specs.Thin.{thinned, dedupOf, keptOf}
-use Rattle.request.specs.Parameters.{Doubles}
 use Rattle.seed.specs.Knots.{around, anchorKnots, rawKnots, seedOf}
 use Rattle.seed.specs.Anchors.{anchorsOf}
 use Rattle.smoothing.specs.Rows.{Task}

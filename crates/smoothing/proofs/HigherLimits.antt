@@ -5,12 +5,12 @@ use mathlib.Core.Logic.{_⊎_, inl, inr}
 use mathlib.Core.Bool.{Bool, true, false, cond, true≢false, _||_}
 use Prim.Native.Nat.{ℕ, suc, _<_, zero, _+_, _≤_, max}
 use native.Mathlib.Omega.{arith}
+use Rattle.arith.proofs.Truth.{or-none}
 use Rattle.smoothing.specs.Answer.{Answer, andThen, numberOf}
 use Rattle.smoothing.specs.Answer.Answer.{done, refused, exhausted}
 use borrow.Author.Tests.{ltb-true, ltb-false, lt-ltb, le-ltb}
 use lib.Dec.{ltb, eqb}
 use lib.ListN.{length}
-use Rattle.request.proofs.Anys.{or-none}
 use Rattle.smoothing.specs.Request.{Lane, Limits}
 use Rattle.smoothing.specs.Checks.{wideLane, wideLimits, refusalOf, miscountedPoints}
 use Rattle.smoothing.specs.Rows.{Task, Units, laneTask, laneUnits}

@@ -10,9 +10,10 @@ use lib.ListN.{length, replicate, length-append, length-replicate, List·getD-ap
 use lib.Seq.{getD-append-add}
 use lib.Ieee.{Float, nan, binary64, fits, lt, le, ofBits}
 use lib.Ieee.Scale.{finite}
+use Rattle.arith.proofs.Truth.{or-none}
 use Rattle.arith.specs.Operations.{floats}
 use Rattle.window.specs.Window.{window}
-use Rattle.window.specs.Cells.{+0, at, zeros}
+use Rattle.window.specs.Cells.{+0, at, zeros, Doubles}
 use Rattle.window.proofs.Windows.{length-window, window-cell}
 use Rattle.fraction.proofs.Comparison.{between-finite, number-self}
 use Rattle.fraction.proofs.Value.{finite-not-nan}
@@ -23,8 +24,7 @@ use Rattle.bspline.proofs.InsertPlaced.{span-within}
 use Rattle.sorting.proofs.Kept.{Between}
 use Rattle.polynomial.specs.Outcome as audits
 use Rattle.request.specs.declared.parameters.Spacing.{Spacing}
-use Rattle.request.specs.Parameters.{Doubles, normalisedOf, misplaced, unreliable}
-use Rattle.request.proofs.Anys.{or-none}
+use Rattle.request.specs.Parameters.{normalisedOf, misplaced, unreliable}
 use Rattle.request.proofs.Normalised.{normalised-rises}
 use Rattle.request.proofs.ZeroToOne.{normalised-fits, normalised-finite, inner-above, inner-below}
 use Rattle.seed.specs.Knots.{seedOf}

@@ -13,14 +13,14 @@ use lib.Ieee.Fits.{div-fits}
 use lib.Ieee.Scale.{finite}
 use Rattle.arith.specs.Operations.{floats}
 use Rattle.arith.proofs.Rows.{row-end}
-use Rattle.window.specs.Cells.{at}
+use Rattle.window.specs.Cells.{at, Doubles}
 use Rattle.window.proofs.Joined.{list-at, list-length, table-length}
 use Rattle.curve.specs.Form.{axesFormed}
 use Rattle.curve.specs.Places.{positionOf, othersBelow}
 use Rattle.curve.proofs.Formed.{axes-good}
 use Rattle.curve.proofs.Placing.{others-count}
 use Rattle.seed.specs.Corridor.{coordinate}
-use Rattle.request.specs.Parameters.{Doubles, normalisedOf, misplaced, unreliable}
+use Rattle.request.specs.Parameters.{normalisedOf, misplaced, unreliable}
 use Rattle.request.specs.Points.{unfit}
 use Rattle.request.proofs.Anys.{any-none}
 use Rattle.request.proofs.Counts.{waypoint-count}

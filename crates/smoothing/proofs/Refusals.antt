@@ -9,7 +9,7 @@ use lib.Dec.{T, eqb, leb, leb→le}
 use lib.ListN.{length}
 use lib.Ieee.{Float, lt}
 use lib.Ieee.Fits.{and-l, and-r}
-use Rattle.request.specs.Parameters.{Doubles, misplaced, unreliable}
+use Rattle.request.specs.Parameters.{misplaced, unreliable}
 use Rattle.request.specs.Points.{unfit}
 use Rattle.bspline.specs.Segments.{Polynomial, polynomialOf}
 use Rattle.polynomial.specs.declared.interval.AuditOutcome.{AuditOutcome as Ending}
@@ -19,7 +19,7 @@ use Rattle.polynomial.specs.Audit.{Audit, auditOf}
 use Rattle.polynomial.specs.Span.{segments}
 use Rattle.polynomial.proofs.Above.{audit-not-12}
 use Rattle.arith.specs.Operations.{floats}
-use Rattle.window.specs.Cells.{at}
+use Rattle.window.specs.Cells.{at, Doubles}
 use Rattle.smoothing.specs.Rising.{Rising}
 use Rattle.smoothing.proofs.SegmentsRise.{breaks-count, break-at}
 use Rattle.smoothing.proofs.KnotsRise.{KnotsRising, chord-rising, keeps-rising}

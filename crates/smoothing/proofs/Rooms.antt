@@ -10,6 +10,8 @@ use lib.ListN.{length}
 use Rattle.bspline.specs.Segments.{Polynomial}
 use Rattle.bspline.proofs.Breaks.{polynomial-room}
 use Rattle.window.proofs.Joined.{list-length}
+use Rattle.curve.specs.Form.{withWidths}
+use Rattle.curve.proofs.Formed.{with-length}
 use Rattle.arith.specs.Operations.{floats}
 use Rattle.normal.specs.Solve.{solveOf}
 use Rattle.polynomial.specs.Audit.{Audit}
@@ -83,12 +85,12 @@ first-knots-few q e two = go (curved q)
     go false = omega arith
 
 -- ---- "the lent room needed": selected breaks max_segments + 1 and coefficients 6d times max_segments; other breaks n and coefficients
--- 6dn; errors d
+-- 6dn; errors d; and max_segments and n cells more for the widths
 pub record Fits (l : Lane) (m : Limits) (x : Result) : Type 0 where
   pub breaks : length (x .selected .breaks) ≤ m .segments + 1
-  pub coefficients : length (x .selected .coefficients) ≤ m .segments * (6 * l .d)
+  pub coefficients : length (withWidths (x .selected .breaks) (x .selected .coefficients)) ≤ m .segments * (6 * l .d) + m .segments
   pub other-breaks : length (x .other .breaks) ≤ l .n
-  pub other-coefficients : length (x .other .coefficients) ≤ l .n * (6 * l .d)
+  pub other-coefficients : length (withWidths (x .other .breaks) (x .other .coefficients)) ≤ l .n * (6 * l .d) + l .n
   pub errors : length (x .report .errors) ≤ l .d
 
 others-fit : (l : Lane) (p : Polynomial Float) → 2 ≤ l .n → otherOf l ≡ done p
@@ -120,10 +122,10 @@ accepted-fits l m x h =
       breaks = r .breaks;
       coefficients =
           let c : (length (a .chosen .curve .breaks) - 1) * (6 * axisCount l) ≤ m .segments * (6 * l .d) =
-          mul-le-mul (omega (arith, r .breaks)) (omega arith) in omega (arith, r .coefficients, c);
+          mul-le-mul (omega (arith, r .breaks)) (omega arith) in omega (arith, r .breaks, r .coefficients, c, with-length (a .chosen .curve .breaks) (a .chosen .curve .coefficients));
       other-breaks = o .0;
       other-coefficients =
           let c : (length (a .others .breaks) - 1) * (6 * length (otherAxes l)) ≤ l .n * (6 * l .d) =
-          mul-le-mul (omega (arith, o .0)) (omega arith) in omega (arith, o .1, c);
+          mul-le-mul (omega (arith, o .0)) (omega arith) in omega (arith, o .0, o .1, c, with-length (a .others .breaks) (a .others .coefficients));
       errors = omega (arith, r .errors, k);
     })

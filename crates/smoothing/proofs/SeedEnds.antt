@@ -7,8 +7,8 @@ use mathlib.Core.List.{[], _∷_, _++_}
 use Prim.Native.Nat.{ℕ, _+_, _-_, _*_, _<_}
 use native.Mathlib.Omega.{arith}
 use lib.ListN.{length}
+use Rattle.window.specs.Cells.{Doubles}
 use Rattle.arith.specs.Loop.{whilst}
-use Rattle.request.specs.Parameters.{Doubles}
 use Rattle.request.proofs.ZeroToOne.{normalised-apart}
 use Rattle.seed.specs.Corridor.{lowest, highest, narrowed}
 use Rattle.seed.specs.Anchors.{Scan, unscanned, anchorsOf}

@@ -1,11 +1,10 @@
 -- The polynomial of rising knots has a segment for each span, and its breaks are the knots: strictly rising, from 0 to 1.
 use mathlib.Core.Path.{_≡_, refl, sym, ap, subst, _∙_}
-use mathlib.Core.Bool.{true, false, not, _&&_}
+use mathlib.Core.Bool.{true, false, not}
 use mathlib.Core.List.{List, [], _∷_, _++_}
 use Prim.Native.Nat.{ℕ, suc, _+_, _-_, _*_, _≤_, _<_}
 use native.Mathlib.Omega.{arith}
 use native.Mathlib.Decide.{decLt}
-use borrow.Author.Tests.{le-leb, eq-eqb}
 use lib.Dec.{T}
 use lib.ListN.{length, length-append, List·getD-append}
 use lib.Seq.{getD-append-add}
@@ -19,14 +18,19 @@ use Rattle.window.specs.Rows.{join, listOf}
 use Rattle.bspline.specs.Segments.{Polynomial, spanWidth, polynomialOf}
 use Rattle.bspline.proofs.Breaks.{breakTurn, breaks-are, polynomial-room}
 use Rattle.window.proofs.Joined.{list-at, list-length}
-use Rattle.request.proofs.Difference.{difference-above}
-use Rattle.curve.specs.Form.{breaksRise, setFormed}
+use Rattle.fraction.proofs.Difference.{difference-above}
+use Rattle.curve.specs.Form.{breaksRise, withWidths, setFormed}
+use Rattle.curve.proofs.Formed.{set-formed, with-length, with-kept}
 use Rattle.arith.proofs.Firsts.{first-all, every-all}
 use Rattle.smoothing.specs.Rising.{Rising}
 
-ends-equal : (eq +0 +0 && true && eq (floats .one) (ofBits binary64 0x3ff0_0000_0000_0000)) ≡ true
+zero-equal : eq +0 +0 ≡ true
 unfolding eq ofBits
-ends-equal = refl
+zero-equal = refl
+
+one-equal : eq (floats .one) (ofBits binary64 0x3ff0_0000_0000_0000) ≡ true
+unfolding eq ofBits
+one-equal = refl
 
 module _ (t : List Float) (m : ℕ) (r : Rising t m) where
   abbrev knotAt : ℕ → Float
@@ -83,26 +87,25 @@ module _ (t : List Float) (m : ℕ) (r : Rising t m) where
         rw (break-at i (omega arith), break-at (i + 1) (omega arith), ← e) (ap not (r .rise (5 + i) (omega arith) (omega arith)))))
 
     -- a set of segments as the curve's form asks it
-    pub segments-formed : m ≤ 20005 → setFormed d (m - 5) (p .breaks) (p .coefficients) ≡ true
-    unfolding setFormed
+    pub segments-formed : m ≤ 20005 → setFormed d (m - 5) (p .breaks) (withWidths (p .breaks) (p .coefficients)) ≡ true
     segments-formed h =
         let six = r .six in
         let room = polynomial-room floats t c d m (omega arith) in
         let n = breaks-count in
         let back : 5 + (m - 5) ≡ m = omega arith in
+        let some : length (p .breaks) - 1 ≡ m - 5 = omega (arith, n) in
         let cells : length (p .coefficients) ≡ 6 * ((m - 5) * d) = room .1 ∙ ap (λ (k : ℕ). (k - 1) * (6 * d)) n ∙ shape (m - 5) in
-        rw (
-          le-leb 1 (m - 5) (omega arith),
-          le-leb (m - 5) 20000 (omega arith),
-          eq-eqb (length (p .breaks)) (m - 5 + 1) n,
-          eq-eqb (length (p .coefficients)) (6 * ((m - 5) * d)) cells,
-          breaks-rise,
-          break-at 0 (omega arith),
-          r .first,
-          break-at (m - 5) (omega arith),
-          back,
-          r .last,
-        ) ends-equal
+        set-formed d (m - 5) (p .breaks) (withWidths (p .breaks) (p .coefficients))
+        (record {
+          some = omega arith;
+          most = omega arith;
+          breaks-length = n;
+          coefficients-length = omega (arith, with-length (p .breaks) (p .coefficients), cells, some);
+          from-zero = rw (break-at 0 (omega arith), r .first) zero-equal;
+          rising = breaks-rise;
+          to-one = rw (break-at (m - 5) (omega arith), back, r .last) one-equal;
+          kept = with-kept (p .breaks) (p .coefficients) (6 * ((m - 5) * d)) (m - 5) cells some;
+        })
       where
         shape : (k : ℕ) → (k + 1 - 1) * (6 * d) ≡ 6 * (k * d)
         shape k = let e : k + 1 - 1 ≡ k = omega arith in rw e (omega arith)

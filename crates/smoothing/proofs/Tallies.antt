@@ -9,6 +9,7 @@ use borrow.Author.Tests.{eqb-true, ltb-false}
 use lib.Dec.{ltb}
 use lib.ListN.{length}
 use lib.Ieee.{Float}
+use Rattle.arith.proofs.Truth.{or-none}
 use Rattle.bspline.specs.Segments.{Polynomial}
 use Rattle.seed.specs.Regions.{Range, regionsOf}
 use Rattle.seed.proofs.Windows.{regions-few}
@@ -20,7 +21,6 @@ use Rattle.polynomial.specs.declared.interval.AuditOutcome.the-variants.{Done, 
 use Rattle.polynomial.specs.Outcome as audits
 use Rattle.polynomial.specs.Audit.{Audit}
 use Rattle.polynomial.proofs.Counts.{audit-counts}
-use Rattle.request.proofs.Anys.{or-none}
 use Rattle.smoothing.specs.Answer.{andThen}
 use Rattle.smoothing.specs.Answer.Answer.{done, refused}
 use Rattle.smoothing.specs.Request.{Lane, Limits}

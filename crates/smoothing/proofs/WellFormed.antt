@@ -1,5 +1,5 @@
 -- The curve of an accepted request is well formed, as document 01 asks it of a curve.
-use mathlib.Core.Path.{_≡_, refl, sym, subst}
+use mathlib.Core.Path.{_≡_, refl, sym, ap, subst, _∙_}
 use mathlib.Core.Bool.{Bool, true, false, cond, _&&_}
 use mathlib.Core.List.{List, []}
 use Prim.Native.Nat.{ℕ, _+_, _-_, _≤_}
@@ -10,17 +10,18 @@ use lib.ListN.{length, getD}
 use lib.Ieee.{Float, binary64}
 use lib.Ieee.Positive.{positive-finite}
 use lib.Ieee.Scale.{finite}
+use Rattle.arith.proofs.Truth.{or-none}
+use Rattle.window.specs.Cells.{Doubles}
 use Rattle.arith.specs.Operations.{floats}
 use Rattle.fraction.proofs.Comparison.{positive-above}
-use Rattle.window.specs.Rows.{listOf}
+use Rattle.window.specs.Rows.{join, listOf}
 use Rattle.bspline.specs.Segments.{Polynomial, polynomialOf}
 use Rattle.window.proofs.Joined.{list-at}
 use Rattle.normal.specs.Solve.{solveOf}
 use Rattle.curve.specs.declared.Mode.{Mode}
-use Rattle.curve.specs.Form.{axesFormed, setFormed, othersFormed, rangeFormed, wellFormed}
+use Rattle.curve.specs.Form.{axesFormed, withWidths, setFormed, othersFormed, rangeFormed, wellFormed}
 use Rattle.curve.proofs.Formed.{axes-same}
-use Rattle.request.specs.Parameters.{Doubles, parameterOf, lengthOf}
-use Rattle.request.proofs.Anys.{or-none}
+use Rattle.request.specs.Parameters.{parameterOf, lengthOf}
 use Rattle.request.proofs.Normalised.{length-positive, parameter-finite}
 use Rattle.smoothing.specs.Answer.{andThen}
 use Rattle.smoothing.specs.Answer.Answer.{done}
@@ -39,9 +40,15 @@ use Rattle.smoothing.proofs.Rooms.{judged-done}
 use Rattle.smoothing.proofs.KnotsRise.{course-rising, others-rising}
 use Rattle.smoothing.proofs.SegmentsRise.{breaks-count, segments-formed}
 
+-- a set of as many segments as its breaks say
+counted : (d : ℕ) (p : Polynomial Float) {n : ℕ} → segmentsOf p ≡ n
+    → setFormed d n (p .breaks) (withWidths (p .breaks) (p .coefficients)) ≡ true
+    → setFormed d (segmentsOf p) (p .breaks) (withWidths (p .breaks) (p .coefficients)) ≡ true
+counted d p e h = ap (λ (k : ℕ). setFormed d k (p .breaks) (withWidths (p .breaks) (p .coefficients))) e ∙ h
+
 -- the selected axes, with at most 20,000 segments
 pub selected-formed : (m : Limits) (q : Task) (u : Units) (x : Selected) → Doubles (q .s) → m .segments ≤ 20000 → selectedOf m q u ≡ done x
-    → setFormed (q .k) (segmentsOf (x .curve)) (x .curve .breaks) (x .curve .coefficients) ≡ true
+    → setFormed (q .k) (segmentsOf (x .curve)) (x .curve .breaks) (withWidths (x .curve .breaks) (x .curve .coefficients)) ≡ true
 unfolding selectedOf finishOf finalPolynomial
 selected-formed m q u x D few h =
     let a = then-done (andThen (startOf (m .segments) q) (refineOf (m .segments) (m .refinements) q)) (finishOf q u) x h in
@@ -52,13 +59,14 @@ selected-formed m q u x D few h =
     let c = physicalOf u (q .k) (st .b) in
     let n : length (polynomialOf floats (st .b .t) c (q .k) (st .b .m) .breaks) - 1 ≡ st .b .m - 5 =
     omega (arith, breaks-count (st .b .t) (st .b .m) r c (q .k)) in
-    subst (λ (p : Polynomial Float). setFormed (q .k) (segmentsOf p) (p .breaks) (p .coefficients) ≡ true) (sym (j .0))
-    (rw n (segments-formed (st .b .t) (st .b .m) r c (q .k) (omega (arith, v .few))))
+    subst (λ (p : Polynomial Float). setFormed (q .k) (segmentsOf p) (p .breaks) (withWidths (p .breaks) (p .coefficients)) ≡ true) (sym (j .0))
+    (counted (q .k) (polynomialOf floats (st .b .t) c (q .k) (st .b .m)) n
+    (segments-formed (st .b .t) (st .b .m) r c (q .k) (omega (arith, v .few))))
 
 -- the other axes
 interpolated-formed : (l : Lane) (j : ℕ) (rows : List Float) (p : Polynomial Float) → Doubles (l .parameters) → refusalOf l ≡ 0
     → l .n ≤ 20000 → interpolateOf (l .n) j (parametersOf l) rows ≡ done p
-    → setFormed j (segmentsOf p) (p .breaks) (p .coefficients) ≡ true
+    → setFormed j (segmentsOf p) (p .breaks) (withWidths (p .breaks) (p .coefficients)) ≡ true
 unfolding interpolateOf laneTask taskOf
 interpolated-formed l j rows p F h few e =
     let s = parametersOf l in
@@ -69,12 +77,12 @@ interpolated-formed l j rows p F h few e =
     let c = solveOf (controlCount (l .n) j s rows) j (interpolationSystem (l .n) j s rows) .system .right in
     let a = unless-done _ _ p e in
     let n : length (polynomialOf floats t c j (l .n + 4) .breaks) - 1 ≡ l .n + 4 - 5 = omega (arith, breaks-count t (l .n + 4) r c j) in
-    subst (λ (z : Polynomial Float). setFormed j (segmentsOf z) (z .breaks) (z .coefficients) ≡ true) (a .1)
-    (rw n (segments-formed t (l .n + 4) r c j (omega arith)))
+    subst (λ (z : Polynomial Float). setFormed j (segmentsOf z) (z .breaks) (withWidths (z .breaks) (z .coefficients)) ≡ true) (a .1)
+    (counted j (polynomialOf floats t c j (l .n + 4)) n (segments-formed t (l .n + 4) r c j (omega arith)))
 
 others-formed : (l : Lane) (p : Polynomial Float) → Doubles (l .parameters) → refusalOf l ≡ 0 → l .n ≤ 20000 → otherOf l ≡ done p
-    → othersFormed (length (otherAxes l)) (segmentsOf p) (p .breaks) (p .coefficients) ≡ true
-unfolding otherOf othersFormed
+    → othersFormed (length (otherAxes l)) (segmentsOf p) (p .breaks) (withWidths (p .breaks) (p .coefficients)) ≡ true
+unfolding otherOf othersFormed join
 others-formed l p F h few g = go (eqb (length (otherAxes l)) 0) refl g
   where
     j : ℕ
@@ -85,10 +93,10 @@ others-formed l p F h few g = go (eqb (length (otherAxes l)) 0) refl g
 
     Form : Bool → Polynomial Float → Type 0
     Form b z =
-        cond b (eqb (segmentsOf z) 0 && eqb (length (z .breaks)) 0 && eqb (length (z .coefficients)) 0)
-        (setFormed j (segmentsOf z) (z .breaks) (z .coefficients)) ≡ true
+        cond b (eqb (segmentsOf z) 0 && eqb (length (z .breaks)) 0 && eqb (length (withWidths (z .breaks) (z .coefficients))) 0)
+        (setFormed j (segmentsOf z) (z .breaks) (withWidths (z .breaks) (z .coefficients))) ≡ true
 
-    some : interpolateOf (l .n) j (parametersOf l) (otherRows l) ≡ done p → setFormed j (segmentsOf p) (p .breaks) (p .coefficients) ≡ true
+    some : interpolateOf (l .n) j (parametersOf l) (otherRows l) ≡ done p → setFormed j (segmentsOf p) (p .breaks) (withWidths (p .breaks) (p .coefficients)) ≡ true
     some e = interpolated-formed l j (otherRows l) p F h few e
 
     go : (b : Bool) → eqb j 0 ≡ b → cond b (done nothing) (interpolateOf (l .n) j (parametersOf l) (otherRows l)) ≡ done p → Form b p
@@ -137,7 +145,7 @@ accepted-well-formed l m x mode F h =
     let axes = axes-same (smoothedAxes l) (listOf 16 (λ i. getD (smoothedAxes l) i 0)) k (l .d)
     (λ i b. list-at 16 (λ i. getD (smoothedAxes l) i 0) 0 i (omega arith)) (not-false (axesFormed (smoothedAxes l) k (l .d)) (p .axes)) in
     let selected = selected-formed m (laneTask l) (laneUnits l) (a .chosen) (parameters-held l) few-g (a .chosen-is) in
-    let other : othersFormed (l .d - k) (segmentsOf (a .others)) (a .others .breaks) (a .others .coefficients) ≡ true =
+    let other : othersFormed (l .d - k) (segmentsOf (a .others)) (a .others .breaks) (withWidths (a .others .breaks) (a .others .coefficients)) ≡ true =
     rw rest at (others-formed l (a .others) F (a .passed) few-n (a .others-is)) in
     let range = range-formed l F (a .passed) in
     subst (λ (z : Result). wellFormed (curveOf mode (l .d) z) (slicesOf z) ≡ true) (a .result-is)

@@ -9,7 +9,7 @@ use Rattle.window.specs.Rows.{listOf}
 use Rattle.bspline.specs.Segments.{Polynomial}
 use Rattle.curve.specs.declared.Curve.{Curve}
 use Rattle.curve.specs.declared.Mode.{Mode}
-use Rattle.curve.specs.Form.{Slices, slices}
+use Rattle.curve.specs.Form.{Slices, slices, withWidths}
 use Rattle.request.specs.Parameters.{parameterOf}
 use Rattle.smoothing.specs.Answer.{Answer, andThen}
 use Rattle.smoothing.specs.Answer.Answer.{done, refused}
@@ -53,9 +53,11 @@ curveOf mode d x =
       «other_segments» = x .report .interpolated;
     }
 
--- the four slices beside it
+-- the four slices beside it, with the widths of both sets (document 02, request 12)
 abbrev pub slicesOf : Result → Slices
-slicesOf x = slices (x .selected .breaks) (x .selected .coefficients) (x .other .breaks) (x .other .coefficients)
+slicesOf x =
+    slices (x .selected .breaks) (withWidths (x .selected .breaks) (x .selected .coefficients)) (x .other .breaks)
+    (withWidths (x .other .breaks) (x .other .coefficients))
 
 -- `Polynomial::segments`, 0 of no polynomial
 abbrev pub segmentsOf : Polynomial Float → ℕ

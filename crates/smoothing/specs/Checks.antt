@@ -84,11 +84,12 @@ pub record Room : Type 0 where
   pub errors : ℕ
 
 -- 19, "a lent slice too short": "With E = max(n, max_segments) + 16, the lent room needed is: work E times (16d + 32); selected breaks
--- max_segments + 1 and coefficients 6d times max_segments; other breaks n and coefficients 6dn; errors d"
+-- max_segments + 1 and coefficients 6d times max_segments; other breaks n and coefficients 6dn; errors d". Document 02, request 12: "Room
+-- grows by max_segments and n cells", for the widths behind the coefficients.
 unfoldable pub shortRoom : Room → Lane → Limits → Bool
 shortRoom room l m =
     let e = max (l .n) (m .segments) + 16 in
     ltb (room .work) (e * (16 * l .d + 32))
-    || ltb (room .breaks) (m .segments + 1) || ltb (room .coefficients) (m .segments * (6 * l .d))
-    || ltb (room .otherBreaks) (l .n) || ltb (room .otherCoefficients) (l .n * (6 * l .d))
+    || ltb (room .breaks) (m .segments + 1) || ltb (room .coefficients) (m .segments * (6 * l .d) + m .segments)
+    || ltb (room .otherBreaks) (l .n) || ltb (room .otherCoefficients) (l .n * (6 * l .d) + l .n)
     || ltb (room .errors) (l .d)

@@ -10,15 +10,15 @@ use lib.ListN.{length, getD}
 use lib.Ieee.{Float, lt}
 use Rattle.arith.specs.Loop.{each}
 use Rattle.arith.proofs.Loops.{each-same}
-use Rattle.window.specs.Cells.{+0, at}
+use Rattle.window.specs.Cells.{+0, at, Doubles}
 use Rattle.window.specs.Rows.{listOf}
 use Rattle.bspline.specs.Segments.{Polynomial}
 use Rattle.request.specs.declared.parameters.Spacing.{Spacing}
-use Rattle.request.specs.Parameters.{Doubles, normalisedOf, misplaced, unreliable}
+use Rattle.request.specs.Parameters.{normalisedOf, misplaced, unreliable}
 use Rattle.request.specs.Points.{unfit}
 use Rattle.curve.specs.declared.Curve.{Curve}
 use Rattle.curve.specs.declared.Mode.{Mode}
-use Rattle.curve.specs.Form.{wellFormed}
+use Rattle.curve.specs.Form.{withWidths, wellFormed}
 use Rattle.curve.specs.Places.{positionOf}
 use Rattle.figure.specs.Axis.{axisOf}
 use Rattle.figure.specs.Certify.{CertificateOutcome, outcome, certifyOf}
@@ -87,7 +87,7 @@ told l axes p axis depth =
     cond (ltb 6 depth) (outcome 23 noFigure)
     (cond (not (ltb place k)) (outcome 3 noFigure)
     (outcome 0 (figureOf depth
-    (axisOf (p .breaks) (p .coefficients) k place (l .points) (l .d) axis (l .n) (l .spacing) (l .parameters)))))
+    (axisOf (p .breaks) (withWidths (p .breaks) (p .coefficients)) k place (l .points) (l .d) axis (l .n) (l .spacing) (l .parameters)))))
 
 certified-is : (l : Lane) (m : Limits) (x : Result) (mode : Mode) (axis depth : ℕ) → Doubles (l .parameters)
     → buildOf (record { lane = l; limits = m }) ≡ done x
@@ -126,7 +126,8 @@ figures-agree {l} {points} {m} first second S F {x} {x′} g g′ a depth h u v 
     let k = length (x′ .axes) in
     let place = positionOf (listOf 16 (λ i. getD (x′ .axes) i 0)) k axis in
     let p = x′ .selected in
-    let row = row-figure depth (p .breaks) (p .coefficients) k place (l .points) points (l .d) axis n s t (λ i e. S i a e h) in
+    let row = row-figure depth (p .breaks) (withWidths (p .breaks) (p .coefficients)) k place (l .points) points (l .d) axis n s t
+    (λ i e. S i a e h) in
     u .answered
     ∙ ap (λ (c : Curve). certifyOf c (slicesOf x) (l .points) n s t axis depth) (g .curve)
     ∙ certified-is l m x (first .mode) axis depth F b

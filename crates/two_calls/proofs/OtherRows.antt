@@ -5,9 +5,9 @@ use mathlib.Core.List.{List}
 use Prim.Native.Nat.{ℕ, _<_}
 use lib.ListN.{getD}
 use lib.Ieee.{Float}
+use Rattle.window.specs.Cells.{Doubles}
 use Rattle.request.specs.declared.parameters.Spacing.{Spacing}
 use Rattle.request.specs.declared.parameters.Spacing.the-variants.{Listed, Even}
-use Rattle.request.specs.Parameters.{Doubles}
 use Rattle.curve.specs.declared.Curve.{Curve}
 use Rattle.curve.specs.Form.{Slices}
 use Rattle.figure.specs.Certify.{CertificateOutcome, certifyOf}

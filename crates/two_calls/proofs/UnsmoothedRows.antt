@@ -8,6 +8,7 @@ use lib.Ieee.{Float}
 use Rattle.window.specs.Cells.{at}
 use Rattle.window.proofs.Joined.{table-ap}
 use Rattle.bspline.specs.Segments.{Polynomial}
+use Rattle.curve.specs.Form.{withWidths}
 use Rattle.smoothing.specs.Answer as answers
 use Rattle.smoothing.specs.Answer.Answer.{done}
 use Rattle.smoothing.specs.Request.{Lane, Limits, smoothedAxes, axisCount}
@@ -53,7 +54,7 @@ module _ {l : Lane} {points : List Float} {m : Limits} (first : BuildCall l m) (
       record {
         report = reportOf x;
         breaks = x .selected .breaks;
-        coefficients = x .selected .coefficients;
+        coefficients = withWidths (x .selected .breaks) (x .selected .coefficients);
         errors = x .report .errors;
         first-report = a .1 .outcome;
         second-report = b .1 .outcome ∙ ap done told;
@@ -64,7 +65,7 @@ module _ {l : Lane} {points : List Float} {m : Limits} (first : BuildCall l m) (
         first-coefficients = ap (λ (s : Results). s .coefficients) (a .1 .slices);
         second-coefficients =
             ap (λ (s : Results). s .coefficients) (b .1 .slices)
-            ∙ ap (λ (p : Polynomial Float). onto (p .coefficients) (second .lent .coefficients)) (sym (same .0));
+            ∙ ap (λ (p : Polynomial Float). onto (withWidths (p .breaks) (p .coefficients)) (second .lent .coefficients)) (sym (same .0));
         first-errors = ap (λ (s : Results). s .errors) (a .1 .slices);
         second-errors =
             ap (λ (s : Results). s .errors) (b .1 .slices)

@@ -85,8 +85,8 @@ pub record OtherRows (l l′ : Lane) : Type 0 where
   pub listed : l .spacing ≡ Listed → l .parameters ≡ l′ .parameters
   pub selected : SelectedRowsSame l (l′ .points)
 
--- "the same selected segments, the same report": one report, and one list of breaks, of coefficients and of errors in the first cells of
--- both calls' slices
+-- "the same selected segments, the same report": one report, and one list of breaks, of coefficients with the widths and of errors in the
+-- first cells of both calls' slices
 pub record SelectedAgree {l l′ : Lane} {m m′ : Limits} (first : BuildCall l m) (second : BuildCall l′ m′) : Type 0 where
   pub report : Report
   pub breaks : List Float

@@ -4,10 +4,13 @@ ghost use Prim.Native.Nat.{_+_, _-_, _*_, _≤_, _<_};
 ghost use lib.ListN.{length, take};
 ghost use Rattle.window.specs.Window.{window};
 ghost use Rattle.refinement.specs.Memory.{Roomy, memoryAt};
+ghost use Rattle.curve.specs.Form.{withWidths};
 ghost use Rattle.work_slice.specs.Rows.{onto, otherIn};
+use curve::widths;
 use refinement::plan::Plan;
 
-// A curve of so many segments and k axes, whose breaks lie from `a` on and whose coefficients from `c` on.
+// A curve of so many segments and k axes, whose breaks lie from `a` on and whose coefficients from `c`
+// on; the widths of its segments follow on the coefficients.
 fn put_curve(
     cells: &[f64],
     a: usize,
@@ -18,23 +21,26 @@ fn put_curve(
     coefficients: &mut [f64],
 )
     requires { ⌜ (k ≤ 16) × (segments ≤ 20016) × (a + segments + 1 ≤ length (now cells)) × (c + segments * (6 * k) ≤ length (now cells))
-        × (segments + 1 ≤ length (now breaks)) × (segments * (6 * k) ≤ length (now coefficients)) ⌝ }
+        × (segments + 1 ≤ length (now breaks)) × (segments * (6 * k) + segments ≤ length (now coefficients)) ⌝ }
     ensures { λ _. ⌜ now (breaks .exit) ≡ onto (window a (a + segments + 1) (now (cells .entry))) (now (breaks .entry)) ⌝ }
-    ensures { λ _. ⌜ now (coefficients .exit) ≡ onto (window c (c + segments * (6 * k)) (now (cells .entry)))
-        (now (coefficients .entry)) ⌝ }
+    ensures { λ _. ⌜ now (coefficients .exit) ≡ onto (withWidths (window a (a + segments + 1) (now (cells .entry)))
+        (window c (c + segments * (6 * k)) (now (cells .entry)))) (now (coefficients .entry)) ⌝ }
 {
     let a_end = a + segments + 1;
+    let rows = segments * (6 * k);
+    let c_end = c + rows;
     window::copy(breaks, &cells[a..a_end]);
-    let c_end = c + segments * (6 * k);
     window::copy(coefficients, &cells[c..c_end]);
+    widths::put_widths(&cells[a..a_end], rows, coefficients);
 }
 
-// The breaks and the coefficients of the selected axes.
+// The breaks and the coefficients of the selected axes, with the widths.
 pub fn put_selected(work: &[f64], p: Plan, breaks: &mut [f64], coefficients: &mut [f64])
-    requires { ⌜ Roomy p (length (now work)) × (p .count - 5 + 1 ≤ length (now breaks)) × ((p .count - 5) * (6 * p .axes) ≤ length
-        (now coefficients)) ⌝ }
+    requires { ⌜ Roomy p (length (now work)) × (p .count - 5 + 1 ≤ length (now breaks))
+        × ((p .count - 5) * (6 * p .axes) + (p .count - 5) ≤ length (now coefficients)) ⌝ }
     ensures { λ _. ⌜ now (breaks .exit) ≡ onto (memoryAt p (now (work .entry)) .breaks) (now (breaks .entry)) ⌝ }
-    ensures { λ _. ⌜ now (coefficients .exit) ≡ onto (memoryAt p (now (work .entry)) .coefficients) (now (coefficients .entry)) ⌝ }
+    ensures { λ _. ⌜ now (coefficients .exit) ≡ onto (withWidths (memoryAt p (now (work .entry)) .breaks)
+        (memoryAt p (now (work .entry)) .coefficients)) (now (coefficients .entry)) ⌝ }
 {
     let e = p.room;
     let b = e * p.axes;
@@ -49,7 +55,7 @@ pub fn put_selected(work: &[f64], p: Plan, breaks: &mut [f64], coefficients: &mu
     );
 }
 
-// The breaks and the coefficients of the j other axes, which lie in a part of the work slice.
+// The breaks and the coefficients of the j other axes, with the widths, from a part of the work slice.
 pub fn put_other(
     part: &[f64],
     room: usize,
@@ -60,10 +66,10 @@ pub fn put_other(
     coefficients: &mut [f64],
 )
     requires { ⌜ (j ≤ 16) × (segments < n) × (n + 16 ≤ room) × (room ≤ 20016) × (10 * room + 8 * (room * j) ≤ length (now part))
-        × (n ≤ length (now breaks)) × (segments * (6 * j) ≤ length (now coefficients)) ⌝ }
+        × (n ≤ length (now breaks)) × (segments * (6 * j) + segments ≤ length (now coefficients)) ⌝ }
     ensures { λ _. ⌜ now (breaks .exit) ≡ onto (otherIn n j room segments (now (part .entry)) .breaks) (now (breaks .entry)) ⌝ }
-    ensures { λ _. ⌜ now (coefficients .exit) ≡ onto (otherIn n j room segments (now (part .entry)) .coefficients)
-        (now (coefficients .entry)) ⌝ }
+    ensures { λ _. ⌜ now (coefficients .exit) ≡ onto (withWidths (otherIn n j room segments (now (part .entry)) .breaks)
+        (otherIn n j room segments (now (part .entry)) .coefficients)) (now (coefficients .entry)) ⌝ }
 {
     if j == 0 {
         return;

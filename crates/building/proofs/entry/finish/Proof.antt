@@ -108,9 +108,9 @@ write-results-requires c κs =
       waypoints-fit = omega (arith, e .ensures);
       segments-few = P .others-few;
       breaks = omega (arith, F .breaks, P .few, two);
-      coefficients = omega (arith, rows, F .coefficients);
+      coefficients = omega (arith, rows, F .coefficients, P .few, two);
       other-breaks = F .other-breaks;
-      other-coefficients = omega (arith, others, F .other-coefficients);
+      other-coefficients = omega (arith, others, F .other-coefficients, P .others-few);
       errors = omega (arith, k, F .errors);
     }
 

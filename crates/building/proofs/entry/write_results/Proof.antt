@@ -9,6 +9,7 @@ use lib.Ieee.{Float}
 use Rattle.window.specs.Window.{window}
 use Rattle.window.proofs.Windows.{length-window}
 use Rattle.bspline.specs.Segments.{Polynomial}
+use Rattle.curve.specs.Form.{withWidths}
 use Rattle.refinement.specs.Memory.{cellsOf}
 use Rattle.work_slice.specs.Rows.{onto}
 use Rattle.building.specs.Outcome.{results}
@@ -43,7 +44,8 @@ returns c =
     let other : List Float → Polynomial Float = otherIn (a .p .samples) (a .j) (a .p .room) (a .c .«other_segments») in
     let t = tail-is (cellsOf (a .p)) (a .work .now) (s .pre .roomy .cells-fit) in
     let breaks = o .put-other .ensures .0 ∙ ap (λ (w : List Float). onto (other w .breaks) (a .other-breaks .now)) t in
-    let rest = o .put-other .ensures .1 ∙ ap (λ (w : List Float). onto (other w .coefficients) (a .other-coefficients .now)) t in
+    let rest = o .put-other .ensures .1
+    ∙ ap (λ (w : List Float). onto (withWidths (other w .breaks) (other w .coefficients)) (a .other-coefficients .now)) t in
     λ i. results (p .put-selected .ensures .0 i) (p .put-selected .ensures .1 i) (breaks i) (rest i)
     (c .before .before .put-errors .ensures i)
 

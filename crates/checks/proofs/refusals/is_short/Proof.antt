@@ -30,8 +30,16 @@ mul-if3-2 : tie.Need-mul-if3-2
 mul-if3-2 c =
     let s = c .before .before .before in omega (arith, rows-small _ (s .args .d) (s .pre .2) (s .pre .0))
 
+add-if3 : tie.Need-add-if3
+add-if3 c =
+    let s = c .before .before .before in omega (arith, rows-small _ (s .args .d) (s .pre .2) (s .pre .0))
+
 mul-if5-2 : tie.Need-mul-if5-2
 mul-if5-2 c =
+    let s = c .before .before .before .before .before in omega (arith, rows-small _ (s .args .d) (s .pre .1) (s .pre .0))
+
+add-if5 : tie.Need-add-if5
+add-if5 c =
     let s = c .before .before .before .before .before in omega (arith, rows-small _ (s .args .d) (s .pre .1) (s .pre .0))
 
 returns : tie.Need-returns
@@ -71,7 +79,7 @@ returns-4 c = λ l e f.
 four : (c : tie.Else4) (l : Lane) → let a = c .before .before .before .before .before .args in l .d ≡ a .d → l .n ≡ a .n
     → shortRoom (roomOf (a .work) (a .breaks) (a .coefficients) (a .other-breaks) (a .other-coefficients) (a .errors)) l
     (limitsOf (a .limits))
-    ≡ (ltb (a .other-coefficients) (a .n * (6 * a .d)) || ltb (a .errors) (a .d))
+    ≡ (ltb (a .other-coefficients) (a .n * (6 * a .d) + a .n) || ltb (a .errors) (a .d))
 unfolding shortRoom
 four c l e f =
     let p3 = c .before in
@@ -107,9 +115,11 @@ is-short-spec =
     returns-2
     (λ c. omega arith)
     mul-if3-2
+    add-if3
     returns-3
     returns-4
     (λ c. omega arith)
     mul-if5-2
+    add-if5
     returns-5
     returns-6)

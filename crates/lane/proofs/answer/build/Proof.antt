@@ -30,9 +30,9 @@ same s =
     let m : a .c .segments ≤ 100 = omega arith in
     let work : 7424 ≤ length (a .work .now) = omega arith in
     let breaks : 101 ≤ length (a .breaks .now) = omega arith in
-    let coefficients : 1200 ≤ length (a .coefficients .now) = omega arith in
+    let coefficients : 1300 ≤ length (a .coefficients .now) = omega arith in
     let other : 100 ≤ length (a .other-breaks .now) = omega arith in
-    let others : 1200 ≤ length (a .other-coefficients .now) = omega arith in
+    let others : 1300 ≤ length (a .other-coefficients .now) = omega arith in
     let errors : 2 ≤ length (a .errors .now) = omega arith in
     roomy (lengthsOf (a .work .now) (lent s)) (request s) d n m (work, breaks, coefficients, other, others, errors)
 

@@ -1,4 +1,4 @@
--- `sizes::rows` meets its contract: the product is at most 6 * 20000 * 16.
+-- `sizes::rows` meets its contract: the product is at most 6 * 20000 * 16, and there are at most 20000 widths.
 use Prim.Native.Nat.{ℕ, _*_, _≤_}
 use native.Mathlib.Nat.{mul-le-mul-right}
 use native.Mathlib.Omega.{arith}
@@ -19,6 +19,11 @@ mul-result-2 c =
     let a = c .before .before .args in
     omega (arith, few (a .n) (a .d) (omega arith) (omega arith))
 
+add-result : tie.Need-add-result
+add-result c =
+    let a = c .before .before .args in
+    omega (arith, few (a .n) (a .d) (omega arith) (omega arith))
+
 returns-3 : tie.Need-returns-3
 returns-3 c =
     let a = c .before .before .args in
@@ -32,4 +37,5 @@ rows-spec =
     (λ c. search needs)
     mul-result
     mul-result-2
+    add-result
     returns-3)

@@ -4,11 +4,13 @@ use Prim.Native.Nat.{_+_, _*_}
 use native.Mathlib.Omega.{arith}
 use borrow.Author.Needs.{needs}
 use borrow.Author.Tests.{ne-eqb}
+use Rattle.window.specs.Rows.{join}
 use Rattle.work_slice.proofs.Copying.{spans-fit}
 use Rattle.work_slice.proofs.results.put_other.Statement.{statement}
 use Rattle.work_slice.proofs.results.put_other.Tie as tie
 
 returns : tie.Need-returns
+unfolding join
 returns c = let e = c .if1 .taken in (rw e refl, rw e refl)
 
 put-curve-requires : tie.Need-put-curve-requires
