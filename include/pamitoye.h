@@ -40,12 +40,13 @@
  *     segments        of the selected axes
  *     other_segments  of the other axes
  *     breaks          segments + 1 cells
- *     coefficients    6 * segments * k cells
+ *     coefficients    6 * segments * k cells, then segments cells for the widths
  *     other_breaks    other_segments + 1 cells, or 0 cells where k is d
- *     other_coefficients   6 * other_segments * (d - k) cells
+ *     other_coefficients   6 * other_segments * (d - k) cells, then other_segments cells
  * Coefficients lie segment after segment, in it axis after axis (the others in rising order), six
- * each, from power 0 up, of a parameter that goes from 0 to 1 on the segment. The curve is well
- * formed if the lengths are these, 1 <= k <= d <= 16, the axes are distinct and below d, each set
+ * each, from power 0 up, of a parameter that goes from 0 to 1 on the segment. Behind them lies the
+ * width of each segment, the rounded difference of its two breaks. The curve is well formed if
+ * the lengths are these, each width has the bits of that difference, 1 <= k <= d <= 16, the axes are distinct and below d, each set
  * has 1 to 20000 segments (the other set none where k is d), breaks rise strictly from 0 to 1,
  * and start, end and end - start are finite, the last above 0.
  */
@@ -114,6 +115,8 @@ enum pamitoye_number {
     /* a smoothed coordinate, without its sign, exceeds its tolerance times 2^48: subtract an offset
      * from the coordinates, or take a larger tolerance */
     PAMITOYE_TOLERANCE_TOO_FINE = 26,
+    /* the breaks of a return lane do not rise strictly */
+    PAMITOYE_NOT_RISING = 29,
     /* a pair names a lane that is not below the number of lanes */
     PAMITOYE_NO_SUCH_LANE = 31,
     /* a ring: no order meets all pairs */
@@ -124,9 +127,9 @@ enum pamitoye_number {
  * for the larger of n and max_segments, plus 16:
  *     room[0]  work                E * (16 * d + 32)
  *     room[1]  breaks              max_segments + 1
- *     room[2]  coefficients        6 * d * max_segments
+ *     room[2]  coefficients        6 * d * max_segments + max_segments
  *     room[3]  other_breaks        n
- *     room[4]  other_coefficients  6 * d * n
+ *     room[4]  other_coefficients  6 * d * n + n
  *     room[5]  errors              d
  * Slices of at least these lengths are never too short (19). 18 where d, n or max_segments is above
  * the domain; room is then unchanged. */
@@ -273,6 +276,25 @@ uint64_t pamitoye_certify(
     const double *points, size_t points_len, size_t n,
     bool even, const double *parameters, size_t parameters_len,
     size_t axis, size_t depth, bool *given, double *figure);
+
+/* The lane driven back: the curve of the same eight numbers whose breaks are 1 minus the old ones in
+ * reverse, whose segments are the old ones in reverse, each as the polynomial of 1 minus the old
+ * parameter, and whose widths are those of the new breaks. On 0 the first cells of the lent slices,
+ * as many as the curve's own slices have, are the return lane, and it is well formed; the cells
+ * behind are unchanged. A refusal writes nothing. To certify it, pass the points in reverse and list
+ * their parameters.
+ * Numbers: 24, 19 (a lent slice is shorter than the curve's own), 29, in this order. */
+uint64_t pamitoye_return_lane(
+    size_t d, size_t k, const size_t axes[16], double start, double end, bool clamp,
+    size_t segments, size_t other_segments,
+    const double *breaks, size_t breaks_len,
+    const double *coefficients, size_t coefficients_len,
+    const double *other_breaks, size_t other_breaks_len,
+    const double *other_coefficients, size_t other_coefficients_len,
+    double *lent_breaks, size_t lent_breaks_len,
+    double *lent_coefficients, size_t lent_coefficients_len,
+    double *lent_other_breaks, size_t lent_other_breaks_len,
+    double *lent_other_coefficients, size_t lent_other_coefficients_len);
 
 /* Which lane is cut first. Lanes are numbered from 0, and pairs[i] says that lane pairs[i][0] is cut
  * before lane pairs[i][1]; pairs_len counts pairs. On 0 the first cells of order, one for each lane,

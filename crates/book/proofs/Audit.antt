@@ -50,7 +50,7 @@ module _ (f : ℕ → ℚ) where
       n0) v0 tt
       ∙ total-same i d (λ j l g. h j l (omega arith)))
 
-  loop-sum : (step : ℕ → ℚ → ℚ) (a b n : ℕ) → a ≤ b → b ≤ n + 1 → ((i : ℕ) (v : ℚ) → a ≤ i → i < b → step i v ≡ v +q f i)
+  pub loop-sum : (step : ℕ → ℚ → ℚ) (a b n : ℕ) → a ≤ b → b ≤ n + 1 → ((i : ℕ) (v : ℚ) → a ≤ i → i < b → step i v ≡ v +q f i)
       → ((i : ℕ) → i < a → f i ≡ 𝟘) → ((i : ℕ) → b ≤ i → i ≤ n → f i ≡ 𝟘) → each step a b 𝟘 ≡ sum rationalRing n f
   loop-sum step a b n ab bn adds low high =
       let e : suc n ≡ b + (n + 1 - b) = omega arith in

@@ -9,10 +9,10 @@ use lib.Dec.{eqb, ltb}
 use lib.ListN.{length, take, drop}
 use lib.Seq.{take-at}
 use lib.Ieee.{Float}
+use Rattle.window.specs.Cells.{Doubles}
 use Rattle.arith.proofs.Truth.{and-parts}
-use Rattle.request.specs.Parameters.{Doubles}
 use Rattle.curve.specs.Form.{Slices, slices, setFormed, othersFormed, wellFormed}
-use Rattle.curve.proofs.Formed.{set-sizes, formed}
+use Rattle.curve.proofs.Formed.{set-parts, formed}
 use Rattle.smoothing.specs.Answer.{Answer, numberOf}
 use Rattle.smoothing.specs.Answer.Answer.{done, refused, exhausted}
 use Rattle.smoothing.specs.Request.{Lane, Limits, Request}
@@ -28,12 +28,12 @@ use Rattle.pamitoye.specs.Builds.{BuildOutputs, buildOutputsAfter, usedC
 
 -- how many cells the other axes use
 others-used : (d k m : ℕ) (breaks coefficients : List Float) → othersFormed (d - k) m breaks coefficients ≡ true
-    → (length breaks ≡ cond (ltb k d) (m + 1) 0) × (length coefficients ≡ 6 * (m * (d - k)))
+    → (length breaks ≡ cond (ltb k d) (m + 1) 0) × (length coefficients ≡ 6 * (m * (d - k)) + m)
 unfolding othersFormed
 others-used d k m breaks coefficients h = go (eqb (d - k) 0) refl h
   where
     Used : Type 0
-    Used = (length breaks ≡ cond (ltb k d) (m + 1) 0) × (length coefficients ≡ 6 * (m * (d - k)))
+    Used = (length breaks ≡ cond (ltb k d) (m + 1) 0) × (length coefficients ≡ 6 * (m * (d - k)) + m)
 
     go : (b : Bool) → eqb (d - k) 0 ≡ b
         → cond b (eqb m 0 && eqb (length breaks) 0 && eqb (length coefficients) 0) (setFormed (d - k) m breaks coefficients) ≡ true → Used
@@ -43,11 +43,11 @@ others-used d k m breaks coefficients h = go (eqb (d - k) 0) refl h
         let q = and-parts (eqb m 0) (eqb (length breaks) 0) (p .0) in
         let c = eqb-true (length coefficients) 0 (p .1) in (
           rw (le-ltb k d (omega (arith, none))) (eqb-true (length breaks) 0 (q .1)),
-          rw none (omega (arith, c)),
+          rw none (omega (arith, c, eqb-true m 0 (q .0))),
         )
     go false e h =
         let some = eqb-false (d - k) 0 e in
-        let s = set-sizes (d - k) m breaks coefficients h in
+        let s = set-parts (d - k) m breaks coefficients h in
         (rw (lt-ltb k d (omega (arith, some))) (s .breaks-length), s .coefficients-length)
 
 -- where every slice is long enough
@@ -70,11 +70,11 @@ used-cells : (clamp : Bool) (d : ℕ) (x : Result) (s : Results) → wellFormed 
 unfolding curveOf resultsAfter
 used-cells clamp d x s h =
     let f = formed (curveOf (chosenMode clamp) d x) (slicesOf x) h in
-    let a = set-sizes (length (x .axes)) (x .report .segments) (x .selected .breaks) (x .selected .coefficients) (f .set-formed) in
-    let o = others-used d (length (x .axes)) (x .report .interpolated) (x .other .breaks) (x .other .coefficients) (f .others-formed) in
-    λ i. slices (front (x .selected .breaks) (s .breaks) (a .breaks-length) i)
-    (front (x .selected .coefficients) (s .coefficients) (a .coefficients-length) i)
-    (front (x .other .breaks) (s .otherBreaks) (o .0) i) (front (x .other .coefficients) (s .otherCoefficients) (o .1) i)
+    let t = slicesOf x in
+    let a = set-parts (length (x .axes)) (x .report .segments) (t .breaks) (t .coefficients) (f .set-formed) in
+    let o = others-used d (length (x .axes)) (x .report .interpolated) (t .otherBreaks) (t .otherCoefficients) (f .others-formed) in
+    λ i. slices (front (t .breaks) (s .breaks) (a .breaks-length) i) (front (t .coefficients) (s .coefficients) (a .coefficients-length) i)
+    (front (t .otherBreaks) (s .otherBreaks) (o .0) i) (front (t .otherCoefficients) (s .otherCoefficients) (o .1) i)
 
 module _ (l : Lane) (m : Limits) (doubles : Doubles (l .parameters)) (clamp : Bool) (room : Room) (w : BuildOutputs) where
   abbrev answer : Answer Result

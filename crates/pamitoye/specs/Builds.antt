@@ -76,8 +76,8 @@ buildOutputsAfter mode d z w =
 -- the used cells of the results: d axes, of which k are selected, n segments of these and m of the others
 abbrev pub usedCells : ℕ → ℕ → ℕ → ℕ → Results → Slices
 usedCells d k n m s =
-    slices (take (n + 1) (s .breaks)) (take (6 * (n * k)) (s .coefficients)) (take (cond (ltb k d) (m + 1) 0) (s .otherBreaks))
-    (take (6 * (m * (d - k))) (s .otherCoefficients))
+    slices (take (n + 1) (s .breaks)) (take (6 * (n * k) + n) (s .coefficients)) (take (cond (ltb k d) (m + 1) 0) (s .otherBreaks))
+    (take (6 * (m * (d - k)) + m) (s .otherCoefficients))
 
 -- the curve that a call has written is well formed, in slices of exactly its used cells
 abbrev pub FormedCurve : ℕ → Bool → BuildOutputs → Type 0

@@ -11,10 +11,11 @@ use Rattle.smoothing.specs.Checks.{Room}
 use Rattle.smoothing.specs.Build.{buildIn}
 
 -- "With E = max(n, max_segments) + 16, the lent room needed is: work E times (16d + 32); selected breaks max_segments + 1 and coefficients
--- 6d times max_segments; other breaks n and coefficients 6dn; errors d"
+-- 6d times max_segments; other breaks n and coefficients 6dn; errors d"; and, behind the coefficients, max_segments and n cells for the
+-- widths (document 02, request 12)
 abbrev pub roomCells : ℕ → ℕ → ℕ → List ℕ
 roomCells d n segments =
-    ((max n segments + 16) * (16 * d + 32)) ∷ (segments + 1) ∷ (segments * (6 * d)) ∷ n ∷ (n * (6 * d)) ∷ d ∷ []
+    ((max n segments + 16) * (16 * d + 32)) ∷ (segments + 1) ∷ (segments * (6 * d) + segments) ∷ n ∷ (n * (6 * d) + n) ∷ d ∷ []
 
 -- 18, "d, n, max_segments .. above the domain"
 abbrev pub roomNumber : ℕ → ℕ → ℕ → ℕ

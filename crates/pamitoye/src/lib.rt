@@ -8,3 +8,4 @@ mod curves; // curves.rt: a curve, and whether it is well formed
 mod queries; // queries.rt: one query, and many in one call
 mod certificates; // certificates.rt: the certified figure
 mod orders; // orders.rt: which lane is cut first
+mod returns; // returns.rt: the lane driven back

@@ -35,9 +35,9 @@ pub extern "C" fn pamitoye_room(
     *room = [
         e * (16 * d + 32),
         max_segments + 1,
-        max_segments * (6 * d),
+        max_segments * (6 * d) + max_segments,
         n,
-        n * (6 * d),
+        n * (6 * d) + n,
         d,
     ];
     0

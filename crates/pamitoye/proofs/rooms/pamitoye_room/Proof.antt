@@ -32,17 +32,15 @@ rows-small : (m d : ℕ) → m ≤ 20000 → d ≤ 16 → m * (6 * d) ≤ 20000 
 rows-small m d h g =
     let k : 6 * d ≤ 96 = omega arith in mul-le-mul h k
 
-mul-t12 : tie.Need-mul-t12
-mul-t12 c =
+selected-small : (c : tie.After-larger) → let a = c .before .before .before .before .args in a .max-segments * (6 * a .d) ≤ 20000 * 96
+selected-small c =
     let e = c .before in
-    let a = e .before .before .before .args in
-    omega (arith, rows-small (a .max-segments) (a .d) (e .if3 .left) (e .before .before .if1 .left))
+    let a = e .before .before .before .args in rows-small (a .max-segments) (a .d) (e .if3 .left) (e .before .before .if1 .left)
 
-mul-t14 : tie.Need-mul-t14
-mul-t14 c =
+others-small : (c : tie.After-larger) → let a = c .before .before .before .before .args in a .n * (6 * a .d) ≤ 20000 * 96
+others-small c =
     let e = c .before in
-    let a = e .before .before .before .args in
-    omega (arith, rows-small (a .n) (a .d) (e .before .if2 .left) (e .before .before .if1 .left))
+    let a = e .before .before .before .args in rows-small (a .n) (a .d) (e .before .if2 .left) (e .before .before .if1 .left)
 
 returns-4 : tie.Need-returns-4
 returns-4 c =
@@ -66,7 +64,9 @@ pamitoye-room-spec =
     mul-t9
     (λ c. search needs)
     (λ c. search needs)
-    mul-t12
+    (λ c. omega (arith, selected-small c))
+    (λ c. omega (arith, selected-small c))
     (λ c. search needs)
-    mul-t14
+    (λ c. omega (arith, others-small c))
+    (λ c. omega (arith, others-small c))
     returns-4)

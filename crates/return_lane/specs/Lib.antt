@@ -1,0 +1,4 @@
+-- Definitions that the contracts cite.
+
+pub mod Segment
+pub mod Return
