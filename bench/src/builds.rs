@@ -188,8 +188,8 @@ fn agrees(wanted: &Result<Built, Refusal>, told: &Told, lent: &Lent) -> bool {
         Ok(built) => {
             let curve = &built.curve;
             let (breaks, coefficients) = match &curve.other {
-                Some(other) => (&other.breaks[..], &other.coefficients[..]),
-                None => (&[][..], &[][..]),
+                Some(other) => (other.breaks.clone(), other.with_widths()),
+                None => (Vec::new(), Vec::new()),
             };
             let mut axes = [0; 16];
             axes[..curve.axes.len()].copy_from_slice(&curve.axes);
@@ -201,11 +201,11 @@ fn agrees(wanted: &Result<Built, Refusal>, told: &Told, lent: &Lent) -> bool {
             }
             let selected = &curve.selected;
             let results = [
-                &selected.breaks,
-                &selected.coefficients,
+                selected.breaks.clone(),
+                selected.with_widths(),
                 breaks,
                 coefficients,
-                &built.max_errors,
+                built.max_errors.clone(),
             ];
             (0, results)
         }
@@ -217,7 +217,7 @@ fn agrees(wanted: &Result<Built, Refusal>, told: &Told, lent: &Lent) -> bool {
             if !kept || !same(told.ratio, ratio) {
                 return false;
             }
-            (refusal.number, [&[][..]; 5])
+            (refusal.number, Default::default())
         }
     };
     let guards = {
@@ -232,7 +232,7 @@ fn agrees(wanted: &Result<Built, Refusal>, told: &Told, lent: &Lent) -> bool {
     told.number == number as u64
         && guards
         && all(lent.part(0), left)
-        && lent.0[1..].iter().zip(results).all(|(a, b)| begins(a, b))
+        && lent.0[1..].iter().zip(results).all(|(a, b)| begins(a, &b))
 }
 
 /// A request of any kind; in some slices are longer than they need be, too short, or the list of axes is long.

@@ -179,8 +179,8 @@ impl Case {
         let mut axes = [0; 16];
         axes[..k].copy_from_slice(&order[..k]);
         let mut row = |n: usize| (0..n).map(|_| coefficient(random)).collect::<Vec<f64>>();
-        let coefficients = row(6 * k * breaks.len().saturating_sub(1));
-        let other_coefficients = row(6 * (d - k) * other_breaks.len().saturating_sub(1));
+        let mut coefficients = row(6 * k * breaks.len().saturating_sub(1));
+        let mut other_coefficients = row(6 * (d - k) * other_breaks.len().saturating_sub(1));
         let source = timed::curve(
             d,
             &axes[..k],
@@ -188,6 +188,9 @@ impl Case {
             (&breaks, &coefficients),
             (&other_breaks, &other_coefficients),
         );
+        // The widths behind the coefficients, which the source has not.
+        coefficients.extend(breaks.windows(2).map(|v| v[1] - v[0]));
+        other_coefficients.extend(other_breaks.windows(2).map(|v| v[1] - v[0]));
         Case {
             d,
             k,

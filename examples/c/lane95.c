@@ -55,7 +55,7 @@ int main(void) {
         printf("axis %zu error %.17g\n", axes[i], errors[i]);
 
     /* the cells of the curve: all axes are smoothed, so that the other set is empty */
-    const size_t breaks_len = counts[0] + 1, coefficients_len = 6 * counts[0] * k;
+    const size_t breaks_len = counts[0] + 1, coefficients_len = (6 * k + 1) * counts[0];
 
     const double xs[3] = {0, 0.5, 1};
     double q[3 * D] = {0}, dq[3 * D] = {0};

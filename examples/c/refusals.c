@@ -120,8 +120,8 @@ static void check_untouched(const struct built *b) {
 /* The curve of an accepted build, in its used cells: d to other_segments, and the four slices. */
 #define NUMBERS(b) D, (b).k, (b).axes, (b).start, (b).end, false, (b).counts[0], (b).counts[1]
 #define SLICES(b)                                                                                  \
-    (b).breaks, (b).counts[0] + 1, (b).coefficients, 6 * (b).counts[0] * (b).k, (b).other_breaks,  \
-        (b).counts[1] + 1, (b).other_coefficients, 6 * (b).counts[1] * (D - (b).k)
+    (b).breaks, (b).counts[0] + 1, (b).coefficients, (6 * (b).k + 1) * (b).counts[0], (b).other_breaks, \
+        (b).counts[1] + 1, (b).other_coefficients, (6 * (D - (b).k) + 1) * (b).counts[1]
 
 /* Four slices of n cells, one for each order; a query of x asks for D cells, four for 4 * D. */
 enum { SLICE = 4 * D, CELLS = 4 * SLICE };

@@ -360,8 +360,9 @@ fn build(input: Input) -> Result<Answer, String> {
         let mut cells = vec![curve.start, curve.end];
         cells.extend(built.max_errors);
         for p in [Some(curve.selected), curve.other].into_iter().flatten() {
+            let coefficients = p.with_widths();
             cells.extend(p.breaks);
-            cells.extend(p.coefficients);
+            cells.extend(coefficients);
         }
         (whole, cells)
     });
@@ -457,11 +458,14 @@ fn evaluate(mut input: Input) -> Result<Answer, String> {
     Ok(Answer::Given(Vec::new(), reach::evaluate(&curve, queries)))
 }
 
+/// The widths behind the coefficients are passed over: the source has none.
 fn pieces(input: &mut Input, segments: usize, axes: usize) -> Result<Pieces, String> {
-    Ok(Pieces {
+    let pieces = Pieces {
         breaks: input.cells(segments + 1)?.to_vec(),
         coefficients: input.cells(6 * axes * segments)?.to_vec(),
-    })
+    };
+    input.cells(segments)?;
+    Ok(pieces)
 }
 
 /// The curve of a case that takes nothing for granted: its counts, the packed axes and how many cells

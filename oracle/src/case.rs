@@ -104,6 +104,13 @@ impl Pieces {
     pub fn segments(&self) -> usize {
         self.breaks.len() - 1
     }
+
+    /// The coefficients, and behind them the width of each segment, as document 02's request 12 has a
+    /// curve keep it.
+    pub fn with_widths(&self) -> Vec<f64> {
+        let widths = self.breaks.windows(2).map(|v| v[1] - v[0]);
+        self.coefficients.iter().copied().chain(widths).collect()
+    }
 }
 
 /// A curve as document 01 describes it; `other` is there when an axis is not selected.
@@ -303,9 +310,9 @@ impl Case {
             &[
                 &[curve.start, curve.end],
                 &curve.selected.breaks,
-                &curve.selected.coefficients,
+                &curve.selected.with_widths(),
                 &other.breaks,
-                &other.coefficients,
+                &other.with_widths(),
                 queries,
             ],
         )

@@ -30,10 +30,10 @@ impl From<Curve> for HandedCurve {
             segments: curve.selected.segments(),
             other_segments: other.map_or(0, Pieces::segments),
             other_breaks: other.map_or(Vec::new(), |p| p.breaks.clone()),
-            other_coefficients: other.map_or(Vec::new(), |p| p.coefficients.clone()),
+            other_coefficients: other.map_or(Vec::new(), Pieces::with_widths),
             axes: curve.axes,
+            coefficients: curve.selected.with_widths(),
             breaks: curve.selected.breaks,
-            coefficients: curve.selected.coefficients,
         }
     }
 }
@@ -64,9 +64,10 @@ impl HandedCurve {
 
     /// The curve, which is well formed.
     pub fn formed(&self) -> Curve {
+        let (rows, others) = (self.rows(), 6 * (self.d - self.k) * self.other_segments);
         let other = Pieces {
             breaks: self.other_breaks.clone(),
-            coefficients: self.other_coefficients.clone(),
+            coefficients: self.other_coefficients[..others].to_vec(),
         };
         Curve {
             d: self.d,
@@ -75,10 +76,23 @@ impl HandedCurve {
             end: self.end,
             selected: Pieces {
                 breaks: self.breaks.clone(),
-                coefficients: self.coefficients.clone(),
+                coefficients: self.coefficients[..rows].to_vec(),
             },
             other: (self.k < self.d).then_some(other),
         }
+    }
+
+    /// How many coefficients of selected axes there are; the widths follow.
+    pub fn rows(&self) -> usize {
+        6 * self.k * self.segments
+    }
+
+    /// The widths of the selected axes' breaks as they are, of a curve that was well formed.
+    pub fn keep_widths(&mut self) {
+        let rows = self.rows();
+        self.coefficients.truncate(rows);
+        let widths = self.breaks.windows(2).map(|v| v[1] - v[0]);
+        self.coefficients.extend(widths);
     }
 
     /// How many cells each of the four slices has.
@@ -105,12 +119,16 @@ impl HandedCurve {
 }
 
 /// "slice lengths match, each set has at least one and at most 20,000 segments .., breaks rise
-/// strictly from 0 to 1"
+/// strictly from 0 to 1"; "a width that differs in bits is 24"
 fn set_formed(axes: usize, segments: usize, breaks: &[f64], coefficients: &[f64]) -> bool {
     (1..=20_000).contains(&segments)
         && breaks.len() == segments + 1
-        && coefficients.len() == 6 * axes * segments
+        && coefficients.len() == (6 * axes + 1) * segments
         && breaks[0] == 0.
         && breaks.windows(2).all(|v| v[0] < v[1])
         && breaks[segments] == 1.
+        && breaks
+            .windows(2)
+            .zip(&coefficients[6 * axes * segments..])
+            .all(|(v, width)| (v[1] - v[0]).to_bits() == width.to_bits())
 }

@@ -62,9 +62,9 @@ impl Request {
         [
             (n.max(segments) + 16) * (16 * d + 32),
             segments + 1,
-            6 * d * segments,
+            (6 * d + 1) * segments,
             n,
-            6 * d * n,
+            (6 * d + 1) * n,
             d,
         ]
     }

@@ -26,7 +26,8 @@ pub(crate) struct Curve {
     other: Set,
 }
 
-/// The breaks and coefficients of the smoothed axes, or of the others.
+/// The breaks and coefficients of the smoothed axes, or of the others; the widths of the segments lie behind the
+/// coefficients.
 #[derive(Clone, Debug)]
 struct Set {
     breaks: Vec<f64>,
@@ -70,11 +71,16 @@ impl Set {
         } else {
             segments.checked_add(1)?
         };
-        let cells = axes.checked_mul(6)?.checked_mul(segments)?;
+        let cells = axes.checked_mul(6)?.checked_add(1)?.checked_mul(segments)?;
         Some(Self {
             breaks: breaks.get(..count)?.to_vec(),
             coefficients: coefficients.get(..cells)?.to_vec(),
         })
+    }
+
+    /// The coefficients without the widths of the segments, which lie behind them.
+    fn rows(&self) -> &[f64] {
+        &self.coefficients[..self.coefficients.len() - self.segments()]
     }
 }
 
@@ -258,12 +264,12 @@ impl Curve {
 
     /// The breaks and coefficients of the smoothed axes.
     pub(crate) fn smoothed(&self) -> (&[f64], &[f64]) {
-        (&self.smoothed.breaks, &self.smoothed.coefficients)
+        (&self.smoothed.breaks, self.smoothed.rows())
     }
 
     /// The breaks and coefficients of the other axes.
     pub(crate) fn other(&self) -> (&[f64], &[f64]) {
-        (&self.other.breaks, &self.other.coefficients)
+        (&self.other.breaks, self.other.rows())
     }
 
     fn outside(&self, index: usize, value: f64) -> PathError {

@@ -3,7 +3,7 @@
 use super::curves::{any_coefficients, breaks};
 use super::most_cells;
 use super::systems::{coordinates, samples};
-use crate::case::Case;
+use crate::case::{Case, Pieces};
 use crate::certificate::Question;
 use crate::handed::HandedCurve;
 use crate::path::smoothing::reach;
@@ -118,6 +118,16 @@ fn made(r: &mut Random) -> Question {
         (-1e307, 2e307),
         (0., 1e-310),
     ]);
+    let selected = Pieces {
+        coefficients: any_coefficients(r, 6 * k * segments),
+        breaks,
+    };
+    let other = Pieces {
+        breaks: other_breaks
+            .take(if k < d { others + 1 } else { 0 })
+            .collect(),
+        coefficients: any_coefficients(r, 6 * (d - k) * others),
+    };
     let curve = HandedCurve {
         d,
         k,
@@ -126,12 +136,10 @@ fn made(r: &mut Random) -> Question {
         end: start + length,
         segments,
         other_segments: others,
-        coefficients: any_coefficients(r, 6 * k * segments),
-        other_breaks: other_breaks
-            .take(if k < d { others + 1 } else { 0 })
-            .collect(),
-        other_coefficients: any_coefficients(r, 6 * (d - k) * others),
-        breaks,
+        coefficients: selected.with_widths(),
+        other_coefficients: other.with_widths(),
+        breaks: selected.breaks,
+        other_breaks: other.breaks,
     };
     let mut question = Question {
         curve,
@@ -190,7 +198,8 @@ fn straighten(r: &mut Random, question: &mut Question, s: &[f64]) {
             question.points[i * question.curve.d + axis] += s * rise + noise * r.signed();
         }
     }
-    let rows = question.curve.coefficients.as_chunks_mut().0;
+    let count = question.curve.rows();
+    let rows = question.curve.coefficients[..count].as_chunks_mut().0;
     for (row, p) in rows.iter_mut().enumerate() {
         let m = row / question.curve.k;
         let (a, b) = (question.curve.breaks[m], question.curve.breaks[m + 1]);
@@ -202,7 +211,8 @@ fn straighten(r: &mut Random, question: &mut Question, s: &[f64]) {
 /// depend on.
 fn change(r: &mut Random, question: &mut Question) {
     let (d, n) = (question.curve.d, question.n);
-    let place = r.below(question.curve.coefficients.len());
+    let rows = question.curve.rows();
+    let place = r.below(rows);
     let point = r.below(question.points.len());
     match r.below(12) {
         0 => question.curve.coefficients[place] = r.pick(&HUGE),
@@ -217,7 +227,7 @@ fn change(r: &mut Random, question: &mut Question) {
             question.parameters = request::parameters(r, n);
         }
         8 => {
-            for v in &mut question.curve.coefficients {
+            for v in &mut question.curve.coefficients[..rows] {
                 *v = f64::from_bits(r.next() >> r.between(12, 63)) * r.sign();
             }
         }
@@ -227,6 +237,7 @@ fn change(r: &mut Random, question: &mut Question) {
         _ if question.curve.segments > 1 => {
             let place = r.between(1, question.curve.segments - 1);
             question.curve.breaks[place] = question.curve.breaks[place].next_up();
+            question.curve.keep_widths();
         }
         _ => {}
     }
@@ -290,7 +301,7 @@ pub fn damage_curve(r: &mut Random, curve: &mut HandedCurve) {
     let last = curve.breaks.len() - 1;
     let place = r.below(last + 1);
     let not_finite = r.pick(&HUGE[..3]);
-    match r.below(28) {
+    match r.below(30) {
         0 => curve.k = 0,
         1 => curve.k = curve.d.min(200) + 1,
         2 => curve.k = r.pick(&[16, 17, 255]),
@@ -333,6 +344,17 @@ pub fn damage_curve(r: &mut Random, curve: &mut HandedCurve) {
         24 => curve.end = not_finite,
         25 => curve.end = curve.start,
         26 => (curve.start, curve.end) = (curve.end, curve.start),
+        // A width that is another number, or the same with its sign turned.
+        27 => {
+            if let Some(v) = curve.coefficients.last_mut() {
+                *v = r.pick(&[v.next_up(), -*v, f64::NAN, 0.]);
+            }
+        }
+        28 => {
+            if let Some(v) = curve.other_coefficients.last_mut() {
+                *v = v.next_down();
+            }
+        }
         _ => (curve.start, curve.end) = (-1e308, 1e308),
     }
 }

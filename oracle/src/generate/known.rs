@@ -262,7 +262,9 @@ fn outside() -> Vec<(usize, Request)> {
         (20, wide(1000)),
         (19, more(row(&[f64::NAN]), [-1; 6])),
         (19, more(rows(&[]), [-1, 0, 0, 0, 0, 0])),
-        (1, more(rows(&[]), [0, 0, -1, -1, -1, -1])),
+        (1, more(rows(&[]), [0, 0, 0, -1, -1, -1])),
+        // The widths need their cells also without an axis.
+        (19, more(rows(&[]), [0, 0, -1, 0, 0, 0])),
         (8, more(limits(flat(), 20, 0), [0, 0, -1, 0, 0, 0])),
         (0, limits(flat(), 200, 40)),
         (0, more(two(), [1, 2, 3, 4, 5, 6])),
