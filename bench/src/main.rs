@@ -17,6 +17,9 @@ mod case;
 #[path = "../../oracle/src/certificate.rs"]
 #[allow(dead_code)]
 mod certificate;
+#[path = "../../oracle/src/generate/damage.rs"]
+#[allow(dead_code)]
+mod damage;
 #[path = "../../oracle/src/handed.rs"]
 #[allow(dead_code)]
 mod handed;
@@ -36,6 +39,12 @@ mod refusal;
 #[path = "../../oracle/src/request.rs"]
 #[allow(dead_code)]
 mod request;
+#[path = "../../oracle/src/returned.rs"]
+#[allow(dead_code)]
+mod returned;
+#[path = "../../oracle/src/generate/returns.rs"]
+#[allow(dead_code)]
+mod returns;
 #[path = "../../oracle/src/standin.rs"]
 #[allow(dead_code)]
 mod standin;

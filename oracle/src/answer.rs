@@ -8,10 +8,11 @@ use crate::path::smoothing::{SmoothingConfig, SmoothingTolerance, reach};
 use crate::query::{Queries, Told};
 use crate::refusal::Refusal;
 use crate::request::Request;
+use crate::returned::Returning;
 use std::fmt::Write;
 
-/// What a case is answered with: whole numbers, then cells; a figure or none; queries one after the
-/// other; or a refusal.
+/// What a case is answered with: whole numbers, then cells; a figure or none; calls one after the
+/// other, with the cells of their slices; or a refusal.
 pub enum Answer {
     Given(Vec<usize>, Vec<f64>),
     Figure(Option<f64>),
@@ -164,6 +165,7 @@ pub fn answer(case: &Case) -> Result<Answer, String> {
         Kind::Query => queries(input, Kind::Query),
         Kind::Queries => queries(input, Kind::Queries),
         Kind::Reader => queries(input, Kind::Reader),
+        Kind::Returned => returned(input),
         Kind::Certify => certify(input),
     }
     .map_err(|e| format!("{}: {e}", case.kind.name()))
@@ -491,6 +493,11 @@ fn handed(
     })
 }
 
+/// Four bytes of a whole number.
+fn four(word: usize) -> [usize; 4] {
+    std::array::from_fn(|i| unpack(&[word, 0, 0, 0], 4)[i])
+}
+
 fn queries(mut input: Input, kind: Kind) -> Result<Answer, String> {
     let whole = input.whole::<16>()?;
     let [
@@ -512,7 +519,6 @@ fn queries(mut input: Input, kind: Kind) -> Result<Answer, String> {
         count,
     ] = whole;
     require(mode <= 1, || format!("mode {mode}"))?;
-    let four = |word| std::array::from_fn(|i| unpack(&[word, 0, 0, 0], 4)[i]);
     let queries = Queries {
         curve: handed(&mut input, [d, k, n, m], [w0, w1, w2, w3], [c0, c1, c2, c3])?,
         clamp: mode == 1,
@@ -533,6 +539,16 @@ fn queries(mut input: Input, kind: Kind) -> Result<Answer, String> {
         Kind::Queries => Ok(Answer::Queried(vec![queries.all()])),
         _ => Ok(Answer::Queried(queries.in_turn())),
     }
+}
+
+fn returned(mut input: Input) -> Result<Answer, String> {
+    let [d, k, n, m, w0, w1, w2, w3, c0, c1, c2, c3, lengths] = input.whole()?;
+    let returning = Returning {
+        curve: handed(&mut input, [d, k, n, m], [w0, w1, w2, w3], [c0, c1, c2, c3])?,
+        lengths: four(lengths),
+    };
+    input.end()?;
+    Ok(Answer::Queried(vec![returning.told()]))
 }
 
 fn certify(mut input: Input) -> Result<Answer, String> {

@@ -5,6 +5,7 @@ use crate::certificate::Question;
 use crate::path::smoothing::SmoothingTolerance;
 use crate::query::Queries;
 use crate::request::Request;
+use crate::returned::Returning;
 
 /// What is asked, with its number in the list.
 #[derive(Clone, Copy, Debug, PartialEq, Eq)]
@@ -38,12 +39,13 @@ pub enum Kind {
     Query = 81,
     Queries = 82,
     Reader = 83,
+    Returned = 84,
     Certify = 90,
 }
 
 impl Kind {
     /// Every kind with its name.
-    pub const ALL: [(Kind, &'static str); 30] = [
+    pub const ALL: [(Kind, &'static str); 31] = [
         (Kind::Clear, "clear"),
         (Kind::Copy, "copy"),
         (Kind::Sqrt, "sqrt"),
@@ -73,6 +75,7 @@ impl Kind {
         (Kind::Query, "query"),
         (Kind::Queries, "queries"),
         (Kind::Reader, "reader"),
+        (Kind::Returned, "returned"),
         (Kind::Certify, "certify"),
     ];
 
@@ -350,5 +353,16 @@ impl Case {
         ];
         let cells = [&curve.cells()[..], &queries.parameters];
         Self::new(kind, &whole.concat(), &cells)
+    }
+
+    pub fn returned(returning: &Returning) -> Self {
+        let curve = &returning.curve;
+        let whole = [
+            &[curve.d, curve.k, curve.segments, curve.other_segments],
+            &pack(&curve.axes)[..],
+            &curve.counts(),
+            &pack(&returning.lengths)[..1],
+        ];
+        Self::new(Kind::Returned, &whole.concat(), &[&curve.cells()])
     }
 }

@@ -3,10 +3,12 @@
 mod builds;
 mod certificates;
 mod curves;
+mod damage;
 pub mod jobs;
 pub mod known;
 mod leaves;
 mod queries;
+pub mod returns;
 mod splines;
 mod systems;
 
@@ -79,6 +81,7 @@ fn draw(r: &mut Random, kind: Kind) -> Case {
         Kind::Query => queries::query(r),
         Kind::Queries => queries::queries(r),
         Kind::Reader => queries::reader(r),
+        Kind::Returned => returns::returned(r),
         Kind::Certify => certificates::certify(r),
         Kind::Build => builds::build(r),
     }

@@ -18,6 +18,7 @@ mod query;
 mod random;
 mod refusal;
 mod request;
+mod returned;
 mod standin;
 mod table;
 #[cfg(test)]

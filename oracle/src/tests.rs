@@ -4,13 +4,14 @@
 use crate::answer::{Answer, answer, digits};
 use crate::case::{Case, Kind};
 use crate::certificate::{Certificate, Question};
-use crate::generate::known;
+use crate::generate::{known, returns};
 use crate::handed::HandedCurve;
 use crate::path::smoothing::{SmoothingTolerance, reach};
 use crate::query::{MARK, Queries, Told};
 use crate::random::{Random, power_of_two};
 use crate::refusal::Refusal;
 use crate::request::{Request, draw};
+use crate::returned::Returning;
 use crate::{generate, job, list, recipe, requests, table};
 use std::fs;
 
@@ -583,6 +584,218 @@ fn odd_query_cases_end() {
     odd_cases_end("reader");
 }
 
+/// The curve with as many cells lent as it needs, of one axis from 0 to 1 beside the same of another.
+fn returning(breaks: &[f64], coefficients: &[f64]) -> Returning {
+    let mut curve = corner().curve;
+    curve.segments = breaks.len() - 1;
+    curve.other_segments = curve.segments;
+    curve.breaks = breaks.to_vec();
+    curve.coefficients = coefficients.to_vec();
+    curve.keep_widths();
+    curve.other_breaks = curve.breaks.clone();
+    curve.other_coefficients = curve.coefficients.clone();
+    Returning {
+        lengths: curve.counts(),
+        curve,
+    }
+}
+
+#[test]
+fn known_return_lanes() {
+    let of_one = |p: &[f64]| returning(&[0., 1.], p).lane().unwrap().coefficients;
+    let one_and_two = of_one(&[1., 2., 0., 0., 0., 0.]);
+    assert!(same(&one_and_two, &[3., -2., 0., -0., 0., -0., 1.]));
+    let fifth_power = of_one(&[0., 0., 0., 0., 0., 1.]);
+    assert!(same(&fifth_power, &[1., -5., 10., -10., 5., -1., 1.]));
+    // Added to +0 in rising j: signs of zeros, and a sum that overflows on the way.
+    let zeros = of_one(&[-0.; 6]);
+    assert!(same(&zeros, &[0., -0., 0., -0., 0., -0., 1.]));
+    let inf = f64::INFINITY;
+    let huge = of_one(&[1e308, 1e308, -1e308, 0., 0., 0.]);
+    assert!(same(&huge[..3], &[inf, inf, -1e308]));
+    let none = of_one(&[inf, -inf, 0., 0., 0., 0.]);
+    assert!(same(&none, &[f64::NAN, inf, 0., -0., 0., -0., 1.]));
+    // Two segments of two axes each, and another set of one: segments in reverse, axes as they are.
+    let mut two = returning(
+        &[0., 0.25, 1.],
+        &[1., 2., 0., 0., 0., 0., 5., 0., 0., 0., 0., 0.],
+    );
+    two.curve.d = 3;
+    two.curve.k = 2;
+    two.curve.axes = vec![2, 0];
+    two.curve.coefficients = [[1.; 6], [2.; 6], [3.; 6], [4.; 6]].concat();
+    two.curve.coefficients.extend([0.25, 0.75]);
+    two.lengths = two.curve.counts();
+    let lane = two.lane().unwrap();
+    let six = [6., -15., 20., -15., 6., -1.];
+    let wanted: Vec<_> = [3., 4., 1., 2.]
+        .iter()
+        .flat_map(|v| six.map(|c| c * v))
+        .chain([0.75, 0.25])
+        .collect();
+    assert!(same(&lane.coefficients, &wanted));
+    assert!(same(&lane.breaks, &[0., 0.75, 1.]));
+    assert!(same(&lane.other_breaks, &[0., 0.75, 1.]));
+    let others = [
+        5., -0., 0., -0., 0., -0., 3., -2., 0., -0., 0., -0., 0.75, 0.25,
+    ];
+    assert!(same(&lane.other_coefficients, &others));
+    assert_eq!(lane.axes, [2, 0]);
+    // All axes selected: nothing of the other set.
+    let mut alone = returning(&[0., 1.], &[1., 2., 0., 0., 0., 0.]);
+    alone.curve.d = 1;
+    alone.curve.axes = vec![0];
+    alone.curve.other_segments = 0;
+    alone.curve.other_breaks.clear();
+    alone.curve.other_coefficients.clear();
+    alone.lengths = [3, 7, 2, 0];
+    let m = MARK;
+    let cells = [0., 1., m, 3., -2., 0., -0., 0., -0., 1., m, m];
+    let told = alone.told();
+    assert!(told.refused.is_none() && same(&told.cells, &cells));
+}
+
+/// Faults put in one by one, the last to be met first, give "29, after 24 and 19"; cells then stay.
+#[test]
+fn return_lanes_check_in_order() {
+    let number = |lane: &Returning| {
+        let told = lane.told();
+        let stays = told.cells.iter().all(|v| *v == MARK);
+        assert_eq!(told.cells.len(), lane.lengths.iter().sum::<usize>());
+        assert_eq!(stays, told.refused.is_some());
+        told.refused.map(|v| v.0)
+    };
+    let good = returning(&[0., 0.5, 1.], &[0.; 12]);
+    assert_eq!(number(&good), None);
+    let fine = returning(&[0., power_of_two(-53), 1.], &[0.; 12]);
+    assert_eq!(number(&fine), None);
+    let close = returning(&[0., power_of_two(-54), 1.], &[0.; 12]);
+    assert_eq!(number(&close), Some(29));
+    for other in [false, true] {
+        // One set alone collapses.
+        let mut lane = good.clone();
+        if other {
+            lane.curve.other_breaks = close.curve.other_breaks.clone();
+            lane.curve.other_coefficients = close.curve.other_coefficients.clone();
+        } else {
+            lane.curve.breaks = close.curve.breaks.clone();
+            lane.curve.coefficients = close.curve.coefficients.clone();
+        }
+        assert_eq!(number(&lane), Some(29));
+        for i in 0..4 {
+            let mut short = lane.clone();
+            short.lengths[i] -= 1;
+            assert_eq!(number(&short), Some(19));
+            short.lengths = [0; 4];
+            assert_eq!(number(&short), Some(19));
+            let widths = if other {
+                &mut short.curve.other_coefficients
+            } else {
+                &mut short.curve.coefficients
+            };
+            let place = widths.len() - 1 - i % 2;
+            let v = widths[place];
+            widths[place] = [v.next_up(), -v, f64::NAN, -0.][i];
+            assert_eq!(number(&short), Some(24));
+        }
+    }
+}
+
+#[test]
+fn returned_cases_reach_every_answer() {
+    let mut found = [0; 30];
+    let (mut alone, mut nan, mut negative) = (0, 0, 0);
+    for case in generate::group("returned", 84, 1000).unwrap() {
+        let Answer::Queried(list) = answer(&case).unwrap() else {
+            panic!("no answer of this kind");
+        };
+        found[list[0].refused.map_or(0, |v| v.0)] += 1;
+        if list[0].refused.is_none() {
+            alone += usize::from(case.whole[0] == case.whole[1]);
+            nan += usize::from(list[0].cells.iter().any(|v| v.is_nan()));
+            negative += usize::from(case.cells[2].is_sign_negative());
+        }
+    }
+    for (number, count) in found.iter().enumerate() {
+        assert_eq!(*count > 50, matches!(number, 0 | 19 | 24 | 29), "{found:?}");
+    }
+    assert!(alone > 50 && nan > 50 && negative > 20);
+}
+
+/// Driven back twice, a lane has its breaks and widths again where 1 minus a break is exact, and whole
+/// coefficients too.
+#[test]
+fn returned_twice() {
+    let mut r = Random::new(85);
+    let mut exact = 0;
+    for _ in 0..1000 {
+        let mut there = returns::returning(&mut r);
+        there.lengths = there.curve.counts();
+        let Ok(back) = there.lane() else {
+            continue;
+        };
+        assert!(back.well_formed());
+        let lane = &there.curve;
+        let all_exact = |list: &[f64]| list.iter().all(|v| 1. - (1. - v) == *v);
+        if !all_exact(&lane.breaks) || !all_exact(&lane.other_breaks) {
+            continue;
+        }
+        exact += 1;
+        let again = Returning {
+            curve: back,
+            lengths: there.lengths,
+        };
+        let again = again.lane().unwrap();
+        let rows = lane.rows();
+        assert_eq!(again.breaks, lane.breaks);
+        assert_eq!(again.other_breaks, lane.other_breaks);
+        assert!(same(
+            &again.coefficients[rows..],
+            &lane.coefficients[rows..]
+        ));
+        let whole = |v: &f64| v.abs() < 1e9 && v.fract() == 0.;
+        if lane.coefficients[..rows].iter().all(whole) {
+            assert_eq!(again.coefficients[..rows], lane.coefficients[..rows]);
+        }
+    }
+    assert!(exact > 200, "{exact}");
+}
+
+/// A built curve's values at the mirrored parameters, to some digits.
+#[test]
+fn return_lane_of_a_built_curve() {
+    let built = reach::build(&one_row(&[0., 3., -2., 1., 1.5, 7.])).unwrap();
+    let curve = HandedCurve::from(built.curve);
+    let there = Returning {
+        lengths: curve.counts(),
+        curve,
+    };
+    let (start, end) = (there.curve.start, there.curve.end);
+    let values = |curve: &HandedCurve, x: f64| {
+        let one = Queries {
+            curve: curve.clone(),
+            clamp: false,
+            orders: [1; 4],
+            lengths: [1, 1, 0, 0],
+            parameters: vec![x],
+        };
+        one.single().cells
+    };
+    let back = there.lane().unwrap();
+    for i in 0..=20 {
+        let x = f64::from(i) / 20. * (end - start);
+        let forth = values(&there.curve, start + x);
+        let mirrored = values(&back, end - x);
+        assert!((forth[0] - mirrored[0]).abs() < 1e-12, "{x}");
+        assert!((forth[1] + mirrored[1]).abs() < 1e-9, "{x}");
+    }
+}
+
+#[test]
+fn odd_returned_cases_end() {
+    odd_cases_end("returned");
+}
+
 /// Fowler, Noll and Vo's checksum, 1a, of 64 bits.
 fn checksum(bytes: &[u8]) -> u64 {
     bytes.iter().fold(0xCBF2_9CE4_8422_2325, |sum, byte| {
@@ -608,7 +821,7 @@ fn seed_cases_are_finite() {
 
 /// Recorded; a change of a generator changes them, and the stored list with them.
 const REQUESTS_1_200: u64 = 0x1D20_11BE_0FC4_2712;
-const GROUPS_1_20: u64 = 0x0A70_5E24_ABE3_15B7;
+const GROUPS_1_20: u64 = 0xBE5D_41D8_88F8_648C;
 
 #[test]
 fn refusal_14_prints_its_ratio() {

@@ -1,8 +1,8 @@
 //! Cases of `query`, `queries` and `reader`: curves of both modes, orders, lent slices of any length,
 //! parameters anywhere, and what is turned away.
 
-use super::certificates::damage_curve;
 use super::curves::made;
+use super::damage::damage_curve;
 use super::most_cells;
 use crate::case::{Case, Curve, Kind};
 use crate::path::smoothing::reach;
