@@ -9,6 +9,7 @@ mod certificates;
 mod leaves;
 mod numbers;
 mod queries;
+mod ways_back;
 
 // The oracle's: what the source takes from elsewhere, requests with their generator, and what its appendix hands out.
 #[path = "../../oracle/src/case.rs"]
@@ -68,6 +69,9 @@ fn main() {
     }
     if asked("queries") {
         queries::run();
+    }
+    if asked("returns") {
+        ways_back::run();
     }
     if asked("builds") {
         builds::run();

@@ -128,7 +128,7 @@ unfolding tolerancesOf toleranceOf
 per-axis-count tolerance list k e = ap (λ (t : Tolerance). length (tolerancesIn t list k)) e
 
 -- ---- when tolerances are refused
-any-false : (n : ℕ) (f : ℕ → Bool) → ((i : ℕ) → i < n → f i ≡ false) → any n f ≡ false
+pub any-false : (n : ℕ) (f : ℕ → Bool) → ((i : ℕ) → i < n → f i ≡ false) → any n f ≡ false
 unfolding any
 any-false zero f h = refl
 any-false (suc n) f h = rw (any-false n f (λ i l. h i (omega arith)), h n (omega arith))

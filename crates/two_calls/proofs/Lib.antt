@@ -5,3 +5,4 @@ pub mod UnsmoothedRows
 pub mod Figures
 pub mod EvenParameters
 pub mod OtherRows
+pub mod WayBack

@@ -1,5 +1,5 @@
 -- `form::widths_kept` meets its contract. The invariant: `kept` of the first i widths have the bits of the difference.
-use mathlib.Core.Bool.{Bool, true}
+use mathlib.Core.Bool.{Bool, true, cond}
 use mathlib.Core.List.{List}
 use mathlib.Core.Path.{_≡_, sym}
 use Prim.Native.Nat.{ℕ, _+_, _-_, _≤_, _<_}
@@ -50,7 +50,8 @@ loop-again c =
     let e = told b (a .cells .now) (a .from) (a .n) i (s .pre .2) (t .loop-test .taken) (known .shared-slice-known2 .given (a .from + i))
     (known .before .shared-slice-known .given i) (known .before .shared-slice-known .given (i + 1)) in
     let k = counted-next (same b (a .cells .now) (a .from)) i (l .loop .kept) (l .loop .inv .1) in
-    (omega arith, rw (c .one-if .ensures .0, ← e) k)
+    let one : c .one-if .result ≡ cond (eq (at (a .cells .now) (a .from + i)) (widthOf b i)) 1 0 = c .one-if .ensures .0 in
+    (omega arith, rw (one, ← e) k)
 
 returns : tie.Need-returns Inv-loop μ-loop
 unfolding widthsKept
