@@ -540,19 +540,27 @@ fn query_cases_reach_every_answer() {
     }
 }
 
-/// What the stored list has of queries: every answer of each kind, in both modes; of single calls every
-/// order; of a reader, queries refused between others that are answered.
-#[test]
-fn stored_queries_reach_every_answer() {
+/// The cases of the stored list in groups of these names.
+fn stored(names: &[&str]) -> Vec<Case> {
     let text = std::fs::read_to_string("lists.txt").unwrap();
     let mut cases = Vec::new();
     for line in text.lines() {
         let words: Vec<_> = line.split_whitespace().collect();
-        if let [name @ ("query" | "queries" | "reader"), seed, count] = words[..] {
+        if let [name, seed, count] = words[..]
+            && names.contains(&name)
+        {
             let (seed, count) = (seed.parse().unwrap(), count.parse().unwrap());
             cases.extend(generate::group(name, seed, count).unwrap());
         }
     }
+    cases
+}
+
+/// What the stored list has of queries: every answer of each kind, in both modes; of single calls every
+/// order; of a reader, queries refused between others that are answered.
+#[test]
+fn stored_queries_reach_every_answer() {
+    let cases = stored(&["query", "queries", "reader"]);
     for kind in [Kind::Query, Kind::Queries, Kind::Reader] {
         let (mut found, mut orders, mut mixed) = ([[0; 25]; 2], [0; 4], 0);
         for case in cases.iter().filter(|case| case.kind == kind) {
@@ -720,6 +728,38 @@ fn returned_cases_reach_every_answer() {
         assert_eq!(*count > 50, matches!(number, 0 | 19 | 24 | 29), "{found:?}");
     }
     assert!(alone > 50 && nan > 50 && negative > 20);
+}
+
+/// What the stored list has of return lanes: every answer, 29 by either set, and lanes with another set,
+/// without one, and with cells that are no numbers.
+#[test]
+fn stored_return_lanes_reach_every_answer() {
+    let mut found = [0; 30];
+    let (mut collapsed, mut alone, mut nan) = ([0; 2], 0, 0);
+    for case in stored(&["returned"]) {
+        let Answer::Queried(list) = answer(&case).unwrap() else {
+            panic!("no answer of this kind");
+        };
+        let number = list[0].refused.map_or(0, |v| v.0);
+        found[number] += 1;
+        let counts = case.whole[8..12].iter().map(|n| *n as usize);
+        let counts: Vec<_> = counts.collect();
+        let selected = &case.cells[2..][..counts[0]];
+        let other = &case.cells[2 + counts[0] + counts[1]..][..counts[2]];
+        for (i, breaks) in [selected, other].iter().enumerate() {
+            let rises = breaks.windows(2).all(|v| 1. - v[1] < 1. - v[0]);
+            collapsed[i] += usize::from(number == 29 && !rises);
+        }
+        if number == 0 {
+            alone += usize::from(counts[2] == 0);
+            nan += usize::from(list[0].cells.iter().any(|v| v.is_nan()));
+        }
+    }
+    for (number, count) in found.iter().enumerate() {
+        assert_eq!(*count > 2, matches!(number, 0 | 19 | 24 | 29), "{found:?}");
+    }
+    assert!(collapsed[0] > 0 && collapsed[1] > 0, "{collapsed:?}");
+    assert!(alone > 2 && alone + 2 < found[0] && nan > 2);
 }
 
 /// Driven back twice, a lane has its breaks and widths again where 1 minus a break is exact, and whole

@@ -38,6 +38,7 @@ fn answer(head: Head, cells: &[f64], work: &mut [f64], out: &mut [u8], at: usize
         62 => knots::sort_dedup(cells, work, out, at),
         80 => queries::evaluate(head, cells, out, at),
         81 | 82 | 83 => replay_queries::queries::query(head, cells, out, at),
+        84 => replay_returns::returned(head, cells, out, at),
         90 => certificates::certify(head, cells, out, at),
         _ => output::unanswered(at),
     }

@@ -14,7 +14,7 @@ use Rattle.listing.proofs.Printing.{printed-append, printed-none}
 use Rattle.replay_queries.specs.Told.{markedOutputs, refusalText, placeText, outputsText, toldText, toldOfAllText, turnsText}
 
 -- one text after another
-then-text : (g o : List ℕ × ℕ) (a b : List ℕ) {p : List ℕ × ℕ} → p ≡ printed o b → o ≡ printed g a → p ≡ printed g (a ++ b)
+pub then-text : (g o : List ℕ × ℕ) (a b : List ℕ) {p : List ℕ × ℕ} → p ≡ printed o b → o ≡ printed g a → p ≡ printed g (a ++ b)
 then-text g o a b e k = e ∙ ap (λ (o : List ℕ × ℕ). printed o b) k ∙ sym (printed-append g a b)
 
 -- all cells of a slice

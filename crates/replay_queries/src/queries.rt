@@ -14,15 +14,15 @@ use listing::output;
 use listing::output::Line;
 
 // How many cells are lent of each of the four slices.
-struct Lengths {
-    q: usize,
-    dq: usize,
-    ddq: usize,
-    dddq: usize,
+pub struct Lengths {
+    pub q: usize,
+    pub dq: usize,
+    pub ddq: usize,
+    pub dddq: usize,
 }
 
 // Byte j of a whole number, at most `most`.
-fn length_of(word: u64, j: usize, most: usize) -> usize
+pub fn length_of(word: u64, j: usize, most: usize) -> usize
     ensures { λ r. ⌜ r ≤ most ⌝ }
 {
     let n = axes::byte_of(word, j);

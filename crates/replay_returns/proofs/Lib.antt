@@ -1,0 +1,2 @@
+-- Laws about the cases.
+pub mod Returning
