@@ -1,6 +1,6 @@
 -- Of two f64s, one of which is above 0, `==` tells whether their bits are the same; and the difference of two numbers, the first below the
 -- second, is above 0.
-use mathlib.Core.Bool.{Bool, Bool·beq, true, false, not}
+use mathlib.Core.Bool.{Bool, Bool·beq, true, false}
 use mathlib.Core.Path.{_≡_, _∙_, ap, refl, subst, sym}
 use Prim.Native.Nat.{ℕ, _*_}
 use borrow.Author.Tests.{eq-eqb, ne-eqb}

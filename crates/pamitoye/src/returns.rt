@@ -2,22 +2,9 @@
 ghost use mathlib.Core.Path.{_≡_};
 ghost use mathlib.Core.Bool.{true};
 ghost use Rattle.curve.specs.Form.{slices, wellFormed};
-ghost use Rattle.return_lane.specs.Return.{returnOf, usedBy, numberOf};
+ghost use Rattle.return_lane.specs.Return.{returnOf, usedBy};
 ghost use Rattle.pamitoye.specs.Choices.{passedCurve};
 use crate::curves;
-use return_lane::Answer;
-
-// The number of an answer.
-fn return_number(answer: Answer) -> u64
-    ensures { λ r. ⌜ r ≡ numberOf answer ⌝ }
-{
-    match answer {
-        Answer::Done => 0,
-        Answer::Malformed => 24,
-        Answer::TooShort => 19,
-        Answer::NotRising => 29,
-    }
-}
 
 // The curve driven back: `return_lane::return_lane`.
 #[no_mangle]
@@ -53,7 +40,7 @@ pub extern "C" fn pamitoye_return_lane(
         (slices (now («lent_breaks» .exit)) (now («lent_coefficients» .exit)) (now («lent_other_breaks» .exit))
         (now («lent_other_coefficients» .exit)))) ≡ true) ⌝ }
 {
-    return_number(return_lane::return_lane(
+    return_lane::number(return_lane::return_lane(
         curves::curve(d, k, axes, start, end, clamp, segments, other_segments),
         breaks,
         coefficients,

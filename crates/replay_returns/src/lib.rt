@@ -2,7 +2,7 @@
 ghost use mathlib.Core.Path.{_≡_};
 ghost use lib.ListN.{length};
 ghost use Rattle.curve.specs.Form.{slices};
-ghost use Rattle.return_lane.specs.Return.{numberOf, returnOf};
+ghost use Rattle.return_lane.specs.Return.{returnOf};
 ghost use Rattle.listing.specs.Output.{printed};
 ghost use Rattle.listing.specs.Lines.{Unanswered};
 ghost use Rattle.replay_queries.specs.Following.{Following, Within};
@@ -16,19 +16,6 @@ use replay_queries::asked::Slices;
 use replay_queries::calls;
 use replay_queries::queries;
 use replay_queries::queries::Lengths;
-use return_lane::Answer;
-
-// Document 02's number of an answer, 0 where nothing is refused.
-fn number(answer: Answer) -> u64
-    ensures { λ r. ⌜ r ≡ numberOf answer ⌝ }
-{
-    match answer {
-        Answer::Done => 0,
-        Answer::Malformed => 24,
-        Answer::TooShort => 19,
-        Answer::NotRising => 29,
-    }
-}
 
 // The call with these lent slices, whose cells are all marked before it and printed after it.
 fn call(
@@ -66,7 +53,7 @@ fn call(
         lent_other_breaks,
         lent_other_coefficients,
     );
-    let next = calls::refusal(number(answer), out, at);
+    let next = calls::refusal(return_lane::number(answer), out, at);
     calls::cells(
         lent_breaks,
         lent_coefficients,

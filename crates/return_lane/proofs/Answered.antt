@@ -1,5 +1,5 @@
 -- Which answer a call gets: by the first check that refuses, or that all are passed; and what an answer leaves in the lent slices.
-use mathlib.Core.Path.{_≡_, refl, sym, ap, subst, _∙_}
+use mathlib.Core.Path.{_≡_, refl, ap, _∙_}
 use mathlib.Core.Bool.{Bool, true, false, not, _&&_, _||_, cond}
 use mathlib.Core.List.{List}
 use Prim.Native.Nat.{ℕ, suc, _+_, _-_, _*_, _≤_}
@@ -13,9 +13,9 @@ use Rattle.arith.proofs.Truth.{and-parts, or-none}
 use Rattle.window.specs.Rows.{written}
 use Rattle.window.proofs.Written.{written-plain}
 use Rattle.curve.specs.declared.Curve.{Curve}
-use Rattle.curve.specs.Form.{Slices, slices, withWidths, setFormed, othersFormed, wellFormed}
+use Rattle.curve.specs.Form.{Slices, slices, setFormed, othersFormed, wellFormed}
 use Rattle.curve.proofs.Formed.{formed, set-parts}
-use Rattle.return_lane.specs.Return.{returnBreaks, returnCoefficients, returnSlices, shortFor, risesBack, ontoSlices, usedBy, Outcome, outcome, returnOf}
+use Rattle.return_lane.specs.Return.{returnSlices, shortFor, risesBack, ontoSlices, usedBy, Outcome, outcome, returnOf}
 use Rattle.return_lane.proofs.Returned.{breaks-length, set-length, return-well-formed}
 
 -- ---- the cells of a set

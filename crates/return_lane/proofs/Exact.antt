@@ -1,11 +1,10 @@
 -- Over exact fractions the return lane's coefficients are those of the lane at 1 - x.
 use mathlib.Core.Path.{_≡_, refl, sym, ap, _∙_}
 use mathlib.Core.List.{[], _∷_}
-use Prim.Native.Nat.{ℕ, zero, suc, _-_, _≤_, _<_}
+use Prim.Native.Nat.{ℕ, zero, suc, _-_, _<_}
 use native.Mathlib.Omega.{arith}
 use lib.IntN.{pos, negsuc}
 use Rattle.arith.specs.Loop.{each}
-use Rattle.bspline.specs.Choose.{chooseOf}
 use Rattle.fraction.specs.Binomial.{choose}
 use Rattle.fraction.specs.Polynomial.{expandedCoefficient, polynomial}
 use Rattle.fraction.specs.Rational.{ℚ, wholeq, _+q_, _-q_, _*q_, _/q_, inverse, Above, 𝟘, 𝟙}

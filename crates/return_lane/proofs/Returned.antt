@@ -2,13 +2,12 @@
 use mathlib.Core.Path.{_≡_, refl, sym, ap, subst, _∙_}
 use mathlib.Core.Bool.{Bool, true, false, _&&_, _||_, cond}
 use mathlib.Core.List.{List, [], _∷_}
-use Prim.Native.Nat.{ℕ, zero, suc, _+_, _-_, _*_, _≤_, _<_}
+use Prim.Native.Nat.{ℕ, _+_, _-_, _*_, _≤_, _<_}
 use native.Mathlib.Omega.{arith}
-use borrow.Author.Tests.{eq-eqb, eqb-true, eqb-false}
+use borrow.Author.Tests.{eq-eqb, eqb-true}
 use lib.Dec.{T, eqb}
 use lib.IntN.{pos}
-use lib.ListN.{length, take, drop}
-use lib.Seq.{take-at}
+use lib.ListN.{length}
 use lib.Ieee.{Float, nan, fin, binary64, fits, ofBits, sub, lt, le, eq}
 use lib.Ieee.Bits.{ofBits-fits}
 use lib.Ieee.Scale.{finite}
@@ -26,14 +25,12 @@ use Rattle.fraction.proofs.Rational.{≤q-antisymmetric, ≤q-refl}
 use Rattle.fraction.proofs.Rounding.{sub-rounded}
 use Rattle.fraction.proofs.Value.{plus-zero}
 use Rattle.window.specs.Cells.{+0, at}
-use Rattle.window.specs.Rows.{written}
 use Rattle.window.proofs.Joined.{join-length, list-at, list-length, table-length}
-use Rattle.window.proofs.Written.{written-plain}
 use Rattle.curve.specs.declared.Curve.{Curve}
-use Rattle.curve.specs.Form.{Slices, slices, breaksRise, withWidths, setFormed, othersFormed, wellFormed}
-use Rattle.curve.proofs.Formed.{Formed, formed, well-formed, set-parts, set-formed, with-length, with-kept}
+use Rattle.curve.specs.Form.{Slices, withWidths, setFormed, othersFormed, wellFormed}
+use Rattle.curve.proofs.Formed.{formed, well-formed, set-parts, set-formed, with-length, with-kept}
 use Rattle.return_lane.specs.Segment.{returnCoefficient}
-use Rattle.return_lane.specs.Return.{returnBreak, returnBreaks, returnSegment, returnCoefficients, returnSlices, risesBack, ontoSlices, usedBy}
+use Rattle.return_lane.specs.Return.{returnBreak, returnBreaks, returnSegment, returnCoefficients, returnSlices, risesBack}
 
 abbrev one : Float
 one = ofBits binary64 0x3ff0_0000_0000_0000

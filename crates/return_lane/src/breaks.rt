@@ -1,6 +1,6 @@
 // The breaks of the return lane: 1 minus the old ones in reverse.
 ghost use mathlib.Core.Path.{_≡_};
-ghost use Prim.Native.Nat.{_+_, _-_, _*_, _≤_, _<_};
+ghost use Prim.Native.Nat.{_+_, _-_, _≤_, _<_};
 ghost use lib.ListN.{length};
 ghost use Rattle.window.specs.Rows.{written};
 ghost use Rattle.return_lane.specs.Return.{returnBreak, returnBreaks, risesBack};

@@ -21,6 +21,18 @@ pub enum Answer {
     NotRising,
 }
 
+// Document 02's number of an answer, 0 where nothing is refused.
+pub fn number(answer: Answer) -> u64
+    ensures { λ r. ⌜ r ≡ numberOf answer ⌝ }
+{
+    match answer {
+        Answer::Done => 0,
+        Answer::Malformed => 24,
+        Answer::TooShort => 19,
+        Answer::NotRising => 29,
+    }
+}
+
 // Whether a set does not fit the two slices that are lent for it: of these lengths.
 fn short(lent_breaks: usize, breaks: usize, lent_coefficients: usize, coefficients: usize) -> bool
     ensures { λ r. ⌜ r ≡ (ltb «lent_breaks» breaks || ltb «lent_coefficients» coefficients) ⌝ }

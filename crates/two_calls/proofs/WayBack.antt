@@ -30,7 +30,7 @@ use Rattle.curve.specs.Places.{positionOf}
 use Rattle.curve.proofs.Formed.{formed, set-parts}
 use Rattle.checks.proofs.Selected.{any-false}
 use Rattle.figure.specs.Certify.{CertificateOutcome, outcome, certifiedAxis, certifyOf}
-use Rattle.figure.specs.Figure.{Axis, Figure, figureOf, noFigure}
+use Rattle.figure.specs.Figure.{Axis, figureOf, noFigure}
 use Rattle.figure.proofs.Certified.{Accepted, accepted, axis-below}
 use Rattle.certificate.specs.Outcome.{outcomeOf}
 use Rattle.return_lane.specs.Return as returning

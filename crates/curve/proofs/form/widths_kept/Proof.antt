@@ -1,11 +1,11 @@
 -- `form::widths_kept` meets its contract. The invariant: `kept` of the first i widths have the bits of the difference.
 use mathlib.Core.Bool.{Bool, true, cond}
 use mathlib.Core.List.{List}
-use mathlib.Core.Path.{_≡_, sym}
+use mathlib.Core.Path.{_≡_}
 use Prim.Native.Nat.{ℕ, _+_, _-_, _≤_, _<_}
 use native.Mathlib.Omega.{arith}
 use lib.Dec.{T, eqb}
-use lib.Ieee.{Float, binary64, fits, toBits, eq, lt, sub}
+use lib.Ieee.{Float, binary64, fits, toBits, eq, lt}
 use lib.Ieee.Fits.{sub-fits}
 use Rattle.arith.proofs.Firsts.{every-at}
 use Rattle.window.specs.Cells.{at}

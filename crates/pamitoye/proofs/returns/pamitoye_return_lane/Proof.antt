@@ -11,8 +11,8 @@ returns c =
     let k = q .before .before .before .before .before .curve .ensures in
     let e = q .return-lane .ensures .0 in
     rw (← k) (
-      c .return-number .ensures ∙ ap (λ (o : Outcome). o .number) e,
-      (ap (λ (o : Outcome). o .after) e, λ z. q .return-lane .ensures .1 (sym (c .return-number .ensures) ∙ z)),
+      c .number .ensures ∙ ap (λ (o : Outcome). o .number) e,
+      (ap (λ (o : Outcome). o .after) e, λ z. q .return-lane .ensures .1 (sym (c .number .ensures) ∙ z)),
     )
 
 pub pamitoye-return-lane-spec : {M : Type 1} → statement M
