@@ -1,4 +1,4 @@
-//! A curve that the library built, and the calls of the library. Every `unsafe` block of the crate is here.
+//! A curve that the library built or drove back, and the calls of the library. Every `unsafe` block of the crate is here.
 
 use crate::config::{
     MAX_AXES, MAX_REFINEMENTS, OutOfRangeMode, SmoothingConfig, SmoothingReport, SmoothingTolerance,
@@ -10,8 +10,9 @@ use crate::workspace::Workspace;
 /// The limit on segments that is tried first, or the count of waypoints where that is higher.
 const FIRST_SEGMENTS: usize = 1024;
 
-/// The curve of an accepted request. Its fields are private to this module, `build` alone makes one, and nothing
-/// changes one: so it is what `build` promises, a well-formed curve.
+/// The curve of an accepted request, or such a curve driven back. Its fields are private to this module, `build` and
+/// `reversed` alone make one, and nothing changes one: so it is what the library's `build` and its return lane promise, a
+/// well-formed curve.
 #[derive(Clone, Debug)]
 pub(crate) struct Curve {
     d: usize,
@@ -78,9 +79,11 @@ impl Set {
         })
     }
 
-    /// The coefficients without the widths of the segments, which lie behind them.
-    fn rows(&self) -> &[f64] {
-        &self.coefficients[..self.coefficients.len() - self.segments()]
+    /// The coefficients, and the widths that lie behind them, one for each segment.
+    fn rows_and_widths(&self) -> (&[f64], &[f64]) {
+        let rows = self.coefficients.len().saturating_sub(self.segments());
+        let parts = self.coefficients.split_at_checked(rows);
+        parts.unwrap_or_default()
     }
 }
 
@@ -262,14 +265,58 @@ impl Curve {
         self.mode
     }
 
-    /// The breaks and coefficients of the smoothed axes.
-    pub(crate) fn smoothed(&self) -> (&[f64], &[f64]) {
-        (&self.smoothed.breaks, self.smoothed.rows())
+    /// The smoothed axes, in the order in which they were listed.
+    pub(crate) fn axes(&self) -> &[usize] {
+        self.axes.get(..self.k).unwrap_or_default()
     }
 
-    /// The breaks and coefficients of the other axes.
-    pub(crate) fn other(&self) -> (&[f64], &[f64]) {
-        (&self.other.breaks, self.other.rows())
+    /// The breaks, coefficients and widths of the smoothed axes.
+    pub(crate) fn smoothed(&self) -> [&[f64]; 3] {
+        let (rows, widths) = self.smoothed.rows_and_widths();
+        [&self.smoothed.breaks, rows, widths]
+    }
+
+    /// The breaks, coefficients and widths of the other axes.
+    pub(crate) fn other(&self) -> [&[f64]; 3] {
+        let (rows, widths) = self.other.rows_and_widths();
+        [&self.other.breaks, rows, widths]
+    }
+
+    /// The curve driven back. It has as many cells as this one, so that none is short.
+    pub(crate) fn reversed(&self) -> Result<Self, PathError> {
+        let mut back = self.clone();
+        let lent = [
+            &mut back.smoothed.breaks[..],
+            &mut back.smoothed.coefficients,
+            &mut back.other.breaks,
+            &mut back.other.coefficients,
+        ];
+        match self.return_lane(lent) {
+            0 => Ok(back),
+            number => Err(PathError::of_request(number, f64::NAN)),
+        }
+    }
+
+    /// The library's return lane into the first cells of these slices, as many as the curve's own have; the answer's
+    /// number.
+    fn return_lane(&self, lent: [&mut [f64]; 4]) -> u64 {
+        let [breaks, coefficients, other_breaks, other_coefficients] = lent;
+        // SAFETY: the function has no precondition: it refuses what it cannot take. Each pointer with its count is a
+        // slice that is borrowed for the call, those to be written are borrowed alone.
+        unsafe {
+            of_curve!(
+                pamitoye_return_lane,
+                self,
+                breaks.as_mut_ptr(),
+                breaks.len(),
+                coefficients.as_mut_ptr(),
+                coefficients.len(),
+                other_breaks.as_mut_ptr(),
+                other_breaks.len(),
+                other_coefficients.as_mut_ptr(),
+                other_coefficients.len(),
+            )
+        }
     }
 
     fn outside(&self, index: usize, value: f64) -> PathError {
@@ -388,5 +435,68 @@ impl Curve {
             0 => Ok(given.then_some(figure)),
             number => Err(PathError::of_certificate(number)),
         }
+    }
+}
+
+#[cfg(test)]
+mod tests {
+    use super::*;
+
+    /// One axis in two segments that meet at this break, its coefficients 0, and with these widths. It need not be well
+    /// formed, so that nothing may be asked of it that relies on that.
+    fn two_segments(middle: f64, widths: [f64; 2]) -> Curve {
+        Curve {
+            d: 1,
+            k: 1,
+            axes: [0; MAX_AXES],
+            start: 0.,
+            end: 1.,
+            mode: OutOfRangeMode::Clamp,
+            smoothed: Set {
+                breaks: vec![0., middle, 1.],
+                coefficients: [[0.; 12].as_slice(), &widths].concat(),
+            },
+            other: Set {
+                breaks: Vec::new(),
+                coefficients: Vec::new(),
+            },
+        }
+    }
+
+    /// A return lane tests 24, then 19, then 29, and none of them writes. Cells behind the used ones are unchanged.
+    #[test]
+    fn numbers_of_a_return_lane() {
+        let formed = two_segments(0.25, [0.25, 0.75]);
+        let width = two_segments(1e-300, [1e-300, 1f64.next_down()]);
+        let close = two_segments(1e-300, [1e-300, 1.]);
+        for (curve, breaks, coefficients, wanted) in [
+            (&width, 2, 13, 24),
+            (&width, 3, 14, 24),
+            (&close, 2, 14, 19),
+            (&close, 3, 13, 19),
+            (&close, 3, 14, 29),
+            (&formed, 2, 14, 19),
+            (&formed, 3, 13, 19),
+            (&formed, 3, 14, 0),
+            (&formed, 5, 20, 0),
+        ] {
+            let (mut a, mut b) = (vec![-7.; breaks], vec![-7.; coefficients]);
+            let (mut c, mut d) = ([-7.; 2], [-7.; 2]);
+            assert_eq!(curve.return_lane([&mut a, &mut b, &mut c, &mut d]), wanted);
+            let used = if wanted == 0 { (3, 14) } else { (0, 0) };
+            assert!(
+                a.iter()
+                    .skip(used.0)
+                    .chain(b.iter().skip(used.1))
+                    .all(|x| *x == -7.)
+            );
+            assert!(c.iter().chain(&d).all(|x| *x == -7.));
+            if wanted == 0 {
+                assert!(a.starts_with(&[0., 0.75, 1.]));
+                assert_eq!(b.get(12..14), Some(&[0.75, 0.25][..]));
+            }
+        }
+        assert_eq!(close.reversed().err(), Some(PathError::NotRising));
+        assert_eq!(width.reversed().err(), Some(PathError::Malformed));
     }
 }

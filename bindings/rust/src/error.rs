@@ -73,8 +73,12 @@ pub enum PathError {
     OrderAboveThree,
     /// 23, when certifying: the depth is above 6.
     DepthAboveSix,
-    /// 24: the curve is not well formed. An accepted request's curve always is.
+    /// 24: the curve is not well formed. An accepted request's curve always is, and so is that curve driven back.
     Malformed,
+    /// 29, when a path is reversed: its breaks do not rise strictly once each is taken from 1, since two of them in the
+    /// first half are no further apart than 2^-53 of the range. Parameters that are further apart there help, or one
+    /// waypoint of the two left out.
+    NotRising,
     /// A number that this crate does not know: the archive is of another version.
     Unknown(u64),
 }
@@ -107,6 +111,7 @@ impl PathError {
             Self::OutOfRangeS { .. } => 22,
             Self::OrderAboveThree | Self::DepthAboveSix => 23,
             Self::Malformed => 24,
+            Self::NotRising => 29,
             Self::Unknown(number) => number,
         }
     }
@@ -145,6 +150,7 @@ impl PathError {
             20 => Self::PointCells,
             24 => Self::Malformed,
             26 => Self::ToleranceTooFine,
+            29 => Self::NotRising,
             other => Self::Unknown(other),
         }
     }
@@ -216,6 +222,7 @@ impl fmt::Display for PathError {
             Self::DepthAboveSix => "the depth of a certificate is 6 at most",
             Self::OrderAboveThree => "only a value and three derivatives can be asked for",
             Self::Malformed => "the curve is not well formed",
+            Self::NotRising => "two breaks are too close together to be told apart on the way back",
             Self::Unknown(number) => {
                 return write!(f, "the library refused with the unknown number {number}");
             }
@@ -232,7 +239,7 @@ mod tests {
 
     #[test]
     fn a_number_names_its_case() {
-        for number in (1..=20).chain([24, 26, 77]) {
+        for number in (1..=20).chain([24, 26, 29, 77]) {
             assert_eq!(PathError::of_request(number, 2.5).number(), number);
             assert_eq!(PathError::of_certificate(number).number(), number);
         }
@@ -243,5 +250,6 @@ mod tests {
         assert_eq!(PathError::of_certificate(3), PathError::NotSelected);
         assert_eq!(PathError::of_certificate(23), PathError::DepthAboveSix);
         assert!(used_up.to_string().ends_with("2.5"));
+        assert_eq!(PathError::of_request(29, 2.5), PathError::NotRising);
     }
 }

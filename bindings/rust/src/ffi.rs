@@ -139,6 +139,33 @@ unsafe extern "C" {
         figure: *mut f64,
     ) -> u64;
 
+    pub(crate) fn pamitoye_return_lane(
+        d: usize,
+        k: usize,
+        axes: *const [usize; 16],
+        start: f64,
+        end: f64,
+        clamp: bool,
+        segments: usize,
+        other_segments: usize,
+        breaks: *const f64,
+        breaks_len: usize,
+        coefficients: *const f64,
+        coefficients_len: usize,
+        other_breaks: *const f64,
+        other_breaks_len: usize,
+        other_coefficients: *const f64,
+        other_coefficients_len: usize,
+        lent_breaks: *mut f64,
+        lent_breaks_len: usize,
+        lent_coefficients: *mut f64,
+        lent_coefficients_len: usize,
+        lent_other_breaks: *mut f64,
+        lent_other_breaks_len: usize,
+        lent_other_coefficients: *mut f64,
+        lent_other_coefficients_len: usize,
+    ) -> u64;
+
     pub(crate) fn pamitoye_cutting_order(
         lanes: usize,
         pairs: *const [usize; 2],

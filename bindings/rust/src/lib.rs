@@ -27,14 +27,15 @@
 //! - Waypoints are a slice and a shape, answers are lists: nalgebra is not needed. Cells lie as in nalgebra's matrices.
 //! - [`PathError`] has a case for each reason, with its [number](PathError::number).
 //! - Sizes above [`MAX_AXES`], [`MAX_WAYPOINTS`], [`MAX_SEGMENTS`] and [`MAX_REFINEMENTS`] are refused.
-//! - New: [`Path::certify`], [`Path::evaluate_into`] and [`Path::evaluate_at`], the breaks and the coefficients,
-//!   [`Workspace`]; and [`cutting_order`], which lane is cut first.
+//! - New: [`Path::certify`], [`Path::evaluate_into`] and [`Path::evaluate_at`], the breaks, the coefficients and the
+//!   widths, [`Workspace`]; [`Path::reversed`], the lane driven back, with [`reversed_waypoints`]; and
+//!   [`cutting_order`], which lane is cut first.
 //!
 //! # What is relied on
 //!
-//! No function panics, on any input. A [`Path`] is made by an accepted build alone and never changes, so queries need
-//! not test its curve again. The proofs cover the library; this crate, which lends it memory, is not proved. Its `unsafe`
-//! blocks stand in one module, each with its reason.
+//! No function panics, on any input. A [`Path`] is made by an accepted build or by [`Path::reversed`] alone and never
+//! changes, so queries need not test its curve again. The proofs cover the library; this crate, which lends it memory,
+//! is not proved. Its `unsafe` blocks stand in one module, each with its reason.
 
 #![deny(missing_docs)]
 #![deny(unsafe_code)]
@@ -59,5 +60,5 @@ pub use config::{
 };
 pub use error::PathError;
 pub use order::{MAX_LANES, MAX_PAIRS, OrderError, cutting_order, cutting_order_into};
-pub use path::{Path, PathDerivatives};
+pub use path::{Path, PathDerivatives, reversed_waypoints};
 pub use workspace::Workspace;

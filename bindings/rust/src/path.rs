@@ -1,4 +1,4 @@
-//! A smoothed path: built, asked, certified.
+//! A smoothed path: built, asked, certified, reversed.
 
 use crate::config::{OutOfRangeMode, SmoothingConfig, SmoothingReport};
 use crate::curve::Curve;
@@ -21,11 +21,13 @@ pub struct PathDerivatives {
     pub dddq: Option<Vec<f64>>,
 }
 
-/// Waypoints smoothed into quintic segments. Only an accepted build makes one, and nothing changes it.
+/// Waypoints smoothed into quintic segments. Only an accepted build makes one, or [`reversed`](Path::reversed) of
+/// another, and nothing changes it.
 #[derive(Clone, Debug)]
 pub struct Path {
     curve: Curve,
-    report: SmoothingReport,
+    /// The build's; none if the path was reversed.
+    report: Option<SmoothingReport>,
 }
 
 /// So many cells, or a refusal where there is no memory for them.
@@ -94,12 +96,69 @@ impl Path {
         config: &SmoothingConfig,
     ) -> Result<Self, PathError> {
         let (curve, report) = Curve::build(workspace, points, shape, config)?;
-        Ok(Self { curve, report })
+        Ok(Self {
+            curve,
+            report: Some(report),
+        })
     }
 
-    /// What the build did. It is always there: copp has paths without a report, this crate has none.
+    /// The lane driven back: the path that has at start + end - t what this one has at t, but for rounding.
+    ///
+    /// Breaks are 1 minus the old ones in reverse, segments the old ones in reverse, each as the polynomial of 1 minus
+    /// its local parameter, in both sets. Range, axes and mode remain. Over exact fractions it is this path at 1 minus
+    /// the normalised parameter, which is proved; what rounding does to it is not, so that it is certified anew, like
+    /// any path, against the waypoints in reverse: [`reversed_waypoints`] has them and their parameters. It was not
+    /// built: the build's report, whose errors are of the way out, is not its own, and it has none.
+    ///
+    /// # Errors
+    ///
+    /// [`PathError::NotRising`] (29) alone: two breaks are one number once they are taken from 1, as 0 and 10^-17 are.
+    /// Breaks come from the waypoints' parameters: see there for what helps.
+    ///
+    /// ```
+    /// use pamitoye::{Path, PathError, SmoothingConfig, reversed_waypoints};
+    ///
+    /// // One axis, five waypoints, and their parameters.
+    /// let (points, parameters) = ([0.0, 2.0, 2.0, 5.0, 4.0], [1.0, 2.0, 2.5, 4.0, 5.0]);
+    /// let config = SmoothingConfig {
+    ///     tolerance: 0.1.into(),
+    ///     parameters: Some(parameters.to_vec()),
+    ///     ..Default::default()
+    /// };
+    /// let path = Path::from_waypoints_fitting(&points, (1, 5), config)?;
+    /// let back = path.reversed()?;
+    ///
+    /// let out = path.evaluate_up_to_2nd(&[1.0, 2.75, 5.0])?;
+    /// let at = back.evaluate_up_to_2nd(&[5.0, 3.25, 1.0])?;
+    /// for i in 0..3 {
+    ///     assert!((at.q[i] - out.q[i]).abs() < 1e-12);
+    /// }
+    ///
+    /// let (points_back, parameters_back) = reversed_waypoints(&points, 1, Some(&parameters));
+    /// assert_eq!(points_back, [4.0, 5.0, 2.0, 2.0, 0.0]);
+    /// assert_eq!(parameters_back, [1.0, 2.0, 3.5, 4.0, 5.0]);
+    /// let figure = path.certify(0, 0, &points, Some(&parameters))?.unwrap_or(f64::INFINITY);
+    /// let anew = back.certify(0, 0, &points_back, Some(&parameters_back))?.unwrap_or(f64::INFINITY);
+    /// assert!(anew < 0.11 && (anew - figure).abs() < 1e-12);
+    /// assert!(back.smoothing_report().is_none());
+    /// # Ok::<(), PathError>(())
+    /// ```
+    pub fn reversed(&self) -> Result<Self, PathError> {
+        let curve = self.curve.reversed()?;
+        Ok(Self {
+            curve,
+            report: None,
+        })
+    }
+
+    /// What the build did; none if the path was [reversed](Path::reversed) and not built.
     pub fn smoothing_report(&self) -> Option<&SmoothingReport> {
-        Some(&self.report)
+        self.report.as_ref()
+    }
+
+    /// The smoothed axes, as they were listed: those of the report, where there is one.
+    pub fn smoothed_axes(&self) -> &[usize] {
+        self.curve.axes()
     }
 
     /// How many axes the path has, smoothed and others.
@@ -248,23 +307,84 @@ impl Path {
     /// The breaks between the smoothed axes' segments, rising from 0 to 1: the parameter less the first one, over the
     /// range.
     pub fn breaks(&self) -> &[f64] {
-        self.curve.smoothed().0
+        let [breaks, _, _] = self.curve.smoothed();
+        breaks
     }
 
     /// The coefficients of the smoothed axes: segment after segment, within it an axis after the other in the order of
-    /// [`SmoothingReport::axes`], six each, for the powers 0 to 5 of a local parameter that runs from 0 to 1 over the
-    /// segment.
+    /// [`smoothed_axes`](Path::smoothed_axes), six each, for the powers 0 to 5 of a local parameter that runs from 0 to
+    /// 1 over the segment.
     pub fn coefficients(&self) -> &[f64] {
-        self.curve.smoothed().1
+        let [_, coefficients, _] = self.curve.smoothed();
+        coefficients
+    }
+
+    /// The widths of the smoothed axes' segments, one for each: the rounded difference of its breaks, which queries
+    /// divide by.
+    pub fn widths(&self) -> &[f64] {
+        let [_, _, widths] = self.curve.smoothed();
+        widths
     }
 
     /// The breaks of the axes that are not smoothed; empty if all are.
     pub fn other_breaks(&self) -> &[f64] {
-        self.curve.other().0
+        let [breaks, _, _] = self.curve.other();
+        breaks
     }
 
     /// The coefficients of the axes that are not smoothed, these in rising order; empty if all are.
     pub fn other_coefficients(&self) -> &[f64] {
-        self.curve.other().1
+        let [_, coefficients, _] = self.curve.other();
+        coefficients
     }
+
+    /// The [`widths`](Path::widths) of the other axes' segments; empty if all axes are smoothed.
+    pub fn other_widths(&self) -> &[f64] {
+        let [_, _, widths] = self.curve.other();
+        widths
+    }
+}
+
+/// The waypoints of a lane driven back, for [`Path::certify`] of a [reversed](Path::reversed) path: these points, of so
+/// many axes each, in reverse, and parameters listed for them.
+///
+/// `parameters` are those of the way out, `None` for even ones. Where a waypoint's normalised parameter, less the first
+/// and over the range, is s, the one listed is first + range · (1 - s), each operation rounded. So the list begins and
+/// ends exactly as that of the way out, never falls, and normalised it differs from 1 - s, where the path has its break
+/// if there is one at the waypoint, by no more than these roundings. Even parameters are listed too: 1 - i/(n - 1),
+/// the breaks' own bits, and not (n - 1 - i)/(n - 1), which may lie beside them.
+///
+/// Two waypoints in the first half that are no further apart than about 2^-53 of the range may get one parameter; the
+/// certificate then refuses the list with 5 or 6, also where no break lies there and the path is reversed. A list that it
+/// refuses for the way out it refuses for the way back.
+///
+/// ```
+/// use pamitoye::reversed_waypoints;
+///
+/// let (points, parameters) = reversed_waypoints(&[1.0, 10.0, 2.0, 20.0, 3.0, 30.0], 2, Some(&[0.0, 1.0, 4.0]));
+/// assert_eq!(points, [3.0, 30.0, 2.0, 20.0, 1.0, 10.0]);
+/// assert_eq!(parameters, [0.0, 3.0, 4.0]);
+/// ```
+pub fn reversed_waypoints(
+    points: &[f64],
+    axes: usize,
+    parameters: Option<&[f64]>,
+) -> (Vec<f64>, Vec<f64>) {
+    let axes = axes.max(1);
+    let waypoints = points.chunks(axes);
+    let (n, last) = (waypoints.len(), waypoints.len().saturating_sub(1));
+    let even = || (0..n).map(|i| i as f64 / last as f64).collect();
+    let list = parameters.map_or_else(even, <[f64]>::to_vec);
+    let points_back = waypoints.rev().flatten().copied().collect();
+    let (start, end) = match list.as_slice() {
+        [start, .., end] => (*start, *end),
+        _ => return (points_back, list),
+    };
+    let range = end - start;
+    let back = |p: &f64| match 1. - (p - start) / range {
+        rest if rest >= 1. => end,
+        rest if rest <= 0. => start,
+        rest => start + range * rest,
+    };
+    (points_back, list.iter().rev().map(back).collect())
 }
