@@ -2,8 +2,9 @@
 
 use crate::csv::Table;
 use crate::options::Options;
-use pamitoye::{Path, PathError, SmoothingConfig, SmoothingTolerance};
+use pamitoye::{Path, PathError, SmoothingConfig, SmoothingTolerance, reversed_waypoints};
 
+#[derive(Clone)]
 pub struct Lane {
     /// What messages call the input.
     pub name: String,
@@ -20,6 +21,8 @@ pub struct Lane {
     pub tolerance: SmoothingTolerance,
     /// The depth at which it is certified.
     pub depth: usize,
+    /// Whether it is driven back.
+    pub back: bool,
 }
 
 impl Lane {
@@ -60,7 +63,20 @@ impl Lane {
             lines: table.rows.iter().map(|row| row.line).collect(),
             tolerance,
             depth: options.depth,
+            back: false,
         })
+    }
+
+    /// The lane driven back: its waypoints in reverse, with parameters listed for them.
+    pub fn reversed(&self) -> Self {
+        let (points, list) = reversed_waypoints(&self.points, self.d(), self.parameters());
+        Self {
+            points,
+            listed: Some((format!("{} back", self.parameter_name()), list)),
+            lines: self.lines.iter().rev().copied().collect(),
+            back: true,
+            ..self.clone()
+        }
     }
 
     /// The input without the folders before it.

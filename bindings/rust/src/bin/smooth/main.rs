@@ -71,27 +71,39 @@ fn input(options: &Options) -> Result<Vec<u8>, String> {
 
 /// The report, with all files written; or a refusal, with none.
 fn smooth(options: &Options, lane: &Lane) -> Result<Result<String, PathError>, String> {
-    let path = match lane.build(options) {
-        Ok(path) => path,
-        Err(error) => return Ok(Err(error)),
-    };
-    let files = match files(options, lane, &path) {
-        Ok(files) => files,
+    let (report, files) = match made(options, lane) {
+        Ok(made) => made,
         Err(error) => return Ok(Err(error)),
     };
     for (file, text) in &files {
         std::fs::write(file, text).map_err(|e| format!("{}: {e}", file.display()))?;
     }
-    Ok(Ok(report::accepted(lane, &path)))
+    Ok(Ok(report))
 }
 
 /// What is to be written, and where.
+type Files<'a> = Vec<(&'a std::path::Path, String)>;
+
+/// The report and the files of the lane, or of the lane driven back.
+fn made<'a>(options: &'a Options, lane: &Lane) -> Result<(String, Files<'a>), PathError> {
+    let path = &lane.build(options)?;
+    let back = match options.back {
+        true => Some((lane.reversed(), path.reversed()?)),
+        false => None,
+    };
+    let back = back.as_ref().map(|(lane, path)| (lane, path));
+    let report = report::accepted((lane, path), back)?;
+    let (shown, driven) = back.unwrap_or((lane, path));
+    Ok((report, files(options, shown, driven, &report::build(path))?))
+}
+
 fn files<'a>(
     options: &'a Options,
     lane: &Lane,
     path: &Path,
-) -> Result<Vec<(&'a std::path::Path, String)>, PathError> {
-    let mut files = Vec::new();
+    built: &str,
+) -> Result<Files<'a>, PathError> {
+    let mut files = Files::new();
     if let Some(file) = &options.segments {
         files.push((file.as_path(), tables::segments(lane, path)));
     }
@@ -99,7 +111,7 @@ fn files<'a>(
         files.push((file.as_path(), tables::samples(options, lane, path)?));
     }
     if let Some(file) = &options.picture {
-        files.push((file.as_path(), picture::draw(lane, path)?));
+        files.push((file.as_path(), picture::draw(lane, path, built)?));
     }
     Ok(files)
 }

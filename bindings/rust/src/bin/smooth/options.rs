@@ -26,9 +26,12 @@ standard input is read.
       --mode error|clamp   samples outside that of the parameters: refused, or standing still at the nearer end (error)
       --depth N            halvings of a piece of the curve, 6 at most, that may tighten the certified figure (0)
       --picture FILE       writes a picture as SVG: waypoints, curve, tolerance, and the distance between curve and line
+      --back               the lane driven back: report, picture and files are those of the way back, which is certified
+                           anew against the waypoints in reverse; the report has the figure of the way out beside it
   -h, --help               prints this
 
 Of a segment: u = (parameter - first) / (last - first), v = (u - left) / (right - left), value = p0 + p1 v + .. + p5 v^5.
+On the way back the parameter of a waypoint is first + (last - its parameter), so that it rises from first to last again.
 
 When a lane is refused, its number tells whether another try with a higher limit may help: 8 and 15 may change with a
 higher --max-segments, 14 with a higher --max-refinements. No other refusal changes with a limit, and a lane that is
@@ -61,6 +64,8 @@ pub struct Options {
     pub segments: Option<PathBuf>,
     pub samples: Option<PathBuf>,
     pub picture: Option<PathBuf>,
+    /// Whether the lane is driven back.
+    pub back: bool,
     /// The depth of the certificate.
     pub depth: usize,
     pub count: usize,
@@ -95,6 +100,7 @@ pub fn read(arguments: impl Iterator<Item = OsString>) -> Result<Command, String
         segments: None,
         samples: None,
         picture: None,
+        back: false,
         depth: 0,
         count: 201,
         from: None,
@@ -115,6 +121,13 @@ pub fn read(arguments: impl Iterator<Item = OsString>) -> Result<Command, String
         if matches!(name, "-h" | "--help") {
             return Ok(Command::Help);
         }
+        if let Some(flag) = flag(&mut options, name) {
+            if given.is_some() {
+                return Err(format!("{name} takes no value"));
+            }
+            *flag = true;
+            continue;
+        }
         if !NAMES.contains(&name) {
             return Err(format!("there is no option {name}; see smooth --help"));
         }
@@ -131,6 +144,14 @@ pub fn read(arguments: impl Iterator<Item = OsString>) -> Result<Command, String
             second.to_string_lossy()
         )),
         None => Ok(Command::Smooth(Box::new(options))),
+    }
+}
+
+/// What an option without a value sets; none if it is not one.
+fn flag<'a>(options: &'a mut Options, name: &str) -> Option<&'a mut bool> {
+    match name {
+        "--back" => Some(&mut options.back),
+        _ => None,
     }
 }
 

@@ -185,10 +185,10 @@ impl<'a> Block<'a> {
     }
 }
 
-/// The picture of a lane and its path.
-pub fn draw(lane: &Lane, path: &Path) -> Result<String, PathError> {
+/// The picture of a lane and its path, with what the build did in words.
+pub fn draw(lane: &Lane, path: &Path, built: &str) -> Result<String, PathError> {
     let sampled = Sampled::new(lane, path)?;
-    let margins = Margin::all(lane, path);
+    let margins = Margin::all(lane, path)?;
     let blocks: Vec<Block> = (0..lane.d())
         .map(|axis| Block::new(lane, &sampled, &margins, axis))
         .collect();
@@ -197,9 +197,10 @@ pub fn draw(lane: &Lane, path: &Path) -> Result<String, PathError> {
     let across = across.unwrap_or(Range { low: 0., high: 1. });
 
     let mut body = Svg(String::new());
-    let title = format!("{}, smoothed", lane.file_name());
+    let back = if lane.back { ", driven back" } else { "" };
+    let title = format!("{}, smoothed{back}", lane.file_name());
     body.text((20., 34.), "class=\"title\"", &title);
-    let made = format!("{}, {}", counted(lane.n(), "waypoint"), report::build(path));
+    let made = format!("{}, {built}", counted(lane.n(), "waypoint"));
     body.text((20., 56.), "", &made);
     let mut top = legend(&mut body, 76., margins.is_empty());
     for block in &blocks {

@@ -11,27 +11,20 @@ use std::fmt::Write;
 pub struct Margin {
     pub axis: usize,
     pub tolerance: f64,
-    /// The largest error that the audit found.
-    pub error: f64,
     /// The certified figure, where there is one.
     pub figure: Option<f64>,
 }
 
 impl Margin {
     /// The margins of the smoothed axes, in their order.
-    pub fn all(lane: &Lane, path: &Path) -> Vec<Self> {
-        let Some(report) = path.smoothing_report() else {
-            return Vec::new();
-        };
-        let axes = report.axes.iter().zip(&report.max_errors).enumerate();
-        axes.map(|(place, (axis, error))| Self {
-            axis: *axis,
-            tolerance: tolerance_at(&lane.tolerance, place),
-            error: *error,
-            figure: path
-                .certify(*axis, lane.depth, &lane.points, lane.parameters())
-                .ok()
-                .flatten(),
+    pub fn all(lane: &Lane, path: &Path) -> Result<Vec<Self>, PathError> {
+        let axes = path.smoothed_axes().iter().enumerate();
+        axes.map(|(place, axis)| {
+            Ok(Self {
+                axis: *axis,
+                tolerance: tolerance_at(&lane.tolerance, place),
+                figure: path.certify(*axis, lane.depth, &lane.points, lane.parameters())?,
+            })
         })
         .collect()
     }
@@ -79,7 +72,7 @@ fn input(lane: &Lane) -> String {
     format!("{}: {waypoints}, {axes}, {parameters}\n", lane.name)
 }
 
-/// The second line: what the build did.
+/// What the build did.
 pub fn build(path: &Path) -> String {
     let Some(report) = path.smoothing_report() else {
         return String::new();
@@ -91,61 +84,106 @@ pub fn build(path: &Path) -> String {
     )
 }
 
-/// The report of a lane that was smoothed.
-pub fn accepted(lane: &Lane, path: &Path) -> String {
-    let mut text = input(lane);
-    if let Some(report) = path.smoothing_report() {
-        let _ = writeln!(
-            text,
-            "accepted: {}, {}, {}\n",
-            build(path),
-            counted(report.fitting_rows, "fitting row"),
-            counted(report.checked_intervals, "checked interval")
-        );
+/// The report of a lane that was smoothed and, if it was driven back, of the way back beside the way out.
+pub fn accepted(out: (&Lane, &Path), back: Option<(&Lane, &Path)>) -> Result<String, PathError> {
+    let (lane, path) = back.unwrap_or(out);
+    let (heads, errors) = made(out);
+    let mut text = heads;
+    if back.is_some() {
+        text += &driven_back(out, lane);
     }
-    let margins = Margin::all(lane, path);
-    let mut rows =
-        vec![["axis", "tolerance", "error", "certified", "of tolerance"].map(String::from)];
-    rows.extend(margins.iter().map(|margin| {
-        [
-            lane.name_of(margin.axis).to_string(),
-            number(margin.tolerance),
-            number(margin.error),
-            margin.certified(),
-            margin.share(),
-        ]
-    }));
-    text += &table(&rows);
-    let others: Vec<&str> = (0..lane.d())
-        .filter(|axis| margins.iter().all(|margin| margin.axis != *axis))
-        .map(|axis| lane.name_of(axis))
-        .collect();
-    if !others.is_empty() {
-        let count = path.other_breaks().len().saturating_sub(1);
-        let (names, segments) = (others.join(", "), counted(count, "segment"));
-        let _ = writeln!(
-            text,
-            "not smoothed, through every waypoint: {names}; {segments}"
-        );
+    text.push('\n');
+    let margins = Margin::all(lane, path)?;
+    let column = |cell: fn(&Margin) -> String| margins.iter().map(cell).collect::<Vec<_>>();
+    let names = margins
+        .iter()
+        .map(|margin| lane.name_of(margin.axis).to_string());
+    let mut columns = vec![
+        ("axis", names.collect()),
+        ("tolerance", column(|m| number(m.tolerance))),
+    ];
+    if back.is_some() {
+        let figures = Margin::all(out.0, out.1)?;
+        columns.push(("error out", errors));
+        columns.push((
+            "certified out",
+            figures.iter().map(Margin::certified).collect(),
+        ));
+        columns.push(("certified back", column(Margin::certified)));
+    } else {
+        columns.push(("error", errors));
+        columns.push(("certified", column(Margin::certified)));
     }
+    columns.push(("of tolerance", column(Margin::share)));
+    text += &table(&columns);
+    text += &others(lane, path);
     let depth = at_depth(lane);
     let _ = writeln!(
         text,
         "\ncertified{depth}: no point of the axis lies further from its line than this figure, which is proved."
     );
+    if back.is_some() {
+        text += "error out: what the audit of the way out found; the way back is not audited, it is certified anew.\n";
+    }
     for margin in margins.iter().filter(|margin| !margin.within()) {
         let name = lane.name_of(margin.axis);
-        let _ = writeln!(
-            text,
-            "{name}: the audit, in rounded numbers, found it within its tolerance; that is not certified"
-        );
+        let found = if back.is_some() {
+            "the way out within its tolerance; of the way back that is not certified"
+        } else {
+            "it within its tolerance; that is not certified"
+        };
+        let _ = writeln!(text, "{name}: the audit, in rounded numbers, found {found}");
     }
     if let Ok(sampled) = Sampled::new(lane, path) {
         for margin in &margins {
             text += &furthest(lane, &sampled, margin).unwrap_or_default();
         }
     }
-    text
+    Ok(text)
+}
+
+/// The first lines, what was read and built, and the error of each smoothed axis that the audit found.
+fn made((lane, path): (&Lane, &Path)) -> (String, Vec<String>) {
+    let mut text = input(lane);
+    let Some(report) = path.smoothing_report() else {
+        return (text, Vec::new());
+    };
+    let _ = writeln!(
+        text,
+        "accepted: {}, {}, {}",
+        build(path),
+        counted(report.fitting_rows, "fitting row"),
+        counted(report.checked_intervals, "checked interval")
+    );
+    let errors = report.max_errors.iter().map(|error| number(*error));
+    (text, errors.collect())
+}
+
+/// The line that says where the way back begins and ends, and what its parameter is.
+fn driven_back((lane, path): (&Lane, &Path), back: &Lane) -> String {
+    let (start, end) = path.s_range();
+    let (first, last) = (back.lines.first(), back.lines.last());
+    format!(
+        "driven back: from line {} to line {}; {} is {} + ({} - {})\n",
+        first.copied().unwrap_or_default(),
+        last.copied().unwrap_or_default(),
+        back.parameter_name(),
+        number(start),
+        number(end),
+        lane.parameter_name()
+    )
+}
+
+/// The line about the axes that are not smoothed, if there are any.
+fn others(lane: &Lane, path: &Path) -> String {
+    let others = (0..lane.d()).filter(|axis| !path.smoothed_axes().contains(axis));
+    let names: Vec<&str> = others.map(|axis| lane.name_of(axis)).collect();
+    if names.is_empty() {
+        return String::new();
+    }
+    let count = path.other_breaks().len().saturating_sub(1);
+    let (names, segments) = (names.join(", "), counted(count, "segment"));
+    format!("not smoothed, through every waypoint: {names}; {segments}\n")
 }
 
 /// Where the axis is furthest from its line, as far as was looked.
@@ -158,24 +196,23 @@ fn furthest(lane: &Lane, sampled: &Sampled, margin: &Margin) -> Option<String> {
     ))
 }
 
-/// Columns side by side.
-fn table(rows: &[[String; 5]]) -> String {
-    let mut widths = [0; 5];
-    for row in rows {
-        for (width, cell) in widths.iter_mut().zip(row) {
-            *width = (*width).max(cell.chars().count());
+/// Columns side by side, each below its name.
+fn table(columns: &[(&str, Vec<String>)]) -> String {
+    let rows = columns.iter().map(|(_, cells)| cells.len()).max();
+    let mut lines = vec![String::new(); 1 + rows.unwrap_or_default()];
+    for (name, cells) in columns {
+        let cells: Vec<&str> = [*name]
+            .into_iter()
+            .chain(cells.iter().map(String::as_str))
+            .collect();
+        let width = cells.iter().map(|cell| cell.chars().count()).max();
+        for (line, cell) in lines.iter_mut().zip(cells) {
+            let _ = write!(line, "{cell:width$}  ", width = width.unwrap_or_default());
         }
     }
-    let mut text = String::new();
-    for row in rows {
-        let cells: Vec<String> = row
-            .iter()
-            .zip(widths)
-            .map(|(cell, width)| format!("{cell:width$}"))
-            .collect();
-        let _ = writeln!(text, "{}", cells.join("  ").trim_end());
-    }
-    text
+    lines
+        .iter()
+        .fold(String::new(), |text, line| text + line.trim_end() + "\n")
 }
 
 /// The report of a lane that was turned away, with what is likely to help.
@@ -221,7 +258,7 @@ fn remedy(options: &Options, lane: &Lane, error: &PathError) -> Option<String> {
         }
         PathError::BadPoints => "two lines of numbers or more".to_string(),
         PathError::BadTolerance => "one --tolerance above 0 for all smoothed axes".to_string(),
-        PathError::BadParameters => falls(lane)?,
+        PathError::BadParameters => falls(lane).or_else(|| too_close(lane))?,
         PathError::BadRange => "parameters of about the same distance from each other".to_string(),
         PathError::Overflow | PathError::NotFinite | PathError::BadSolution => {
             format!("{LARGER}, or coordinates in a larger unit")
@@ -250,6 +287,7 @@ fn remedy(options: &Options, lane: &Lane, error: &PathError) -> Option<String> {
             format!("coordinates from which a common offset is subtracted, or {LARGER}")
         }
         PathError::AboveDomain => "the lane in parts, or lower limits".to_string(),
+        PathError::NotRising => too_close(lane).unwrap_or_else(|| LARGER.to_string()),
         PathError::OutOfRangeS { .. } => {
             "--from and --to within the parameters, or --mode clamp".to_string()
         }
@@ -270,5 +308,18 @@ fn falls(lane: &Lane) -> Option<String> {
         lane.lines.get(place + 1)?,
         number(*after),
         number(*before)
+    ))
+}
+
+/// The first two lines whose parameters are one number on the way back.
+fn too_close(lane: &Lane) -> Option<String> {
+    let back = lane.reversed();
+    let mut pairs = back.parameters()?.windows(2).zip(back.lines.windows(2));
+    let (_, lines) = pairs.rfind(|(pair, _)| pair.first() >= pair.last())?;
+    Some(format!(
+        "lines {} and {} further apart in {}, or one of them left out; on the way back they are not told apart",
+        lines.last()?,
+        lines.first()?,
+        lane.parameter_name()
     ))
 }

@@ -10,7 +10,7 @@ use std::fmt::Write;
 /// The segments of both sets.
 pub fn segments(lane: &Lane, path: &Path) -> String {
     let mut text = "axis,set,segment,left,right,p0,p1,p2,p3,p4,p5\n".to_string();
-    let smoothed = path.smoothing_report().map_or(&[][..], |r| &r.axes);
+    let smoothed = path.smoothed_axes();
     let others: Vec<usize> = (0..path.dim()).filter(|a| !smoothed.contains(a)).collect();
     let sets = [
         ("smoothed", smoothed, path.breaks(), path.coefficients()),
