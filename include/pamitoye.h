@@ -45,10 +45,10 @@
  *     other_coefficients   6 * other_segments * (d - k) cells, then other_segments cells
  * Coefficients lie segment after segment, in it axis after axis (the others in rising order), six
  * each, from power 0 up, of a parameter that goes from 0 to 1 on the segment. Behind them lies the
- * width of each segment, the rounded difference of its two breaks. The curve is well formed if
- * the lengths are these, each width has the bits of that difference, 1 <= k <= d <= 16, the axes are distinct and below d, each set
- * has 1 to 20000 segments (the other set none where k is d), breaks rise strictly from 0 to 1,
- * and start, end and end - start are finite, the last above 0.
+ * width of each segment, the rounded difference of its two breaks. The curve is well formed if the
+ * lengths are these, each width has the bits of that difference, 1 <= k <= d <= 16, the axes are
+ * distinct and below d, each set has 1 to 20000 segments (the other set none where k is d), breaks
+ * rise strictly from 0 to 1, and start, end and end - start are finite, the last above 0.
  */
 #ifndef PAMITOYE_H
 #define PAMITOYE_H
@@ -115,7 +115,9 @@ enum pamitoye_number {
     /* a smoothed coordinate, without its sign, exceeds its tolerance times 2^48: subtract an offset
      * from the coordinates, or take a larger tolerance */
     PAMITOYE_TOLERANCE_TOO_FINE = 26,
-    /* the breaks of a return lane do not rise strictly */
+    /* the breaks of a return lane do not rise strictly: 1 minus two old ones is one number, as these
+     * are no further apart than 2^-53 in the lane's first half; take parameters that are further
+     * apart there, or leave out one waypoint of the two */
     PAMITOYE_NOT_RISING = 29,
     /* a pair names a lane that is not below the number of lanes */
     PAMITOYE_NO_SUCH_LANE = 31,
@@ -215,9 +217,9 @@ uint64_t pamitoye_evaluate_all(
     double *ddq, size_t ddq_len, double *dddq, size_t dddq_len,
     size_t *refused_at);
 
-/* As pamitoye_evaluate, for a curve that is known to be well formed: an accepted build's, or one of
- * which pamitoye_well_formed has said so. The curve is not tested, which takes time that grows with
- * its segments; if it is not well formed the call is undefined. Never 24. */
+/* As pamitoye_evaluate, for a curve that is known to be well formed: an accepted build's, a return
+ * lane, or one of which pamitoye_well_formed has said so. The curve is not tested, which takes time
+ * that grows with its segments; if it is not well formed the call is undefined. Never 24. */
 uint64_t pamitoye_evaluate_formed(
     size_t d, size_t k, const size_t axes[16], double start, double end, bool clamp,
     size_t segments, size_t other_segments,
