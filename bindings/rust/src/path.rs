@@ -270,7 +270,8 @@ impl Path {
     /// A figure that no point of this smoothed axis exceeds in its distance from the line, where there is one.
     ///
     /// `points` are waypoints as in [`from_waypoints_fitting`](Path::from_waypoints_fitting), with the path's axes, and
-    /// `parameters` theirs, `None` for even ones; as a rule both as the path was built from.
+    /// `parameters` theirs, `None` for even ones; as a rule both as the path was built from, or, of a path that was
+    /// reversed, what [`reversed_waypoints`] makes of them.
     ///
     /// The promise, which is proved, is the distance rule: at every exact fraction of the parameter, the curve of the
     /// stored coefficients and the straight line between the two neighbouring waypoints, both taken without any
