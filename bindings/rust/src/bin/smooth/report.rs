@@ -87,8 +87,7 @@ pub fn build(path: &Path) -> String {
 /// The report of a lane that was smoothed and, if it was driven back, of the way back beside the way out.
 pub fn accepted(out: (&Lane, &Path), back: Option<(&Lane, &Path)>) -> Result<String, PathError> {
     let (lane, path) = back.unwrap_or(out);
-    let (heads, errors) = made(out);
-    let mut text = heads;
+    let (mut text, errors) = made(out);
     if back.is_some() {
         text += &driven_back(out, lane);
     }
