@@ -68,9 +68,16 @@ def falls(numbers):
     return any(y <= x for x, y in zip(numbers, numbers[1:]))
 
 
+def bits(numbers):
+    return [struct.pack("<d", x) for x in numbers]
+
+
 def set_formed(axes, segments, breaks, coefficients):
-    return (1 <= segments <= 20000 and len(breaks) == segments + 1 and len(coefficients) == 6 * axes * segments
-            and breaks[0] == 0 and breaks[-1] == 1 and all(x < y for x, y in zip(breaks, breaks[1:])))
+    """A set of segments; behind its coefficients lie their widths (document 02, request 12)."""
+    rows = 6 * axes * segments
+    return (1 <= segments <= 20000 and len(breaks) == segments + 1 and len(coefficients) == rows + segments
+            and breaks[0] == 0 and breaks[-1] == 1 and all(x < y for x, y in zip(breaks, breaks[1:]))
+            and bits(coefficients[rows:]) == bits(b - a for a, b in zip(breaks, breaks[1:])))
 
 
 def well_formed(q):
