@@ -115,9 +115,9 @@ enum pamitoye_number {
     /* a smoothed coordinate, without its sign, exceeds its tolerance times 2^48: subtract an offset
      * from the coordinates, or take a larger tolerance */
     PAMITOYE_TOLERANCE_TOO_FINE = 26,
-    /* the breaks of a return lane do not rise strictly: 1 minus two old ones is one number, as these
-     * are no further apart than 2^-53 in the lane's first half; take parameters that are further
-     * apart there, or leave out one waypoint of the two */
+    /* the breaks of a return lane do not rise strictly: 1 minus two old ones is one number, since
+     * they are no further apart than 2^-53 in the lane's first half; take parameters that are
+     * further apart there, or leave out one waypoint of the two */
     PAMITOYE_NOT_RISING = 29,
     /* a pair names a lane that is not below the number of lanes */
     PAMITOYE_NO_SUCH_LANE = 31,
@@ -279,12 +279,16 @@ uint64_t pamitoye_certify(
     bool even, const double *parameters, size_t parameters_len,
     size_t axis, size_t depth, bool *given, double *figure);
 
-/* The lane driven back: the curve of the same eight numbers whose breaks are 1 minus the old ones in
- * reverse, whose segments are the old ones in reverse, each as the polynomial of 1 minus the old
- * parameter, and whose widths are those of the new breaks. On 0 the first cells of the lent slices,
- * as many as the curve's own slices have, are the return lane, and it is well formed; the cells
- * behind are unchanged. A refusal writes nothing. To certify it, pass the points in reverse and list
- * their parameters.
+/* The lane driven back: the curve of the same eight numbers whose breaks are 1 minus the old ones
+ * in reverse, whose segments are the old ones in reverse, each as the polynomial of 1 minus the old
+ * parameter, and whose widths are those of the new breaks. At start + end - x it is, up to rounding,
+ * the lane at x. On 0 the first cells of the lent slices, as many as the curve's own slices have,
+ * are the return lane, and it is well formed; the cells behind are unchanged. A refusal writes
+ * nothing.
+ * A certified figure of the way out is none of the way back, whose coefficients are rounded anew:
+ * pass pamitoye_certify the points in reverse and list parameters for them, start + (end - p) for
+ * each p, in reverse. Coefficients of some 1e306 may overflow on the way back; then there is no
+ * figure.
  * Numbers: 24, 19 (a lent slice is shorter than the curve's own), 29, in this order. */
 uint64_t pamitoye_return_lane(
     size_t d, size_t k, const size_t axes[16], double start, double end, bool clamp,
