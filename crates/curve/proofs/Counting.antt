@@ -8,9 +8,9 @@ use native.Mathlib.Numerals.{add-one}
 use borrow.Author.Tests.{eq-eqb, ne-eqb, eqb-true}
 use lib.Dec.{eqb}
 use mir.Val.{boolByte}
-use Rattle.arith.proofs.Truth.{clash}
+use Rattle.arith.proofs.Truth.{and-parts, clash}
 use Rattle.arith.specs.First.{firstOf, every}
-use Rattle.arith.proofs.Firsts.{first-next, first-le, first-more, first-stays}
+use Rattle.arith.proofs.Firsts.{every-all, every-at, first-all, first-next, first-le, first-more, first-stays}
 
 -- c of the numbers below i pass: all do exactly where c is i
 abbrev pub Counted : (ℕ → Bool) → ℕ → ℕ → Type 0
@@ -73,3 +73,24 @@ both false false = refl
 pub byte-is : (b : Bool) → (boolByte b ≡ cond b 1 0) × (boolByte b ≤ 1)
 byte-is true = (refl, omega arith)
 byte-is false = (refl, omega arith)
+
+-- every number passes two tests exactly where it passes each
+pub every-both : (f g : ℕ → Bool) (n : ℕ) → every n (λ i. f i && g i) ≡ (every n f && every n g)
+every-both f g n = go (every n both) refl
+  where
+    both : ℕ → Bool
+    both i = f i && g i
+
+    all : (test : ℕ → Bool) → ((i : ℕ) → i < n → test i ≡ true) → every n test ≡ true
+    all test h = every-all test n (first-all (λ i. not (test i)) n (λ i l. ap not (h i l)))
+
+    go : (b : Bool) → every n both ≡ b → b ≡ (every n f && every n g)
+    go true e =
+        sym (rw (all f (λ i l. and-parts (f i) (g i) (every-at both n e i l) .0), all g (λ i l. and-parts (f i) (g i) (every-at both n e i l) .1)))
+    go false e = sym (no (every n f && every n g) refl)
+      where
+        no : (b : Bool) → (every n f && every n g) ≡ b → b ≡ false
+        no true h =
+            let p = and-parts (every n f) (every n g) h in
+            clash (all both (λ i l. rw (every-at f n (p .0) i l, every-at g n (p .1) i l))) e
+        no false h = refl

@@ -1,24 +1,32 @@
--- Of two f64s, one of which is above 0, `==` tells whether their bits are the same; and the difference of two numbers, the first below the
--- second, is above 0.
-use mathlib.Core.Bool.{Bool, Bool·beq, true, false}
+-- Of two f64s, one of which is above 0, `==` tells whether their bits are the same; the difference of two numbers is above 0 exactly where
+-- the first is below the second; so one test of a width tells both that its breaks rise and that it has the bits of their difference.
+use mathlib.Core.Bool.{Bool, Bool·beq, true, false, not, cond, _&&_, or-true}
+use mathlib.Core.List.{[], _∷_}
 use mathlib.Core.Path.{_≡_, _∙_, ap, refl, subst, sym}
 use Prim.Native.Nat.{ℕ, _*_}
 use borrow.Author.Tests.{eq-eqb, ne-eqb}
 use lib.Dec.{T, eqb}
-use lib.IntN.{ℤ}
-use lib.Ieee.{Float, add, binary64, down, eq, fin, fits, inf, lt, nan, neg, ofBits, sub, toBits, up}
-use lib.Ieee.Bits.{ofBits-toBits}
+use lib.IntN.{ℤ, pos}
+use lib.Ieee.{Float, add, binary64, down, eq, fin, fits, inf, le, lt, nan, neg, ofBits, sub, toBits, up}
+use lib.Ieee.Bits.{ofBits-fits, ofBits-toBits}
+use lib.Ieee.Fits.{sub-fits}
 use lib.Ieee.Positive.{above, positive, positive-finite}
 use lib.Ieee.Scale.{finite}
+use Rattle.arith.proofs.FloatOrder.{le-not-lt, lt-le-trans}
 use Rattle.arith.proofs.Truth.{clash, never}
 use Rattle.fraction.specs.DirectedSum.{Downward}
-use Rattle.fraction.specs.Rational.{ℚ, _≤q_, 𝟘}
+use Rattle.fraction.specs.Rational.{ℚ, _+q_, negq, atMostq, _≤q_, 𝟘}
+use Rattle.fraction.specs.RationalRing.{rationalRing}
+use Rattle.fraction.specs.Ring.{_⊖_, con, solve, v0}
 use Rattle.fraction.specs.Value.{value}
 use Rattle.fraction.proofs.Comparison.{eq-finite, eq-value, positive-above}
-use Rattle.fraction.proofs.DirectedSum.{downward-unique}
-use Rattle.fraction.proofs.Rational as rational
-use Rattle.fraction.proofs.Value.{above-zero}
 use Rattle.fraction.proofs.Difference.{difference-above}
+use Rattle.fraction.proofs.DirectedSum.{downward-unique}
+use Rattle.fraction.proofs.OwnRounding.{rounds-below}
+use Rattle.fraction.proofs.Rational as rational
+use Rattle.fraction.proofs.Rounding.{sub-rounded}
+use Rattle.fraction.proofs.Value.{above-zero, plus-zero, value-le-of-not-lt}
+use Rattle.window.specs.Cells.{+0}
 
 -- ---- a value other than 0 is the value of one f64
 own : (x : Float) → T (fits binary64 x) → T (finite x) → (value x ≡ 𝟘 → ⊥) → Downward binary64 (value x) x
@@ -109,3 +117,75 @@ unfolding lt
 width-above nan y F G l = never l
 width-above (inf s) y F G l = from-infinity s y l
 width-above (fin s m e) y F G l = from-number s m e y F G l
+
+-- ---- y - x, where x is not below y
+pub zero-finite : T (finite +0)
+unfolding ofBits
+zero-finite = tt
+
+pub zero-value : value +0 ≡ 𝟘
+unfolding atMostq
+zero-value = ap value (plus-zero binary64) ∙ rational.≤q-antisymmetric (value (fin false 0 (pos 0))) 𝟘 tt tt
+
+not-above : (x y : Float) → T (finite x) → T (finite y) → lt x y ≡ false → lt +0 (sub binary64 y x) ≡ false
+not-above x y X Y l =
+    let z = value y +q negq (value x) in
+    let h : z ≤q value x +q negq (value x) =
+    rational.≤q-add (value y) (value x) (negq (value x)) (value-le-of-not-lt y x Y X (subst (λ (b : Bool). T (not b)) (sym l) tt)) in
+    let e : value x +q negq (value x) ≡ value +0 = solve rationalRing (value x ∷ []) (v0 ⊖ v0) (con (pos 0)) tt ∙ sym zero-value in
+    le-not-lt (sub binary64 y x) +0 (rounds-below binary64 +0 (ofBits-fits binary64 0) zero-finite (sub binary64 y x) z
+    (sub-rounded binary64 y x Y X) (subst (λ (w : ℚ). z ≤q w) e h))
+
+falling : (x y : Float) → lt x y ≡ false → lt +0 (sub binary64 y x) ≡ false
+unfolding lt sub neg add ofBits
+falling nan nan l = refl
+falling (inf s) nan l = refl
+falling (fin s m e) nan l = refl
+falling nan (inf t) l = refl
+falling nan (fin t n d) l = refl
+falling (inf true) (inf true) l = refl
+falling (inf true) (inf false) l = clash refl l
+falling (inf false) (inf true) l = refl
+falling (inf false) (inf false) l = refl
+falling (inf true) (fin t n d) l = clash refl l
+falling (inf false) (fin t n d) l = refl
+falling (fin s m e) (inf true) l = refl
+falling (fin s m e) (inf false) l = clash refl l
+falling (fin s m e) (fin t n d) l = not-above (fin s m e) (fin t n d) tt tt l
+
+-- ---- one test for both
+above-lt : (y : Float) → T (above y) → lt +0 y ≡ true
+unfolding lt ofBits
+above-lt nan a = absurd a
+above-lt (inf true) a = absurd a
+above-lt (inf false) a = refl
+above-lt (fin true m e) a = absurd a
+above-lt (fin false m e) a = positive-above binary64 (fin false m e) a
+
+equal-le : (x y : Float) → eq x y ≡ true → le x y ≡ true
+unfolding le
+equal-le x y h = rw h (or-true (lt x y))
+
+-- A width above 0 that equals the difference of two numbers: they rise, and it has the bits of the difference.
+pub width-test : (w x y : Float) → T (fits binary64 w) → T (fits binary64 x) → T (fits binary64 y)
+    → cond (eq w (sub binary64 y x)) (lt +0 w) false
+    ≡ (lt x y && eqb (toBits binary64 w) (toBits binary64 (sub binary64 y x)))
+width-test w x y W X Y = go (lt x y) (eq w d) refl refl
+  where
+    d : Float
+    d = sub binary64 y x
+
+    D : T (fits binary64 d)
+    D = sub-fits binary64 y x
+
+    go : (b e : Bool) → lt x y ≡ b → eq w d ≡ e → cond e (lt +0 w) false ≡ (b && eqb (toBits binary64 w) (toBits binary64 d))
+    go true true l h =
+        let a = width-above x y X Y l in
+        ap (lt +0) (equal-above w d W D a h) ∙ above-lt d a ∙ sym (bits-test w d W D a ∙ h)
+    go true false l h = sym (bits-test w d W D (width-above x y X Y l) ∙ h)
+    go false true l h = no (lt +0 w) refl
+      where
+        no : (b : Bool) → lt +0 w ≡ b → b ≡ false
+        no true k = clash (lt-le-trans +0 w d k (equal-le w d h)) (falling x y l)
+        no false k = refl
+    go false false l h = refl

@@ -1,8 +1,10 @@
 // Whether a curve is well formed.
 ghost use mathlib.Core.Path.{_≡_};
-ghost use mathlib.Core.Bool.{true};
+ghost use mathlib.Core.Bool.{_&&_};
 ghost use Prim.Native.Nat.{_+_, _-_, _*_, _≤_, _<_};
+ghost use lib.Dec.{eqb};
 ghost use lib.ListN.{length};
+ghost use lib.Ieee.{binary64, lt, sub, toBits};
 ghost use Rattle.curve.specs.Form.{slices, axesFormed, breaksRise, widthsKept, setFormed, othersFormed, rangeFormed, wellFormed};
 use crate::Curve;
 use crate::count::one_if;
@@ -27,30 +29,27 @@ pub fn axes_formed(axes: &[usize; 16], k: usize, d: usize) -> bool
     true
 }
 
-// Whether each of the first n breaks is below the next: those that are, are counted.
-fn rise(breaks: &[f64], n: usize) -> bool
-    requires { ⌜ n < length (now breaks) ⌝ }
-    ensures { λ r. ⌜ r ≡ breaksRise (now (breaks .entry)) n ⌝ }
+// Whether `to` is above `from`, and `width` has the bits of their difference: it is above 0 where they
+// rise and nowhere else, and no other number equals it.
+fn is_width(width: f64, from: f64, to: f64) -> bool
+    ensures { λ r. ⌜ r ≡ (lt from to && eqb (toBits binary64 width) (toBits binary64 (sub binary64 to from))) ⌝ }
 {
-    let mut below = 0;
-    let mut i = 0;
-    while i < n {
-        below += one_if(breaks[i] < breaks[i + 1]);
-        i += 1;
+    if width == to - from {
+        return 0.0 < width;
     }
-    below == n
+    false
 }
 
-// Whether n segments, whose breaks rise, keep their widths from the cell `from` on: those that are the
-// difference of their breaks are counted. It is above 0, so that no other number equals it.
+// Whether the breaks of n segments rise and their widths are kept from the cell `from` on: segments of
+// which both hold are counted.
 fn widths_kept(breaks: &[f64], cells: &[f64], from: usize, n: usize) -> bool
-    requires { ⌜ (n < length (now breaks)) × (from + n ≤ length (now cells)) × (breaksRise (now breaks) n ≡ true) ⌝ }
-    ensures { λ r. ⌜ r ≡ widthsKept from n (now (breaks .entry)) (now (cells .entry)) ⌝ }
+    requires { ⌜ (n < length (now breaks)) × (from + n ≤ length (now cells)) ⌝ }
+    ensures { λ r. ⌜ r ≡ (breaksRise (now (breaks .entry)) n && widthsKept from n (now (breaks .entry)) (now (cells .entry))) ⌝ }
 {
     let mut kept = 0;
     let mut i = 0;
     while i < n {
-        kept += one_if(cells[from + i] == breaks[i + 1] - breaks[i]);
+        kept += one_if(is_width(cells[from + i], breaks[i], breaks[i + 1]));
         i += 1;
     }
     kept == n
@@ -75,10 +74,8 @@ fn set_formed(m: usize, n: usize, breaks: &[f64], coefficients: &[f64]) -> bool
         return false;
     }
     if breaks[0] == 0.0 {
-        if rise(breaks, n) {
-            if breaks[n] == 1.0 {
-                return widths_kept(breaks, coefficients, from, n);
-            }
+        if breaks[n] == 1.0 {
+            return widths_kept(breaks, coefficients, from, n);
         }
     }
     false

@@ -8,26 +8,26 @@ use borrow.Author.Tests.{eq-eqb, eqb-true}
 use lib.Dec.{T, eqb}
 use lib.IntN.{pos}
 use lib.ListN.{length}
-use lib.Ieee.{Float, nan, fin, binary64, fits, ofBits, sub, lt, le, eq}
+use lib.Ieee.{Float, nan, binary64, fits, ofBits, sub, lt, le, eq}
 use lib.Ieee.Bits.{ofBits-fits}
 use lib.Ieee.Scale.{finite}
 use Rattle.arith.specs.Operations.{floats}
 use Rattle.arith.proofs.Truth.{and-parts, clash}
 use Rattle.arith.proofs.FloatOrder.{le-not-lt}
-use Rattle.fraction.specs.Rational.{ℚ, _+q_, negq, _≤q_, atMostq, 𝟘}
+use Rattle.fraction.specs.Rational.{ℚ, _+q_, negq, _≤q_}
 use Rattle.fraction.specs.RationalRing.{rationalRing}
 use Rattle.fraction.specs.Ring.{_⊖_, con, solve, v0}
 use Rattle.fraction.specs.Rounding.{Rounded}
 use Rattle.fraction.specs.Value.{value}
 use Rattle.fraction.proofs.Comparison.{eq-finite, eq-value}
 use Rattle.fraction.proofs.OwnRounding.{rounds-above, rounds-below}
-use Rattle.fraction.proofs.Rational.{≤q-antisymmetric, ≤q-refl}
+use Rattle.fraction.proofs.Rational.{≤q-refl}
 use Rattle.fraction.proofs.Rounding.{sub-rounded}
-use Rattle.fraction.proofs.Value.{plus-zero}
 use Rattle.window.specs.Cells.{+0, at}
 use Rattle.window.proofs.Joined.{join-length, list-at, list-length, table-length}
 use Rattle.curve.specs.declared.Curve.{Curve}
 use Rattle.curve.specs.Form.{Slices, withWidths, setFormed, othersFormed, wellFormed}
+use Rattle.curve.proofs.SameBits.{zero-finite, zero-value}
 use Rattle.curve.proofs.Formed.{formed, well-formed, set-parts, set-formed, with-length, with-kept}
 use Rattle.return_lane.specs.Segment.{returnCoefficient}
 use Rattle.return_lane.specs.Return.{returnBreak, returnBreaks, returnSegment, returnCoefficients, returnSlices, risesBack}
@@ -76,14 +76,6 @@ rounds-to r y z F Y R e =
 one-finite : T (finite one)
 unfolding ofBits
 one-finite = tt
-
-zero-finite : T (finite +0)
-unfolding ofBits
-zero-finite = tt
-
-zero-value : value +0 ≡ 𝟘
-unfolding atMostq
-zero-value = ap value (plus-zero binary64) ∙ ≤q-antisymmetric (value (fin false 0 (pos 0))) 𝟘 tt tt
 
 -- 1 minus what equals 1 equals 0, and 1 minus what equals 0 equals 1
 to-zero : (x : Float) → eq x one ≡ true → eq (sub binary64 one x) +0 ≡ true

@@ -1,6 +1,6 @@
 -- `form::set_formed` meets its contract: by cases on the tests.
-use mathlib.Core.Bool.{_&&_, and-false}
-use mathlib.Core.Path.{_≡_, sym, _∙_}
+use mathlib.Core.Bool.{_&&_, and-false, and-true}
+use mathlib.Core.Path.{_≡_}
 use Prim.Native.Nat.{_*_, _≤_}
 use native.Mathlib.Nat.{mul-le-mul-left}
 use native.Mathlib.Omega.{arith}
@@ -50,32 +50,19 @@ lengths c = rw (
 )
 
 widths-kept-requires : tie.Need-widths-kept-requires
-widths-kept-requires c κs =
-    let risen = c .before .before in
-    (omega arith, omega arith, sym (risen .before .rise .ensures) ∙ risen .if6 .taken)
+widths-kept-requires c κs = (omega arith, omega arith)
 
 returns-5 : tie.Need-returns-5
 returns-5 c =
-    let risen = c .before .before .before in
-    let zero = risen .before .before in
-    rw (
-      lengths (zero .before .before),
-      zero .if5 .taken,
-      sym (risen .before .rise .ensures) ∙ risen .if6 .taken,
-      c .before .if7 .taken,
-    ) (c .widths-kept .ensures)
+    let ends = c .before in
+    let zero = ends .before .before in
+    rw (lengths (zero .before .before), zero .if5 .taken, ends .if6 .taken, and-true) (c .widths-kept .ensures)
 
 returns-6 : tie.Need-returns-6
-returns-6 c =
-    let risen = c .before .before in
-    rw (lengths (risen .before .before .before .before), c .if7 .left, and-false)
+returns-6 c = rw (lengths (c .before .before .before .before), c .if6 .left, and-false)
 
 returns-7 : tie.Need-returns-7
-returns-7 c =
-    rw (lengths (c .before .before .before .before), sym (c .before .rise .ensures) ∙ c .if6 .left, and-false)
-
-returns-8 : tie.Need-returns-8
-returns-8 c = rw (lengths (c .before .before), c .if5 .left)
+returns-7 c = rw (lengths (c .before .before), c .if5 .left)
 
 pub set-formed-spec : {M : Type 1} → statement M
 set-formed-spec =
@@ -90,11 +77,9 @@ set-formed-spec =
     (λ c. omega (arith, rows-few c))
     returns-4
     (λ c. search needs)
-    (λ c κs. search needs)
     (λ c. search needs)
     (λ c. search needs)
     widths-kept-requires
     returns-5
     returns-6
-    returns-7
-    returns-8)
+    returns-7)
