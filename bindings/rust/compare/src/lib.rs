@@ -42,6 +42,9 @@ mod refusal;
 #[path = "../../../../oracle/src/request.rs"]
 #[allow(dead_code)]
 mod request;
+#[path = "../../../../oracle/src/returned.rs"]
+#[allow(dead_code)]
+mod returned;
 #[path = "../../../../oracle/src/standin.rs"]
 #[allow(dead_code)]
 mod standin;
