@@ -86,7 +86,8 @@ every-both f g n = go (every n both) refl
 
     go : (b : Bool) → every n both ≡ b → b ≡ (every n f && every n g)
     go true e =
-        sym (rw (all f (λ i l. and-parts (f i) (g i) (every-at both n e i l) .0), all g (λ i l. and-parts (f i) (g i) (every-at both n e i l) .1)))
+        let each = λ (i : ℕ) (l : i < n). and-parts (f i) (g i) (every-at both n e i l) in
+        sym (rw (all f (λ i l. each i l .0), all g (λ i l. each i l .1)))
     go false e = sym (no (every n f && every n g) refl)
       where
         no : (b : Bool) → (every n f && every n g) ≡ b → b ≡ false

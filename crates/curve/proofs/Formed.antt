@@ -15,7 +15,8 @@ use Rattle.window.specs.Cells.{+0, at}
 use Rattle.window.specs.Rows.{listOf}
 use Rattle.window.proofs.Joined.{list-at, list-length}
 use Rattle.curve.specs.declared.Curve.{Curve}
-use Rattle.curve.specs.Form.{Slices, axesFormed, breaksRise, widthOf, withWidths, widthsKept, setFormed, othersFormed, rangeFormed, wellFormed}
+use Rattle.curve.specs.Form.{Slices, axesFormed, breaksRise, setFormed, othersFormed, rangeFormed, wellFormed}
+use Rattle.curve.specs.Form.{widthOf, withWidths, widthsKept}
 use Rattle.curve.specs.Places.{positionOf}
 use Rattle.curve.proofs.Placing.{Distinct}
 use Rattle.curve.proofs.SameBits.{same-bits}

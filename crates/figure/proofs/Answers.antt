@@ -85,7 +85,8 @@ unfolding checks
 numbers = refl
 
 -- the figure of the curve 1/2 against the line 0, at depth 0
-pub half : certifyOf (curve 1 1) (slices (+0 ∷ one ∷ []) (float 0x3fe0_0000_0000_0000 ∷ zeros 5 ++ (one ∷ [])) [] []) (+0 ∷ +0 ∷ []) 2 Even [] 0 0
+pub half :
+    certifyOf (curve 1 1) (slices (+0 ∷ one ∷ []) (float 0x3fe0_0000_0000_0000 ∷ zeros 5 ++ (one ∷ [])) [] []) (+0 ∷ +0 ∷ []) 2 Even [] 0 0
     ≡ outcome 0 (figure (float 0x3fe0_0000_0000_0010))
 unfolding checks figures
 half = refl
@@ -94,8 +95,8 @@ half = refl
 -- the largest of its right half is 1.2, of its left half 0.375.
 abbrev bulge : ℕ → CertificateOutcome
 bulge depth = certifyOf (curve 1 1)
-    (slices (+0 ∷ one ∷ []) (+0 ∷ +0 ∷ +0 ∷ +0 ∷ float 0x4028_0000_0000_0000 ∷ float 0xc028_0000_0000_0000 ∷ one ∷ []) [] []) (+0 ∷ +0 ∷ []) 2
-    Even [] 0 depth
+    (slices (+0 ∷ one ∷ []) (+0 ∷ +0 ∷ +0 ∷ +0 ∷ float 0x4028_0000_0000_0000 ∷ float 0xc028_0000_0000_0000 ∷ one ∷ []) [] [])
+    (+0 ∷ +0 ∷ []) 2 Even [] 0 depth
 
 pub whole-bulge : bulge 0 ≡ outcome 0 (figure (float 0x4003_3333_3333_3343))
 unfolding checks figures

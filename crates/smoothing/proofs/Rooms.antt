@@ -122,10 +122,12 @@ accepted-fits l m x h =
       breaks = r .breaks;
       coefficients =
           let c : (length (a .chosen .curve .breaks) - 1) * (6 * axisCount l) ≤ m .segments * (6 * l .d) =
-          mul-le-mul (omega (arith, r .breaks)) (omega arith) in omega (arith, r .breaks, r .coefficients, c, with-length (a .chosen .curve .breaks) (a .chosen .curve .coefficients));
+          mul-le-mul (omega (arith, r .breaks)) (omega arith) in
+          omega (arith, r .breaks, r .coefficients, c, with-length (a .chosen .curve .breaks) (a .chosen .curve .coefficients));
       other-breaks = o .0;
       other-coefficients =
           let c : (length (a .others .breaks) - 1) * (6 * length (otherAxes l)) ≤ l .n * (6 * l .d) =
-          mul-le-mul (omega (arith, o .0)) (omega arith) in omega (arith, o .0, o .1, c, with-length (a .others .breaks) (a .others .coefficients));
+          mul-le-mul (omega (arith, o .0)) (omega arith) in
+          omega (arith, o .0, o .1, c, with-length (a .others .breaks) (a .others .coefficients));
       errors = omega (arith, r .errors, k);
     })

@@ -59,7 +59,8 @@ selected-formed m q u x D few h =
     let c = physicalOf u (q .k) (st .b) in
     let n : length (polynomialOf floats (st .b .t) c (q .k) (st .b .m) .breaks) - 1 ≡ st .b .m - 5 =
     omega (arith, breaks-count (st .b .t) (st .b .m) r c (q .k)) in
-    subst (λ (p : Polynomial Float). setFormed (q .k) (segmentsOf p) (p .breaks) (withWidths (p .breaks) (p .coefficients)) ≡ true) (sym (j .0))
+    subst (λ (p : Polynomial Float). setFormed (q .k) (segmentsOf p) (p .breaks) (withWidths (p .breaks) (p .coefficients)) ≡ true)
+    (sym (j .0))
     (counted (q .k) (polynomialOf floats (st .b .t) c (q .k) (st .b .m)) n
     (segments-formed (st .b .t) (st .b .m) r c (q .k) (omega (arith, v .few))))
 
@@ -96,7 +97,8 @@ others-formed l p F h few g = go (eqb (length (otherAxes l)) 0) refl g
         cond b (eqb (segmentsOf z) 0 && eqb (length (z .breaks)) 0 && eqb (length (withWidths (z .breaks) (z .coefficients))) 0)
         (setFormed j (segmentsOf z) (z .breaks) (withWidths (z .breaks) (z .coefficients))) ≡ true
 
-    some : interpolateOf (l .n) j (parametersOf l) (otherRows l) ≡ done p → setFormed j (segmentsOf p) (p .breaks) (withWidths (p .breaks) (p .coefficients)) ≡ true
+    some : interpolateOf (l .n) j (parametersOf l) (otherRows l) ≡ done p
+        → setFormed j (segmentsOf p) (p .breaks) (withWidths (p .breaks) (p .coefficients)) ≡ true
     some e = interpolated-formed l j (otherRows l) p F h few e
 
     go : (b : Bool) → eqb j 0 ≡ b → cond b (done nothing) (interpolateOf (l .n) j (parametersOf l) (otherRows l)) ≡ done p → Form b p
@@ -145,7 +147,8 @@ accepted-well-formed l m x mode F h =
     let axes = axes-same (smoothedAxes l) (listOf 16 (λ i. getD (smoothedAxes l) i 0)) k (l .d)
     (λ i b. list-at 16 (λ i. getD (smoothedAxes l) i 0) 0 i (omega arith)) (not-false (axesFormed (smoothedAxes l) k (l .d)) (p .axes)) in
     let selected = selected-formed m (laneTask l) (laneUnits l) (a .chosen) (parameters-held l) few-g (a .chosen-is) in
-    let other : othersFormed (l .d - k) (segmentsOf (a .others)) (a .others .breaks) (withWidths (a .others .breaks) (a .others .coefficients)) ≡ true =
+    let other : othersFormed (l .d - k) (segmentsOf (a .others)) (a .others .breaks)
+    (withWidths (a .others .breaks) (a .others .coefficients)) ≡ true =
     rw rest at (others-formed l (a .others) F (a .passed) few-n (a .others-is)) in
     let range = range-formed l F (a .passed) in
     subst (λ (z : Result). wellFormed (curveOf mode (l .d) z) (slicesOf z) ≡ true) (a .result-is)

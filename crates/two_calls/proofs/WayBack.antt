@@ -77,7 +77,8 @@ coefficient-back m n b c i a k l g h =
 -- ---- the checks that the way back passes
 passes : (a b c e f g w p : Bool) (r : CertificateOutcome) → a ≡ false → b ≡ false → c ≡ false → e ≡ false → w ≡ true → p ≡ true
     → cond a (outcome 23 noFigure) (cond b (outcome 18 noFigure) (cond c (outcome 20 noFigure) (cond e (outcome 1 noFigure)
-    (cond f (outcome 5 noFigure) (cond g (outcome 6 noFigure) (cond (not w) (outcome 24 noFigure) (cond (not p) (outcome 3 noFigure) r)))))))
+    (cond f (outcome 5 noFigure) (cond g (outcome 6 noFigure) (cond (not w) (outcome 24 noFigure)
+    (cond (not p) (outcome 3 noFigure) r)))))))
     ≡ cond f (outcome 5 noFigure) (cond g (outcome 6 noFigure) r)
 passes a b c e f g w p r h₁ h₂ h₃ h₄ h₅ h₆ = rw (h₁, h₂, h₃, h₄, h₅, h₆) refl
 

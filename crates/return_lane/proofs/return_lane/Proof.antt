@@ -8,7 +8,8 @@ use borrow.Author.Tests.{not-true, not-false}
 use Rattle.curve.specs.Form.{Slices, slices}
 use Rattle.curve.proofs.Formed.{formed}
 use Rattle.return_lane.specs.Return.{risesBack}
-use Rattle.return_lane.proofs.Answered.{Roomy, malformed, selected-short, others-short, lengths, not-rising, done, selected-cells, others-cells, used-well-formed}
+use Rattle.return_lane.proofs.Answered.{Roomy, malformed, selected-short, others-short, lengths, not-rising, done}
+use Rattle.return_lane.proofs.Answered.{selected-cells, others-cells, used-well-formed}
 use Rattle.return_lane.proofs.return_lane.Statement.{statement}
 use Rattle.return_lane.proofs.return_lane.Tie as tie
 

@@ -17,7 +17,8 @@ use Rattle.query.specs.Row.{Outputs, outputs, filled}
 use Rattle.query.specs.Search.{Begins}
 use Rattle.query.specs.Query.{columnOf, Last}
 use Rattle.query.specs.Range.{rangedOf}
-use Rattle.query.proofs.Sets.{set-rows, other-rows, set-rising, others-rising, set-widths, other-widths, set-few, others-few, located-within}
+use Rattle.query.proofs.Sets.{set-rows, other-rows, set-rising, others-rising, set-few, others-few, located-within}
+use Rattle.query.proofs.Sets.{set-widths, other-widths}
 use Rattle.query.proofs.Columns.{rows-columns, column-length, span-found}
 use Rattle.query.proofs.Filled.{SameLengths, as-long, room-for, filled-none, rows-next}
 use Rattle.query.proofs.entry.write_rows.Statement.{statement}
@@ -61,7 +62,8 @@ sub-m : tie.Need-sub-m Inv-loop μ-loop
 sub-m c = omega (arith, well-formed (c .before .before .before .before .before .before .before .before .before) .k-high)
 
 -- the coefficients are few
-few : (c : tie.After-slice-known4 Inv-loop μ-loop) → let v = c .before .before .before .before .before .before .before .before .before .args .curve in
+few : (c : tie.After-slice-known4 Inv-loop μ-loop)
+    → let v = c .before .before .before .before .before .before .before .before .before .args .curve in
     (v .segments * v .k ≤ 320000) × (v .«other_segments» * (v .d - v .k) ≤ 320000)
 few c =
     let f = well-formed (c .before .before .before .before .before .before .before .before .before) in (

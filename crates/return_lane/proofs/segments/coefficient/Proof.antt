@@ -32,7 +32,8 @@ loop-again c =
       omega arith,
       omega arith,
       each-next (turn (a .p .now) (a .from) (a .k)) (l .loop .j) 6 (t .loop-test .taken)
-          (ap (λ (x : Float). add binary64 (l .loop .sum) (mul binary64 x (at (a .p .now) (a .from + l .loop .j)))) (c .before .choose .ensures))
+          (ap (λ (x : Float). add binary64 (l .loop .sum) (mul binary64 x (at (a .p .now) (a .from + l .loop .j))))
+          (c .before .choose .ensures))
           (l .loop .inv .2),
     )
 
