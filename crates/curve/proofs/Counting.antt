@@ -84,10 +84,11 @@ every-both f g n = go (every n both) refl
     all : (test : ℕ → Bool) → ((i : ℕ) → i < n → test i ≡ true) → every n test ≡ true
     all test h = every-all test n (first-all (λ i. not (test i)) n (λ i l. ap not (h i l)))
 
+    each : every n both ≡ true → (i : ℕ) → i < n → (f i ≡ true) × (g i ≡ true)
+    each e i l = and-parts (f i) (g i) (every-at both n e i l)
+
     go : (b : Bool) → every n both ≡ b → b ≡ (every n f && every n g)
-    go true e =
-        let each = λ (i : ℕ) (l : i < n). and-parts (f i) (g i) (every-at both n e i l) in
-        sym (rw (all f (λ i l. each i l .0), all g (λ i l. each i l .1)))
+    go true e = sym (rw (all f (λ i l. each e i l .0), all g (λ i l. each e i l .1)))
     go false e = sym (no (every n f && every n g) refl)
       where
         no : (b : Bool) → (every n f && every n g) ≡ b → b ≡ false
