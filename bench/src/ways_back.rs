@@ -10,80 +10,45 @@ use crate::returns;
 use std::hint::black_box;
 use std::time::{Duration, Instant};
 
-#[allow(improper_ctypes)]
-unsafe extern "C" {
-    fn pamitoye_return_lane(
-        d: usize,
-        k: usize,
-        axes: *const [usize; 16],
-        start: f64,
-        end: f64,
-        clamp: bool,
-        segments: usize,
-        other_segments: usize,
-        breaks: *const f64,
-        breaks_len: usize,
-        coefficients: *const f64,
-        coefficients_len: usize,
-        other_breaks: *const f64,
-        other_breaks_len: usize,
-        other_coefficients: *const f64,
-        other_coefficients_len: usize,
-        lent_breaks: *mut f64,
-        lent_breaks_len: usize,
-        lent_coefficients: *mut f64,
-        lent_coefficients_len: usize,
-        lent_other_breaks: *mut f64,
-        lent_other_breaks_len: usize,
-        lent_other_coefficients: *mut f64,
-        lent_other_coefficients_len: usize,
+/// Functions whose first parameters are the curve's numbers and slices, with the others and the answer.
+macro_rules! declared {
+    ($($name:ident($($more:ident: $kind:ty),* $(,)?) -> $answer:ty;)*) => {
+        #[allow(improper_ctypes)]
+        unsafe extern "C" {
+            $(fn $name(
+                d: usize,
+                k: usize,
+                axes: *const [usize; 16],
+                start: f64,
+                end: f64,
+                clamp: bool,
+                segments: usize,
+                other_segments: usize,
+                breaks: *const f64,
+                breaks_len: usize,
+                coefficients: *const f64,
+                coefficients_len: usize,
+                other_breaks: *const f64,
+                other_breaks_len: usize,
+                other_coefficients: *const f64,
+                other_coefficients_len: usize,
+                $($more: $kind,)*
+            ) -> $answer;)*
+        }
+    };
+}
+declared! {
+    pamitoye_return_lane(
+        lent_breaks: *mut f64, lent_breaks_len: usize,
+        lent_coefficients: *mut f64, lent_coefficients_len: usize,
+        lent_other_breaks: *mut f64, lent_other_breaks_len: usize,
+        lent_other_coefficients: *mut f64, lent_other_coefficients_len: usize,
     ) -> u64;
-    fn pamitoye_well_formed(
-        d: usize,
-        k: usize,
-        axes: *const [usize; 16],
-        start: f64,
-        end: f64,
-        clamp: bool,
-        segments: usize,
-        other_segments: usize,
-        breaks: *const f64,
-        breaks_len: usize,
-        coefficients: *const f64,
-        coefficients_len: usize,
-        other_breaks: *const f64,
-        other_breaks_len: usize,
-        other_coefficients: *const f64,
-        other_coefficients_len: usize,
-    ) -> bool;
-    fn pamitoye_evaluate_all(
-        d: usize,
-        k: usize,
-        axes: *const [usize; 16],
-        start: f64,
-        end: f64,
-        clamp: bool,
-        segments: usize,
-        other_segments: usize,
-        breaks: *const f64,
-        breaks_len: usize,
-        coefficients: *const f64,
-        coefficients_len: usize,
-        other_breaks: *const f64,
-        other_breaks_len: usize,
-        other_coefficients: *const f64,
-        other_coefficients_len: usize,
-        xs: *const f64,
-        xs_len: usize,
-        order: usize,
-        q: *mut f64,
-        q_len: usize,
-        dq: *mut f64,
-        dq_len: usize,
-        ddq: *mut f64,
-        ddq_len: usize,
-        dddq: *mut f64,
-        dddq_len: usize,
+    pamitoye_well_formed() -> bool;
+    pamitoye_evaluate_all(
+        xs: *const f64, xs_len: usize, order: usize,
+        q: *mut f64, q_len: usize, dq: *mut f64, dq_len: usize,
+        ddq: *mut f64, ddq_len: usize, dddq: *mut f64, dddq_len: usize,
         refused_at: *mut usize,
     ) -> u64;
 }
