@@ -3,6 +3,7 @@
 //! against the port's `build` of the same curve.
 use crate::builds::{self, Lent, Shape};
 use crate::certificate::{Certificate, Question};
+use crate::declared::declared;
 use crate::handed::HandedCurve;
 use crate::numbers::{number, same};
 use crate::path::smoothing::reach;
@@ -11,35 +12,11 @@ use crate::request::Request;
 use std::hint::black_box;
 use std::time::Duration;
 
-#[allow(improper_ctypes)]
-unsafe extern "C" {
-    fn pamitoye_certify(
-        d: usize,
-        k: usize,
-        axes: *const [usize; 16],
-        start: f64,
-        end: f64,
-        clamp: bool,
-        segments: usize,
-        other_segments: usize,
-        breaks: *const f64,
-        breaks_len: usize,
-        coefficients: *const f64,
-        coefficients_len: usize,
-        other_breaks: *const f64,
-        other_breaks_len: usize,
-        other_coefficients: *const f64,
-        other_coefficients_len: usize,
-        points: *const f64,
-        points_len: usize,
-        n: usize,
-        even: bool,
-        parameters: *const f64,
-        parameters_len: usize,
-        axis: usize,
-        depth: usize,
-        given: *mut bool,
-        figure: *mut f64,
+declared! {
+    pamitoye_certify(
+        points: *const f64, points_len: usize, n: usize, even: bool,
+        parameters: *const f64, parameters_len: usize, axis: usize, depth: usize,
+        given: *mut bool, figure: *mut f64,
     ) -> u64;
 }
 

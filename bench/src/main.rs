@@ -6,6 +6,7 @@ pub(crate) use standin::DMatrixView;
 
 mod builds;
 mod certificates;
+mod declared;
 mod leaves;
 mod numbers;
 mod queries;

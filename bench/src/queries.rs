@@ -1,84 +1,33 @@
 //! Queries: many in one call, and one in each call, against the unchanged source's `evaluate`. All four orders are
 //! asked. Every value is compared, bit for bit; then both sides are measured in turn, and the least time of each counts.
+use crate::declared::declared;
 use crate::numbers::{number, same};
 use crate::path::smoothing::timed;
 use crate::random::Random;
 use std::hint::black_box;
 use std::time::Instant;
 
-/// Queries of one parameter, by name, with the parameters behind those that all have.
+/// The functions for one parameter, with what each has behind those that all have.
 macro_rules! single {
     ($($name:ident($($more:ident: $kind:ty),*))*) => {
-        #[allow(improper_ctypes)]
-        unsafe extern "C" {
-            $(fn $name(
-                d: usize,
-                k: usize,
-                axes: *const [usize; 16],
-                start: f64,
-                end: f64,
-                clamp: bool,
-                segments: usize,
-                other_segments: usize,
-                breaks: *const f64,
-                breaks_len: usize,
-                coefficients: *const f64,
-                coefficients_len: usize,
-                other_breaks: *const f64,
-                other_breaks_len: usize,
-                other_coefficients: *const f64,
-                other_coefficients_len: usize,
-                x: f64,
-                order: usize,
-                q: *mut f64,
-                q_len: usize,
-                dq: *mut f64,
-                dq_len: usize,
-                ddq: *mut f64,
-                ddq_len: usize,
-                dddq: *mut f64,
-                dddq_len: usize,
-                $($more: $kind,)*
+        declared! {
+            $($name(
+                x: f64, order: usize, q: *mut f64, q_len: usize, dq: *mut f64, dq_len: usize,
+                ddq: *mut f64, ddq_len: usize, dddq: *mut f64, dddq_len: usize, $($more: $kind),*
             ) -> u64;)*
         }
     };
 }
 single!(pamitoye_evaluate() pamitoye_evaluate_formed() pamitoye_evaluate_near(span: *mut usize, other_span: *mut usize));
 
-/// Queries of many, by name.
+/// The functions for many.
 macro_rules! many {
     ($($name:ident)*) => {
-        #[allow(improper_ctypes)]
-        unsafe extern "C" {
-            $(fn $name(
-                d: usize,
-                k: usize,
-                axes: *const [usize; 16],
-                start: f64,
-                end: f64,
-                clamp: bool,
-                segments: usize,
-                other_segments: usize,
-                breaks: *const f64,
-                breaks_len: usize,
-                coefficients: *const f64,
-                coefficients_len: usize,
-                other_breaks: *const f64,
-                other_breaks_len: usize,
-                other_coefficients: *const f64,
-                other_coefficients_len: usize,
-                xs: *const f64,
-                xs_len: usize,
-                order: usize,
-                q: *mut f64,
-                q_len: usize,
-                dq: *mut f64,
-                dq_len: usize,
-                ddq: *mut f64,
-                ddq_len: usize,
-                dddq: *mut f64,
-                dddq_len: usize,
-                refused_at: *mut usize,
+        declared! {
+            $($name(
+                xs: *const f64, xs_len: usize, order: usize, q: *mut f64, q_len: usize,
+                dq: *mut f64, dq_len: usize, ddq: *mut f64, ddq_len: usize,
+                dddq: *mut f64, dddq_len: usize, refused_at: *mut usize,
             ) -> u64;)*
         }
     };

@@ -2,6 +2,7 @@
 //! lanes that come back against the unchanged source's `evaluate`, bit for bit; widths that are damaged; then the time
 //! of a return lane, beside that of copying its cells.
 use crate::case::Pieces;
+use crate::declared::declared;
 use crate::handed::HandedCurve;
 use crate::numbers::same;
 use crate::query::{MARK, Queries, Told};
@@ -10,33 +11,6 @@ use crate::returns;
 use std::hint::black_box;
 use std::time::{Duration, Instant};
 
-/// Functions whose first parameters are the curve's numbers and slices, with the others and the answer.
-macro_rules! declared {
-    ($($name:ident($($more:ident: $kind:ty),* $(,)?) -> $answer:ty;)*) => {
-        #[allow(improper_ctypes)]
-        unsafe extern "C" {
-            $(fn $name(
-                d: usize,
-                k: usize,
-                axes: *const [usize; 16],
-                start: f64,
-                end: f64,
-                clamp: bool,
-                segments: usize,
-                other_segments: usize,
-                breaks: *const f64,
-                breaks_len: usize,
-                coefficients: *const f64,
-                coefficients_len: usize,
-                other_breaks: *const f64,
-                other_breaks_len: usize,
-                other_coefficients: *const f64,
-                other_coefficients_len: usize,
-                $($more: $kind,)*
-            ) -> $answer;)*
-        }
-    };
-}
 declared! {
     pamitoye_return_lane(
         lent_breaks: *mut f64, lent_breaks_len: usize,

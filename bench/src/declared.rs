@@ -1,0 +1,30 @@
+//! How the library's functions are declared here: those that take a curve have the same first parameters.
+
+/// Functions whose first parameters are the curve's numbers and slices, with the others and the answer.
+macro_rules! declared {
+    ($($name:ident($($more:ident: $kind:ty),* $(,)?) -> $answer:ty;)*) => {
+        #[allow(improper_ctypes)]
+        unsafe extern "C" {
+            $(fn $name(
+                d: usize,
+                k: usize,
+                axes: *const [usize; 16],
+                start: f64,
+                end: f64,
+                clamp: bool,
+                segments: usize,
+                other_segments: usize,
+                breaks: *const f64,
+                breaks_len: usize,
+                coefficients: *const f64,
+                coefficients_len: usize,
+                other_breaks: *const f64,
+                other_breaks_len: usize,
+                other_coefficients: *const f64,
+                other_coefficients_len: usize,
+                $($more: $kind,)*
+            ) -> $answer;)*
+        }
+    };
+}
+pub(crate) use declared;
