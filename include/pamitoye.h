@@ -73,7 +73,8 @@ enum pamitoye_number {
     PAMITOYE_BAD_AXES = 3,
     /* wrong count of tolerances, or one that is not finite and above 0 */
     PAMITOYE_BAD_TOLERANCE = 4,
-    /* wrong count of parameters, one that is not finite, or they do not rise strictly */
+    /* wrong count of parameters, one that is not finite, or they do not rise strictly; by chords:
+     * neighbours are equal, or their distance is infinite or too small to be seen in the sum */
     PAMITOYE_BAD_PARAMETERS = 5,
     /* end - start is not finite, or the normalised parameters do not rise strictly */
     PAMITOYE_BAD_RANGE = 6,
@@ -125,6 +126,18 @@ enum pamitoye_number {
     PAMITOYE_RING = 32
 };
 
+/* Where the parameters of n waypoints come from. Any other number is as PAMITOYE_LISTED: without n
+ * numbers in `parameters` that is 5. */
+enum pamitoye_spacing {
+    /* `parameters` has n numbers that rise strictly */
+    PAMITOYE_LISTED = 0,
+    /* version 1 of the rule of spacing: parameter i is i / (n - 1); `parameters` is not read */
+    PAMITOYE_EVEN = 1,
+    /* version 2: parameter 0 is 0, and parameter i + 1 is parameter i plus the chord, the distance of
+     * waypoints i and i + 1 over all d coordinates; `parameters` is not read */
+    PAMITOYE_CHORD = 2
+};
+
 /* How long the slices lent to pamitoye_build must be, in cells of double. On 0 room holds, with E
  * for the larger of n and max_segments, plus 16:
  *     room[0]  work                E * (16 * d + 32)
@@ -141,8 +154,7 @@ uint64_t pamitoye_room(size_t d, size_t n, size_t max_segments, size_t room[6]);
  *     all         true: every axis is smoothed, and axis_list is not read; false: those listed
  *     uniform     true: tolerance is every smoothed axis's, and tolerance_list is not read; false:
  *                 tolerance_list has one for each smoothed axis
- *     even        true: parameter i is i / (n - 1), and parameters is not read; false: parameters
- *                 has n numbers that rise strictly
+ *     spacing     where the parameters come from, a case of `enum pamitoye_spacing`
  *     max_refinements, max_segments      limits, at most 200 and 20000
  *     clamp       the curve's mode; it changes nothing here
  * The axes that are not smoothed are interpolated. Numbers: 18, 20, 19, 1 to 4, 26, 5 to 7, then 8 to
@@ -166,7 +178,7 @@ uint64_t pamitoye_build(
     const double *points, size_t points_len, size_t d, size_t n,
     bool all, const size_t *axis_list, size_t axis_list_len,
     bool uniform, double tolerance, const double *tolerance_list, size_t tolerance_list_len,
-    bool even, const double *parameters, size_t parameters_len,
+    uint64_t spacing, const double *parameters, size_t parameters_len,
     size_t max_refinements, size_t max_segments, bool clamp,
     double *work, size_t work_len,
     double *breaks, size_t breaks_len,
@@ -262,8 +274,8 @@ uint64_t pamitoye_evaluate_all_formed(
     size_t *refused_at);
 
 /* The certified figure of a selected axis: how far the curve can lie from the lines between n
- * waypoints of d coordinates (points, even and parameters as for pamitoye_build). On 0 *given tells
- * whether there is a figure, and if so it is *figure: nowhere is the exact distance, nothing
+ * waypoints of d coordinates (points, spacing and parameters as for pamitoye_build). On 0 *given
+ * tells whether there is a figure, and if so it is *figure: nowhere is the exact distance, nothing
  * rounded, above it. Where there is none *figure is unchanged. A refusal writes neither.
  * depth, 0 to 6, is how often a piece of the curve may be halved to tighten the figure; a deeper
  * figure is never larger than a shallower one, and is given where that is.
@@ -276,7 +288,7 @@ uint64_t pamitoye_certify(
     const double *other_breaks, size_t other_breaks_len,
     const double *other_coefficients, size_t other_coefficients_len,
     const double *points, size_t points_len, size_t n,
-    bool even, const double *parameters, size_t parameters_len,
+    uint64_t spacing, const double *parameters, size_t parameters_len,
     size_t axis, size_t depth, bool *given, double *figure);
 
 /* The lane driven back: the curve of the same eight numbers whose breaks are 1 minus the old ones

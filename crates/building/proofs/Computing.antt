@@ -12,7 +12,6 @@ use lib.Ieee.{Float}
 use Rattle.window.specs.Window.{window, splice}
 use Rattle.window.proofs.Windows.{window-before}
 use Rattle.bspline.specs.Segments.{Polynomial}
-use Rattle.request.specs.declared.parameters.Spacing.{Spacing}
 use Rattle.request.specs.Parameters.{unreliable}
 use Rattle.smoothing.specs.Answer.{Answer, andThen, unless}
 use Rattle.smoothing.specs.Answer.Answer.{done, refused, exhausted}
@@ -32,20 +31,20 @@ use Rattle.work_slice.proofs.Copying.{spans-fit}
 use Rattle.building.specs.Computed.{Both, both, bothFrom, withOther, computedOf, endedIn, smoothedAt}
 
 -- ---- 6 and 7
-module _ (spacing : Spacing) (list : List Float) (m : Limits) (q : Task) (u : Units) (o : Answer (Polynomial Float)) (r : ℕ)
-    (e : r ≡ refusalAfter spacing list q) where
-  pub stops : 0 < r → computedOf spacing list m q u o ≡ refused r
+module _ (list : List Float) (m : Limits) (q : Task) (u : Units) (o : Answer (Polynomial Float)) (r : ℕ)
+    (e : r ≡ refusalAfter list q) where
+  pub stops : 0 < r → computedOf list m q u o ≡ refused r
   unfolding computedOf
-  stops h = go (unreliable spacing list (q .n)) (overflows q) e
+  stops h = go (unreliable list (q .n)) (overflows q) e
     where
       go : (a b : Bool) → r ≡ cond a 6 (cond b 7 0) → cond a (refused 6) (cond b (refused 7) (bothFrom m q u o)) ≡ refused r
       go true b g = ap refused (sym g)
       go false true g = ap refused (sym g)
       go false false g = absurd (omega arith)
 
-  pub goes : r ≡ 0 → computedOf spacing list m q u o ≡ bothFrom m q u o
+  pub goes : r ≡ 0 → computedOf list m q u o ≡ bothFrom m q u o
   unfolding computedOf
-  goes h = go (unreliable spacing list (q .n)) (overflows q) e
+  goes h = go (unreliable list (q .n)) (overflows q) e
     where
       go : (a b : Bool) → r ≡ cond a 6 (cond b 7 0) → cond a (refused 6) (cond b (refused 7) (bothFrom m q u o)) ≡ bothFrom m q u o
       go true b g = let z : _≡_ {A = ℕ} 0 6 = sym h ∙ g in absurd (omega arith)

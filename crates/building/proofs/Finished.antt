@@ -11,15 +11,14 @@ use lib.Dec.{eqb}
 use lib.ListN.{length, getD, take, drop, length-drop}
 use lib.Ieee.{Float}
 use Rattle.window.specs.Window.{window}
-use Rattle.window.specs.Cells.{zeros}
+use Rattle.window.specs.Cells.{at, zeros}
 use Rattle.window.proofs.Windows.{length-window}
 use Rattle.window.specs.Rows.{listOf}
 use Rattle.bspline.specs.Segments.{Polynomial}
-use Rattle.request.specs.Parameters.{parameterOf}
 use Rattle.curve.specs.declared.Mode.{Mode}
 use Rattle.smoothing.specs.Answer.{Answer, andThen}
 use Rattle.smoothing.specs.Answer.Answer.{done, refused, exhausted}
-use Rattle.smoothing.specs.Request.{Lane, Limits, axisCount, smoothedAxes}
+use Rattle.smoothing.specs.Request.{Lane, Limits, axisCount, smoothedAxes, laneParameters}
 use Rattle.smoothing.specs.Checks.{refusalOf}
 use Rattle.smoothing.specs.Rows.{laneTask, laneUnits, otherAxes}
 use Rattle.smoothing.specs.Finish.{Selected}
@@ -200,7 +199,7 @@ module _ (l : Lane) (m : Limits) (r : Run) (w : List Float) (P : BothPlaced l m 
         }
 
     pub curve-is : (mode : Mode)
-        → curveIn r (l .d) (parameterOf (l .spacing) (l .parameters) (l .n) 0) (parameterOf (l .spacing) (l .parameters) (l .n) (l .n - 1))
+        → curveIn r (l .d) (at (laneParameters l) 0) (at (laneParameters l) (l .n - 1))
         mode ≡ curveOf mode (l .d) x
     unfolding resultOf curveOf
     curve-is mode =
@@ -208,8 +207,8 @@ module _ (l : Lane) (m : Limits) (r : Run) (w : List Float) (P : BothPlaced l m 
           d = l .d;
           k = P .k-is i;
           axes = P .axes-are i;
-          start = parameterOf (l .spacing) (l .parameters) (l .n) 0;
-          end = parameterOf (l .spacing) (l .parameters) (l .n) (l .n - 1);
+          start = at (laneParameters l) 0;
+          end = at (laneParameters l) (l .n - 1);
           mode = mode;
           segments = segments-are i;
           «other_segments» = others-are i;

@@ -11,7 +11,7 @@ use lib.Ieee.{Float}
 use Rattle.request.specs.Parameters.{unreliable}
 use Rattle.smoothing.specs.Answer.{Answer}
 use Rattle.smoothing.specs.Answer.Answer.{refused}
-use Rattle.smoothing.specs.Request.{Lane, Limits, axisCount, smoothedAxes, tolerancesOf, toleranceList}
+use Rattle.smoothing.specs.Request.{Lane, Limits, axisCount, smoothedAxes, laneParameters, tolerancesOf, toleranceList}
 use Rattle.smoothing.specs.Checks.{overflows, refusalOf}
 use Rattle.smoothing.specs.Rows.{Task, Units, taskOf, laneTask, laneUnits, parametersOf, smoothedRows, otherRows, gathered, leftOver, otherAxes}
 use Rattle.smoothing.specs.Build.{otherOf}
@@ -33,12 +33,12 @@ stops-early l m h =
     rw (e, n) refl
 
 goes-on : (l : Lane) (m : Limits) → refusalBefore l ≡ 0
-    → computedOf (l .spacing) (l .parameters) m (laneTask l) (laneUnits l) (otherOf l) ≡ checkedBoth l m
+    → computedOf (laneParameters l) m (laneTask l) (laneUnits l) (otherOf l) ≡ checkedBoth l m
 unfolding checkedBoth computedOf laneTask taskOf
 goes-on l m h =
-    let e : refusalOf l ≡ refusalAfter (l .spacing) (l .parameters) (laneTask l) = refusal-after l
+    let e : refusalOf l ≡ refusalAfter (laneParameters l) (laneTask l) = refusal-after l
     ∙ rw (eq-eqb (refusalBefore l) 0 h) refl in
-    rw e (go (unreliable (l .spacing) (l .parameters) (l .n)) (overflows (laneTask l)) _)
+    rw e (go (unreliable (laneParameters l) (l .n)) (overflows (laneTask l)) _)
   where
     go : {A : Type 0} (a b : Bool) (x : Answer A)
         → cond a (refused 6) (cond b (refused 7) x) ≡ cond (eqb (cond a 6 (cond b 7 0)) 0) x (refused (cond a 6 (cond b 7 0)))
@@ -111,19 +111,19 @@ module _ {l : Lane} {k : ℕ} {picked : List ℕ} {j : ℕ} {others : List ℕ} 
         let f : take k eps ≡ toleranceList l = e ∙ ap (tolerancesOf (l .tolerance)) (P .first .count) in
         λ i. record { rows = gathered (l .points) (l .d) (l .n) (picked-front (P .first) i); eps = f i }
 
-    task-is : taskFrom (l .n) k (l .spacing) (l .parameters) (unitsFrom (l .n) k (l .points) (l .d) picked eps) ≡ laneTask l
+    task-is : taskFrom (l .n) k (laneParameters l) (unitsFrom (l .n) k (l .points) (l .d) picked eps) ≡ laneTask l
     unfolding laneTask parametersOf
-    task-is = λ i. taskFrom (l .n) (P .first .count i) (l .spacing) (l .parameters) (units-are i)
+    task-is = λ i. taskFrom (l .n) (P .first .count i) (laneParameters l) (units-are i)
 
-    other-is : otherFrom (l .n) j (l .spacing) (l .parameters) (l .points) (l .d) others ≡ otherOf l
+    other-is : otherFrom (l .n) j (laneParameters l) (l .points) (l .d) others ≡ otherOf l
     unfolding otherOf parametersOf otherRows
     other-is =
-        λ i. otherWith (l .n) (j-is i) (sOf (l .spacing) (l .parameters) (l .n)) (gathered (l .points) (l .d) (l .n) (others-front i))
+        λ i. otherWith (l .n) (j-is i) (sOf (laneParameters l) (l .n)) (gathered (l .points) (l .d) (l .n) (others-front i))
 
     pub all-is : (m : Limits)
-        → computedOf (l .spacing) (l .parameters) m
-        (taskFrom (l .n) k (l .spacing) (l .parameters) (unitsFrom (l .n) k (l .points) (l .d) picked eps))
+        → computedOf (laneParameters l) m
+        (taskFrom (l .n) k (laneParameters l) (unitsFrom (l .n) k (l .points) (l .d) picked eps))
         (unitsFrom (l .n) k (l .points) (l .d) picked eps)
-        (otherFrom (l .n) j (l .spacing) (l .parameters) (l .points) (l .d) others)
+        (otherFrom (l .n) j (laneParameters l) (l .points) (l .d) others)
         ≡ checkedBoth l m
-    all-is m = (λ i. computedOf (l .spacing) (l .parameters) m (task-is i) (units-are i) (other-is i)) ∙ goes-on l m (P .first .passed)
+    all-is m = (λ i. computedOf (laneParameters l) m (task-is i) (units-are i) (other-is i)) ∙ goes-on l m (P .first .passed)

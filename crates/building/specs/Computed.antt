@@ -5,7 +5,6 @@ use mathlib.Core.List.{List}
 use lib.ListN.{drop, take}
 use lib.Ieee.{Float}
 use Rattle.bspline.specs.Segments.{Polynomial}
-use Rattle.request.specs.declared.parameters.Spacing.{Spacing}
 use Rattle.request.specs.Parameters.{unreliable}
 use Rattle.smoothing.specs.Answer.{Answer, andThen}
 use Rattle.smoothing.specs.Answer.Answer.{done, refused, exhausted}
@@ -41,11 +40,11 @@ unfoldable pub bothFrom : Limits → Task → Units → Answer (Polynomial Float
 bothFrom m q u o = andThen (selectedOf m q u) (λ x. withOther x o)
 
 -- with 6 and 7 before
-unfoldable pub computedOf : Spacing → List Float → Limits → Task → Units → Answer (Polynomial Float) → Answer Both
-computedOf spacing parameters m q u o =
+unfoldable pub computedOf : List Float → Limits → Task → Units → Answer (Polynomial Float) → Answer Both
+computedOf parameters m q u o =
     let rest = bothFrom m q u o in
     let checked = cond (overflows q) (refused 7) rest in
-    cond (unreliable spacing parameters (q .n)) (refused 6) checked
+    cond (unreliable parameters (q .n)) (refused 6) checked
 
 unfoldable pub endedIn : Ending → Both → Answer Both
 endedIn Done x = done x

@@ -3,6 +3,7 @@ ghost use mathlib.Core.Path.{_≡_};
 ghost use Prim.Native.Nat.{_+_, _-_, _*_, _≤_, _<_};
 ghost use lib.ListN.{length};
 ghost use Rattle.request.specs.declared.parameters.Spacing.the-variants.{Listed};
+ghost use Rattle.request.specs.Parameters.{parameterList};
 ghost use Rattle.refinement.specs.Memory.{Roomy, cellsOf, sized};
 ghost use Rattle.checks.specs.Request.{limitsOf};
 ghost use Rattle.selected_axes.specs.declared.course.Ending.the-variants.{Done};
@@ -62,7 +63,8 @@ fn with_others(
     requires { ⌜ (spacing ≡ Listed → p .samples ≤ length (now parameters)) ⌝ }
     ensures { λ r. ⌜ computedIn p j r (now (work .exit))
         ≡ withOther (smoothedAt p done (now (work .entry)))
-        (otherFrom (p .samples) j spacing (now (parameters .entry)) (now (points .entry)) d (now (rest .entry))) ⌝ }
+        (otherFrom (p .samples) j (parameterList spacing (now (parameters .entry)) (now (points .entry)) d (p .samples))
+        (now (points .entry)) d (now (rest .entry))) ⌝ }
     ensures { λ r. ⌜ (r .ending ≡ Done → (r .count ≡ done .count) × (r .«other_segments» < p .samples)) ⌝ }
 {
     let n = p.samples;
@@ -115,11 +117,12 @@ pub(crate) fn compute(
         (now axes) (p .axes) d ⌝ }
     requires { ⌜ (spacing ≡ Listed → p .samples ≤ length (now parameters)) ⌝ }
     ensures { λ r. ⌜ computedIn p j r (now (work .exit))
-        ≡ computedOf spacing (now (parameters .entry)) (limitsOf limits)
-        (taskFrom (p .samples) (p .axes) spacing (now (parameters .entry))
+        ≡ computedOf (parameterList spacing (now (parameters .entry)) (now (points .entry)) d (p .samples)) (limitsOf limits)
+        (taskFrom (p .samples) (p .axes) (parameterList spacing (now (parameters .entry)) (now (points .entry)) d (p .samples))
         (unitsFrom (p .samples) (p .axes) (now (points .entry)) d (now (axes .entry)) (now (eps .entry))))
         (unitsFrom (p .samples) (p .axes) (now (points .entry)) d (now (axes .entry)) (now (eps .entry)))
-        (otherFrom (p .samples) j spacing (now (parameters .entry)) (now (points .entry)) d (now (rest .entry))) ⌝ }
+        (otherFrom (p .samples) j (parameterList spacing (now (parameters .entry)) (now (points .entry)) d (p .samples))
+        (now (points .entry)) d (now (rest .entry))) ⌝ }
     ensures { λ r. ⌜ (r .ending ≡ Done → Roomy (sized p (r .count)) (length (now (work .exit))) × (r .count ≤ limits .segments + 5)
         × (r .«other_segments» < p .samples)) ⌝ }
 {

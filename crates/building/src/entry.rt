@@ -8,7 +8,8 @@ ghost use Rattle.selected_axes.specs.declared.course.Ending.the-variants.{Refus
 ghost use Rattle.checks.specs.Request.{limitsOf, laneOf};
 ghost use Rattle.checks.specs.Checks.{refusalBefore};
 ghost use Rattle.request.specs.declared.parameters.Spacing.the-variants.{Listed};
-ghost use Rattle.request.specs.Parameters.{parameterOf};
+ghost use Rattle.request.specs.Parameters.{parameterList};
+ghost use Rattle.window.specs.Cells.{at};
 ghost use Rattle.smoothing.specs.Answer.Answer.{done, refused};
 ghost use Rattle.smoothing.specs.Build.{checkedOf};
 ghost use Rattle.building.specs.Outcome.{outcomeOf, reported, noCurve, curveAfter, results, resultsAfter, workAfter};
@@ -241,19 +242,28 @@ fn others_of(j: usize, segments: usize) -> usize
 }
 
 // The report and the curve of an accepted request.
-fn accept(r: Run, d: usize, n: usize, spacing: Spacing, parameters: &[f64], mode: Mode) -> Built
-    requires { ⌜ (2 ≤ n) × (n ≤ 20000) × (5 ≤ r .computed .count) × (spacing ≡ Listed → n ≤ length (now parameters)) ⌝ }
+fn accept(
+    r: Run,
+    points: &[f64],
+    d: usize,
+    n: usize,
+    spacing: Spacing,
+    parameters: &[f64],
+    mode: Mode,
+) -> Built
+    requires { ⌜ (2 ≤ n) × (n ≤ 20000) × (5 ≤ r .computed .count) × (n * d ≤ length (now points))
+        × (spacing ≡ Listed → n ≤ length (now parameters)) ⌝ }
     ensures { λ x. ⌜ outcomeOf (x .answer) ≡ done (reportIn r) ⌝ }
-    ensures { λ x. ⌜ x .curve ≡ curveIn r d (parameterOf spacing (now (parameters .entry)) n 0) (parameterOf spacing
-        (now (parameters .entry)) n (n - 1)) mode ⌝ }
+    ensures { λ x. ⌜ x .curve ≡ curveIn r d (at (parameterList spacing (now (parameters .entry)) (now (points .entry)) d n) 0)
+        (at (parameterList spacing (now (parameters .entry)) (now (points .entry)) d n) (n - 1)) mode ⌝ }
 {
     let c = r.computed;
     let work = c.report;
     let segments = c.count - 5;
     let others = others_of(r.j, c.other_segments);
     let axes = r.axes;
-    let start = request::parameters::parameter(spacing, parameters, n, 0);
-    let end = request::parameters::parameter(spacing, parameters, n, n - 1);
+    let start = request::parameters::first(spacing, parameters, n);
+    let end = request::parameters::last(spacing, parameters, points, d, n);
     let answer = Answer::Accepted(Report {
         segments,
         interpolated_segments: others,
@@ -344,7 +354,7 @@ fn finish(
                 other_coefficients,
                 errors,
             );
-            accept(r, d, n, spacing, parameters, mode)
+            accept(r, points, d, n, spacing, parameters, mode)
         }
         Ending::Refused(number) => refuse(number, mode),
         Ending::Exhausted(ratio) => {

@@ -9,7 +9,7 @@ use lib.Ieee.{Float, lt}
 use lib.ListN.{drop, length, take}
 use Rattle.window.specs.Cells.{+0, at}
 use Rattle.request.specs.declared.parameters.Spacing.{Spacing}
-use Rattle.request.specs.Parameters.{normalisedOf}
+use Rattle.request.specs.Parameters.{normalisedOf, parameterList}
 use Rattle.figure.specs.Axis.{axisOf}
 use Rattle.figure.specs.Distance.{Rises}
 use Rattle.figure.specs.Figure.{Figure, figure, figureOf, intersection, intersectionFigure, larger, meeting, withIntersection}
@@ -22,8 +22,8 @@ pub record Standing (breaks coefficients : List Float) (k place : ℕ) (points :
     (parameters : List Float) (depth i m : ℕ) (from to : Float) (so-far : Figure) : Type 0 where
   pub interval : i < n
   pub segment : m + 1 < length breaks
-  pub start : from ≡ normalisedOf spacing parameters n i
-  pub end : i + 1 < n → to ≡ normalisedOf spacing parameters n (i + 1)
+  pub start : from ≡ normalisedOf (parameterList spacing parameters points d n) n i
+  pub end : i + 1 < n → to ≡ normalisedOf (parameterList spacing parameters points d n) n (i + 1)
   -- what is left to do gives the figure
   pub gives : rest depth (axisOf breaks coefficients k place points d axis n spacing parameters) i m so-far
       ≡ figureOf depth (axisOf breaks coefficients k place points d axis n spacing parameters)
@@ -36,8 +36,9 @@ module _ {breaks coefficients : List Float} {k place : ℕ} {points : List Float
     {parameters : List Float} {depth : ℕ}
   where
     -- at interval 0 and segment 0
-    pub standing-first : {from to : Float} → 2 ≤ n → 2 ≤ length breaks → from ≡ normalisedOf spacing parameters n 0 → to
-        ≡ normalisedOf spacing parameters n 1
+    pub standing-first : {from to : Float} → 2 ≤ n → 2 ≤ length breaks
+        → from ≡ normalisedOf (parameterList spacing parameters points d n) n 0
+        → to ≡ normalisedOf (parameterList spacing parameters points d n) n 1
         → Standing breaks coefficients k place points d axis n spacing parameters depth 0 0 from to (figure +0)
     standing-first l h f t = record {
       interval = omega arith;
@@ -54,7 +55,8 @@ module _ {breaks coefficients : List Float} {k place : ℕ} {points : List Float
       standing-last l = sym (rest-done depth (axisOf breaks coefficients k place points d axis n spacing parameters) i m g (omega arith))
           ∙ s .gives
 
-      module _ (rising : Rises (length breaks - 1) (at breaks) × Rises (n - 1) (normalisedOf spacing parameters n)) (more : i + 1 < n)
+      module _ (rising : Rises (length breaks - 1) (at breaks)
+          × Rises (n - 1) (normalisedOf (parameterList spacing parameters points d n) n)) (more : i + 1 < n)
           {y : Intersection} {h : Figure}
           (is-met : y ≡ meeting (at breaks m) (at breaks (m + 1)) (at (take 6 (drop (6 * (m * k + place)) coefficients))) from to
           (at points (i * d + axis)) (at points ((i + 1) * d + axis)))
@@ -85,9 +87,8 @@ module _ {breaks coefficients : List Float} {k place : ℕ} {points : List Float
             }
 
         -- on to the next interval
-        pub standing-interval : {next : Float} → lt (at breaks (m + 1)) to ≡ false → (i + 1 + 1 < n → next ≡ normalisedOf spacing
-            parameters n
-            (i + 1 + 1))
+        pub standing-interval : {next : Float} → lt (at breaks (m + 1)) to ≡ false
+            → (i + 1 + 1 < n → next ≡ normalisedOf (parameterList spacing parameters points d n) n (i + 1 + 1))
             → Standing breaks coefficients k place points d axis n spacing parameters depth (i + 1) m to next h
         standing-interval t e =
             let x = axisOf breaks coefficients k place points d axis n spacing parameters in

@@ -79,10 +79,10 @@ fn checked(
     if points::unfit(d, n, points) {
         return Certificate::Refused(Refusal::BadPoints);
     }
-    if parameters::misplaced(spacing, parameters, n) {
+    if parameters::misplaced(spacing, parameters, points, d, n) {
         return Certificate::Refused(Refusal::BadParameters);
     }
-    if parameters::unreliable(spacing, parameters, n) {
+    if parameters::unreliable(spacing, parameters, points, d, n) {
         return Certificate::Refused(Refusal::BadRange);
     }
     if !form::well_formed(

@@ -1,5 +1,6 @@
 // The walk over both lists, the waypoint intervals and the segments of an axis. Both rise from 0 to 1,
-// so each step goes on to the next segment or to the next interval, and every intersection is met.
+// so each step goes on to the next segment or to the next interval, and every intersection is met. The
+// parameter where the interval ends goes along.
 ghost use mathlib.Core.Bool.{cond};
 ghost use mathlib.Core.Path.{_≡_};
 ghost use Prim.Native.Nat.{_*_, _+_, _-_, _<_, _≤_};
@@ -7,7 +8,7 @@ ghost use lib.Ieee.{lt};
 ghost use lib.ListN.{drop, length, take};
 ghost use Rattle.window.specs.Cells.{at};
 ghost use Rattle.request.specs.declared.parameters.Spacing.the-variants.{Listed};
-ghost use Rattle.request.specs.Parameters.{normalisedOf};
+ghost use Rattle.request.specs.Parameters.{normalisedOf, parameterList};
 ghost use Rattle.figure.specs.Axis.{axisOf};
 ghost use Rattle.figure.specs.Distance.{Rises};
 ghost use Rattle.figure.specs.Figure.{figureOf, intersectionFigure, larger, meeting};
@@ -79,17 +80,6 @@ fn with_intersection(depth: usize, x: Intersection, so_far: Figure) -> Figure
     so_far
 }
 
-// The parameter where interval i ends. After the last interval there is none, and it does not matter.
-fn end_of(spacing: Spacing, list: &[f64], n: usize, i: usize) -> f64
-    requires { ⌜ (2 ≤ n) × (n ≤ 20000) × (i < n) × (spacing ≡ Listed → n ≤ length (now list)) ⌝ }
-    ensures { λ r. ⌜ (i + 1 < n → r ≡ normalisedOf spacing (now (list .entry)) n (i + 1)) ⌝ }
-{
-    if i + 1 < n {
-        return parameters::normalised(spacing, list, n, i + 1);
-    }
-    1.0
-}
-
 // The certified figure of an axis.
 pub(crate) fn walk(
     breaks: &[f64],
@@ -107,15 +97,19 @@ pub(crate) fn walk(
     requires { ⌜ (place < k) × (k ≤ 16) × (2 ≤ length (now breaks)) × (length (now breaks) ≤ 20001)
         × (6 * ((length (now breaks) - 1) * k) ≤ length (now coefficients))
         × (axis < d) × (d ≤ 16) × (2 ≤ n) × (n ≤ 20000) × (length (now points) ≡ d * n) × (spacing ≡ Listed → length (now parameters) ≡ n) ⌝ }
-    requires { ⌜ Rises (length (now breaks) - 1) (at (now breaks)) × Rises (n - 1) (normalisedOf spacing (now parameters) n) ⌝ }
+    requires { ⌜ Rises (length (now breaks) - 1) (at (now breaks)) × Rises (n - 1) (normalisedOf (parameterList spacing (now parameters)
+        (now points) d n) n) ⌝ }
     ensures { λ r. ⌜ figureIn r ≡ figureOf depth (axisOf (now (breaks .entry)) (now (coefficients .entry)) k place (now (points .entry)) d
         axis n spacing (now (parameters .entry))) ⌝ }
 {
     let mut so_far = Figure::Known(0.0);
     let mut i = 0;
     let mut m = 0;
-    let mut from = parameters::normalised(spacing, parameters, n, 0);
-    let mut to = parameters::normalised(spacing, parameters, n, 1);
+    let start = parameters::first(spacing, parameters, n);
+    let range = parameters::length(spacing, parameters, points, d, n);
+    let mut current = parameters::next(spacing, parameters, points, d, n, 0, start);
+    let mut from = (start - start) / range;
+    let mut to = (current - start) / range;
     while i < n - 1 {
         let x = intersect(
             breaks,
@@ -136,7 +130,8 @@ pub(crate) fn walk(
         } else {
             i += 1;
             from = to;
-            to = end_of(spacing, parameters, n, i);
+            current = parameters::next(spacing, parameters, points, d, n, i, current);
+            to = (current - start) / range;
         }
     }
     so_far

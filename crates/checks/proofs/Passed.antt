@@ -7,23 +7,22 @@ use borrow.Author.Tests.{not-false, eqb-true}
 use lib.Dec.{eqb}
 use lib.ListN.{length, getD}
 use Rattle.arith.proofs.Truth.{or-none}
-use Rattle.request.specs.declared.parameters.Spacing.{Spacing}
 use Rattle.request.specs.declared.parameters.Spacing.the-variants.{Listed}
-use Rattle.request.specs.Parameters.{miscounted, misplaced}
+use Rattle.request.specs.Parameters.{misplaced}
 use Rattle.request.specs.Points.{unfit}
-use Rattle.request.proofs.Counts.{waypoint-count}
-use Rattle.smoothing.specs.Request.{Lane, axisCount, smoothedAxes, toleranceList}
+use Rattle.request.proofs.Counts.{listed-count, waypoint-count}
+use Rattle.smoothing.specs.Request.{Lane, axisCount, smoothedAxes, laneParameters, toleranceList}
 use Rattle.smoothing.specs.Rows.{taskOf, laneTask, otherAxes}
 use Rattle.smoothing.specs.Checks.{noAxes, badAxes, badTolerance, tooFine, refusalOf}
 use Rattle.smoothing.proofs.Passed.{passed, good-axes, all-axes}
 use Rattle.checks.specs.Checks.{refusalBefore, refusalAfter}
 
 pub refusal-after : (l : Lane)
-    → refusalOf l ≡ cond (eqb (refusalBefore l) 0) (refusalAfter (l .spacing) (l .parameters) (laneTask l)) (refusalBefore l)
+    → refusalOf l ≡ cond (eqb (refusalBefore l) 0) (refusalAfter (laneParameters l) (laneTask l)) (refusalBefore l)
 unfolding refusalOf refusalBefore laneTask taskOf
 refusal-after l =
     go (unfit (l .d) (l .n) (l .points)) (noAxes l) (badAxes l) (badTolerance l) (tooFine l)
-    (misplaced (l .spacing) (l .parameters) (l .n)) (refusalAfter (l .spacing) (l .parameters) (laneTask l))
+    (misplaced (laneParameters l) (l .n)) (refusalAfter (laneParameters l) (laneTask l))
   where
     go : (a b c d t e : Bool) (x : ℕ) → let first : ℕ → ℕ = λ y. cond a 1 (cond b 2 (cond c 3 (cond d 4 (cond t 26 (cond e 5 y))))) in
         first x ≡ cond (eqb (first 0) 0) x (first 0)
@@ -45,7 +44,7 @@ module _ (l : Lane) (h : refusalBefore l ≡ 0) where
     points : unfit (l .d) (l .n) (l .points) ≡ false
     axes : badAxes l ≡ false
     tolerance : badTolerance l ≡ false
-    placed : misplaced (l .spacing) (l .parameters) (l .n) ≡ false
+    placed : misplaced (laneParameters l) (l .n) ≡ false
 
   before : Before
   unfolding refusalBefore
@@ -55,7 +54,7 @@ module _ (l : Lane) (h : refusalBefore l ≡ 0) where
       let d = passed (badAxes l) 3 _ (omega arith) (c .1) in
       let e = passed (badTolerance l) 4 _ (omega arith) (d .1) in
       let t = passed (tooFine l) 26 _ (omega arith) (e .1) in
-      let f = passed (misplaced (l .spacing) (l .parameters) (l .n)) 5 0 (omega arith) (t .1) in
+      let f = passed (misplaced (laneParameters l) (l .n)) 5 0 (omega arith) (t .1) in
       record { points = b .0; axes = d .0; tolerance = e .0; placed = f .0 }
 
   pub two-waypoints : 2 ≤ l .n
@@ -71,9 +70,5 @@ module _ (l : Lane) (h : refusalBefore l ≡ 0) where
   tolerances-count = one-each l (before .tolerance)
 
   pub listed-long : l .spacing ≡ Listed → l .n ≤ length (l .parameters)
-  unfolding misplaced miscounted
   listed-long e =
-      let m = or-none _ _ (or-none _ _ (before .placed) .0) .0 in
-      let c = ap (λ (s : Spacing). miscounted s (l .parameters) (l .n)) (sym e) ∙ m in
-      let g : length (l .parameters) ≡ l .n = eqb-true _ _ (not-false (eqb (length (l .parameters)) (l .n)) c) in
-      omega arith
+      omega (arith, listed-count (l .spacing) (l .parameters) (l .points) (l .d) (l .n) (before .placed) e)

@@ -5,10 +5,9 @@ use mathlib.Core.List.{List}
 use lib.Ieee.{Float, le}
 use lib.Ieee.Scale.{finite}
 use Rattle.window.specs.Cells.{+0}
-use Rattle.request.specs.declared.parameters.Spacing.{Spacing}
 use Rattle.request.specs.Parameters.{misplaced, unreliable}
 use Rattle.request.specs.Points.{unfit}
-use Rattle.smoothing.specs.Request.{Lane, Limits}
+use Rattle.smoothing.specs.Request.{Lane, Limits, laneParameters}
 use Rattle.smoothing.specs.Rows.{Task}
 use Rattle.smoothing.specs.Checks.{wideLane, wideLimits, miscountedPoints, Room, shortRoom, noAxes, badAxes, badTolerance, tooFine, overflows}
 
@@ -42,8 +41,8 @@ refusalBefore l =
     (cond (badAxes l) 3
     (cond (badTolerance l) 4
     (cond (tooFine l) 26
-    (cond (misplaced (l .spacing) (l .parameters) (l .n)) 5 0)))))
+    (cond (misplaced (laneParameters l) (l .n)) 5 0)))))
 
 -- 6 and 7, which are asked where none of those holds: of the parameters and of the task
-abbrev pub refusalAfter : Spacing → List Float → Task → ℕ
-refusalAfter spacing parameters q = cond (unreliable spacing parameters (q .n)) 6 (cond (overflows q) 7 0)
+abbrev pub refusalAfter : List Float → Task → ℕ
+refusalAfter parameters q = cond (unreliable parameters (q .n)) 6 (cond (overflows q) 7 0)

@@ -266,7 +266,7 @@ pub fn refusal_before(
     if too_fine(points, d, n, axes, list, tolerance, tolerances) {
         return 26;
     }
-    if request::parameters::misplaced(spacing, parameters, n) {
+    if request::parameters::misplaced(spacing, parameters, points, d, n) {
         return 5;
     }
     0

@@ -6,15 +6,17 @@ use Prim.Native.Nat.{ℕ}
 use lib.ListN.{replicate}
 use lib.Ieee.{Float, binary64, ofBits, div, ofInt, le, sub, lt, eq, mul, add, neg, isNan, toBits}
 use Rattle.window.specs.Cells.{+0, zeros}
+use Rattle.window.specs.Rows.{join}
+use Rattle.float.specs.Root.{sqrtOf}
 use Rattle.arith.specs.Loop.{each, turns}
 use Rattle.fraction.specs.DirectedSum.{downwardSum, plainZero, upwardSum}
 use Rattle.fraction.specs.Rational.{_+q_, atMostq}
 use Rattle.fraction.specs.Pair.{highest, lowest, addPairs, dividePairs, multiplyPairs, subtractPairs, finiteEnds, outward, moved, largestAbsolute}
 use Rattle.fraction.specs.NextNumber.{nextDown, nextUp}
 use Rattle.request.specs.declared.parameters.Spacing.{Spacing}
-use Rattle.request.specs.declared.parameters.Spacing.the-variants.{Listed, Even}
+use Rattle.request.specs.declared.parameters.Spacing.the-variants.{Listed, Even, Chord}
 use Rattle.request.specs.Any.{any}
-use Rattle.request.specs.Parameters.{parameterOf, miscounted, lengthOf, normalisedOf, misplaced, unreliable}
+use Rattle.request.specs.Parameters.{evenOf, sumOf, squareOf, chordOf, parameterList, lengthOf, normalisedOf, misplaced, unreliable}
 use Rattle.request.specs.Points.{unfit}
 use Rattle.curve.specs.declared.Curve.{Curve}
 use Rattle.curve.specs.declared.Mode.the-variants.{Error}
@@ -56,8 +58,9 @@ flat = slices (+0 ∷ one ∷ []) (zeros 6 ++ (one ∷ [])) [] []
 
 -- what the answers below are computed by
 unfoldable pub checks : Unit {0}
-unfolding certifyOf unfit any misplaced miscounted parameterOf unreliable lengthOf normalisedOf wellFormed axesFormed firstOf setFormed
-    widthsKept othersFormed rangeFormed ofBits toBits div ofInt le sub lt eq
+unfolding certifyOf unfit any misplaced parameterList evenOf sumOf squareOf chordOf
+    unreliable lengthOf normalisedOf wellFormed axesFormed firstOf setFormed
+    widthsKept othersFormed rangeFormed ofBits toBits div ofInt le sub lt eq join sqrtOf add mul
 checks = tt
 
 unfoldable pub figures : Unit {0}
@@ -66,7 +69,7 @@ unfolding figureOf intersectionFigure halvedFigure smaller larger absoluteEnd le
     downwardSum upwardSum plainZero atMostq _+q_
 figures = tt
 
--- document 01's number of each answer: two refusals at least are due in each row but the last two
+-- document 01's number of each answer: two refusals at least are due in each row but the last three
 abbrev number : Curve → List Float → ℕ → Spacing → List Float → ℕ → ℕ → ℕ
 number c points n spacing parameters axis depth = certifyOf c flat points n spacing parameters axis depth .number
 
@@ -75,12 +78,14 @@ pub numbers : number (curve 17 0) (infinite ∷ []) 2 Listed (one ∷ one ∷ []
     ∷ number (curve 1 0) (infinite ∷ []) 2 Listed (one ∷ one ∷ []) 1 6
     ∷ number (curve 1 0) (infinite ∷ +0 ∷ []) 2 Listed (one ∷ one ∷ []) 1 6
     ∷ number (curve 1 0) (+0 ∷ +0 ∷ []) 2 Listed (one ∷ one ∷ []) 1 6
+    ∷ number (curve 1 0) (one ∷ one ∷ []) 2 Chord [] 1 6
     ∷ number (curve 1 0) (+0 ∷ +0 ∷ []) 2 Listed wide 1 6
     ∷ number (curve 1 0) (+0 ∷ +0 ∷ []) 2 Even [] 1 6
     ∷ number (curve 1 1) (+0 ∷ +0 ∷ []) 2 Even [] 1 6
     ∷ number (curve 1 1) (+0 ∷ +0 ∷ []) 2 Even [] 0 6
+    ∷ number (curve 1 1) (+0 ∷ one ∷ []) 2 Chord [] 0 6
     ∷ []
-    ≡ 23 ∷ 18 ∷ 20 ∷ 1 ∷ 5 ∷ 6 ∷ 24 ∷ 3 ∷ 0 ∷ []
+    ≡ 23 ∷ 18 ∷ 20 ∷ 1 ∷ 5 ∷ 5 ∷ 6 ∷ 24 ∷ 3 ∷ 0 ∷ 0 ∷ []
 unfolding checks
 numbers = refl
 

@@ -11,10 +11,11 @@ use lib.Ieee.{Float, lt}
 use Rattle.arith.proofs.Truth.{or-none}
 use Rattle.window.specs.Cells.{at, Doubles}
 use Rattle.request.specs.declared.parameters.Spacing.{Spacing}
-use Rattle.request.specs.Parameters.{misplaced, normalisedOf, unreliable}
+use Rattle.request.specs.Parameters.{misplaced, normalisedOf, parameterList, unreliable}
 use Rattle.request.specs.Points.{unfit}
 use Rattle.request.proofs.Counts.{waypoint-count}
 use Rattle.request.proofs.Normalised.{normalised-first, normalised-last, normalised-rises}
+use Rattle.request.proofs.Spaced.{spaced-doubles}
 use Rattle.curve.specs.declared.Curve.{Curve}
 use Rattle.curve.specs.Form.{Slices, setFormed, wellFormed}
 use Rattle.curve.specs.Places.{positionOf}
@@ -58,8 +59,8 @@ module _ (c : Curve) (s : Slices) (points : List Float) (n : ℕ) (spacing : Spa
     pub n-domain : n ≤ 20000
     pub cells : length points ≡ c .d * n
     pub points-fit : unfit (c .d) n points ≡ false
-    pub placed : misplaced spacing parameters n ≡ false
-    pub reliable : unreliable spacing parameters n ≡ false
+    pub placed : misplaced (parameterList spacing parameters points (c .d) n) n ≡ false
+    pub reliable : unreliable (parameterList spacing parameters points (c .d) n) n ≡ false
     pub well-formed : wellFormed c s ≡ true
     pub selected : positionOf (c .axes) (c .k) axis < c .k
 
@@ -72,8 +73,8 @@ module _ (c : Curve) (s : Slices) (points : List Float) (n : ℕ) (spacing : Spa
       let e18 = passed (ltb 16 (c .d) || ltb 20000 n) 17 _ f (e23 .1) in
       let e20 = passed (not (eqb (length points) (c .d * n))) 19 _ f (e18 .1) in
       let e1 = passed (unfit (c .d) n points) 0 _ f (e20 .1) in
-      let e5 = passed (misplaced spacing parameters n) 4 _ f (e1 .1) in
-      let e6 = passed (unreliable spacing parameters n) 5 _ f (e5 .1) in
+      let e5 = passed (misplaced (parameterList spacing parameters points (c .d) n) n) 4 _ f (e1 .1) in
+      let e6 = passed (unreliable (parameterList spacing parameters points (c .d) n) n) 5 _ f (e5 .1) in
       let e24 = passed (not (wellFormed c s)) 23 _ f (e6 .1) in
       let e3 = passed (not (ltb (positionOf (c .axes) (c .k) axis) (c .k))) 2 _ f (e24 .1) in
       let d = or-none (ltb 16 (c .d)) (ltb 20000 n) (e18 .0) in (
@@ -112,13 +113,15 @@ module _ (c : Curve) (s : Slices) (points : List Float) (n : ℕ) (spacing : Spa
         let e : c .segments ≡ length (s .breaks) - 1 = omega (arith, z .breaks-length) in
         subst (λ (m : ℕ). Rises m (at (s .breaks))) e (set-rises (c .k) (c .segments) (s .breaks) (s .coefficients) (F .set-formed))
 
-    pub parameters-rise : Doubles parameters → Rises (n - 1) (normalisedOf spacing parameters n)
+    pub parameters-rise : Doubles parameters → Rises (n - 1) (normalisedOf (parameterList spacing parameters points (c .d) n) n)
     parameters-rise doubles =
         let two = waypoint-count (c .d) n points (A .points-fit) in
+        let p = parameterList spacing parameters points (c .d) n in
+        let held = spaced-doubles spacing parameters points (c .d) n doubles in
         record {
-          from-zero = normalised-first spacing parameters n two doubles (A .placed) (A .reliable);
-          rising = normalised-rises spacing parameters n two doubles (A .placed) (A .reliable);
-          to-one = normalised-last spacing parameters n two doubles (A .placed) (A .reliable);
+          from-zero = normalised-first p n two held (A .placed) (A .reliable);
+          rising = normalised-rises p n two held (A .placed) (A .reliable);
+          to-one = normalised-last p n two held (A .placed) (A .reliable);
         }
 
     pub axis-below : axis < c .d

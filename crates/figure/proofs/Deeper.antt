@@ -19,7 +19,7 @@ use Rattle.fraction.specs.Value.{exactFraction, value}
 use Rattle.fraction.proofs.Lowest.{highest-is, lowest-is}
 use Rattle.fraction.proofs.Rational.{≤q-means-≤f, ≤q-refl, ≤q-trans}
 use Rattle.request.specs.declared.parameters.Spacing.{Spacing}
-use Rattle.request.specs.Parameters.{misplaced, unreliable}
+use Rattle.request.specs.Parameters.{misplaced, parameterList, unreliable}
 use Rattle.request.specs.Points.{unfit}
 use Rattle.curve.specs.declared.Curve.{Curve}
 use Rattle.curve.specs.Form.{Slices, wellFormed}
@@ -190,8 +190,8 @@ deeper-certificate c s points n spacing parameters axis j k l m =
     (refused-alike (ltb 16 (c .d) || ltb 20000 n) 18 _ _
     (refused-alike (not (eqb (length points) (c .d * n))) 20 _ _
     (refused-alike (unfit (c .d) n points) 1 _ _
-    (refused-alike (misplaced spacing parameters n) 5 _ _
-    (refused-alike (unreliable spacing parameters n) 6 _ _
+    (refused-alike (misplaced (parameterList spacing parameters points (c .d) n) n) 5 _ _
+    (refused-alike (unreliable (parameterList spacing parameters points (c .d) n) n) 6 _ _
     (refused-alike (not (wellFormed c s)) 24 _ _
     (refused-alike (not (ltb (positionOf (c .axes) (c .k) axis) (c .k))) 3 _ _
     (record { number = refl; certified = deeper-theorem j k (certifiedAxis c s points n spacing parameters axis) l }))))))))

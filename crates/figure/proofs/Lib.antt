@@ -1,5 +1,6 @@
 -- The laws.
 pub mod Answers
+pub mod AsListed
 pub mod Certified
 pub mod Covering
 pub mod Deeper

@@ -10,7 +10,7 @@ use lib.IntN.{pos}
 use Rattle.window.specs.Cells.{at}
 use Rattle.fraction.specs.Fraction.{Fraction, _≤f_, wholeFraction}
 use Rattle.request.specs.declared.parameters.Spacing.{Spacing}
-use Rattle.request.specs.Parameters.{misplaced, normalisedOf, unreliable}
+use Rattle.request.specs.Parameters.{misplaced, normalisedOf, parameterList, unreliable}
 use Rattle.request.specs.Points.{unfit}
 use Rattle.curve.specs.declared.Curve.{Curve}
 use Rattle.curve.specs.Form.{Slices, wellFormed}
@@ -40,8 +40,8 @@ certifyOf c s points n spacing parameters axis depth =
     (cond (ltb 16 (c .d) || ltb 20000 n) (outcome 18 noFigure)
     (cond (not (eqb (length points) (c .d * n))) (outcome 20 noFigure)
     (cond (unfit (c .d) n points) (outcome 1 noFigure)
-    (cond (misplaced spacing parameters n) (outcome 5 noFigure)
-    (cond (unreliable spacing parameters n) (outcome 6 noFigure)
+    (cond (misplaced (parameterList spacing parameters points (c .d) n) n) (outcome 5 noFigure)
+    (cond (unreliable (parameterList spacing parameters points (c .d) n) n) (outcome 6 noFigure)
     (cond (not (wellFormed c s)) (outcome 24 noFigure)
     (cond (not (ltb (positionOf (c .axes) (c .k) axis) (c .k))) (outcome 3 noFigure)
     (outcome 0 (figureOf depth (certifiedAxis c s points n spacing parameters axis))))))))))
@@ -53,7 +53,7 @@ pub record Certified (c : Curve) (s : Slices) (points : List Float) (n : ℕ) (s
     (F : Float) : Type 0 where
   pub well-formed : wellFormed c s ≡ true
   pub breaks-rise : Rises (length (s .breaks) - 1) (at (s .breaks))
-  pub parameters-rise : Rises (n - 1) (normalisedOf spacing parameters n)
+  pub parameters-rise : Rises (n - 1) (normalisedOf (parameterList spacing parameters points (c .d) n) n)
   pub everywhere : (t : Fraction) → wholeFraction (pos 0) ≤f t → t ≤f wholeFraction (pos 1)
       → Covered (certifiedAxis c s points n spacing parameters axis) t
   pub distance : DistanceRule (certifiedAxis c s points n spacing parameters axis) F

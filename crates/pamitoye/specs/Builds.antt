@@ -19,10 +19,10 @@ use Rattle.building.specs.Answered.{answerTo}
 use Rattle.pamitoye.specs.Choices.{chosenAxes, chosenTolerance, chosenSpacing, passedCurve}
 
 -- the request that the numbers and slices make, answered
-abbrev pub requested : ℕ → ℕ → Bool → List ℕ → Bool → Float → List Float → Bool → List Float → List Float → ℕ → ℕ → List Float → Results
+abbrev pub requested : ℕ → ℕ → Bool → List ℕ → Bool → Float → List Float → ℕ → List Float → List Float → ℕ → ℕ → List Float → Results
     → Answer Result
-requested d n all axes uniform tolerance tolerances even parameters points refinements segments work s =
-    answerTo (laneOf d n (chosenAxes all) axes (chosenTolerance uniform tolerance) tolerances (chosenSpacing even) parameters points)
+requested d n all axes uniform tolerance tolerances spacing parameters points refinements segments work s =
+    answerTo (laneOf d n (chosenAxes all) axes (chosenTolerance uniform tolerance) tolerances (chosenSpacing spacing) parameters points)
     (record { refinements = refinements; segments = segments }) work s
 
 -- the report's counts

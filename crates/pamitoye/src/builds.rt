@@ -71,7 +71,7 @@ pub extern "C" fn pamitoye_build(
     uniform: bool,
     tolerance: f64,
     tolerance_list: &[f64],
-    even: bool,
+    spacing: u64,
     parameters: &[f64],
     max_refinements: usize,
     max_segments: usize,
@@ -90,14 +90,14 @@ pub extern "C" fn pamitoye_build(
     end: &mut f64,
 ) -> u64
     ensures { λ r. ⌜ r ≡ numberOf (reported (requested d n all (now («axis_list» .entry)) uniform tolerance
-        (now («tolerance_list» .entry)) even (now (parameters .entry)) (now (points .entry)) «max_refinements» «max_segments»
+        (now («tolerance_list» .entry)) spacing (now (parameters .entry)) (now (points .entry)) «max_refinements» «max_segments»
         (now (work .entry)) (results (now (breaks .entry)) (now (coefficients .entry)) (now («other_breaks» .entry))
         (now («other_coefficients» .entry)) (now (errors .entry))))) ⌝ }
     ensures { λ _. ⌜ buildOutputs (now (work .exit)) (results (now (breaks .exit)) (now (coefficients .exit))
         (now («other_breaks» .exit)) (now («other_coefficients» .exit)) (now (errors .exit))) (now (counts .exit)) (now (ratio .exit))
         (outline (now (k .exit)) (now (axes .exit)) (now (start .exit)) (now (end .exit)))
         ≡ buildOutputsAfter (chosenMode clamp) d (requested d n all (now («axis_list» .entry)) uniform tolerance
-        (now («tolerance_list» .entry)) even (now (parameters .entry)) (now (points .entry)) «max_refinements» «max_segments»
+        (now («tolerance_list» .entry)) spacing (now (parameters .entry)) (now (points .entry)) «max_refinements» «max_segments»
         (now (work .entry)) (results (now (breaks .entry)) (now (coefficients .entry)) (now («other_breaks» .entry))
         (now («other_coefficients» .entry)) (now (errors .entry))))
         (buildOutputs (now (work .entry)) (results (now (breaks .entry)) (now (coefficients .entry)) (now («other_breaks» .entry))
@@ -119,7 +119,7 @@ pub extern "C" fn pamitoye_build(
         axis_list,
         choices::tolerance_of(uniform, tolerance),
         tolerance_list,
-        choices::spacing_of(even),
+        choices::spacing_of(spacing),
         parameters,
         limits,
         choices::mode_of(clamp),

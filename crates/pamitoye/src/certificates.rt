@@ -65,7 +65,7 @@ pub extern "C" fn pamitoye_certify(
     other_coefficients: &[f64],
     points: &[f64],
     n: usize,
-    even: bool,
+    spacing: u64,
     parameters: &[f64],
     axis: usize,
     depth: usize,
@@ -74,18 +74,18 @@ pub extern "C" fn pamitoye_certify(
 ) -> u64
     ensures { λ r. ⌜ r ≡ certifyOf (passedCurve d k (now (axes .entry)) start end clamp segments «other_segments») (slices
         (now (breaks .entry)) (now (coefficients .entry)) (now («other_breaks» .entry)) (now («other_coefficients» .entry)))
-        (now (points .entry)) n (chosenSpacing even) (now (parameters .entry)) axis depth .number ⌝ }
+        (now (points .entry)) n (chosenSpacing spacing) (now (parameters .entry)) axis depth .number ⌝ }
     ensures { λ r. ⌜ now (given .exit) ≡ givenAfter r (certifyOf (passedCurve d k (now (axes .entry)) start end clamp segments
         «other_segments») (slices (now (breaks .entry)) (now (coefficients .entry)) (now («other_breaks» .entry))
-        (now («other_coefficients» .entry))) (now (points .entry)) n (chosenSpacing even) (now (parameters .entry)) axis depth .certified)
+        (now («other_coefficients» .entry))) (now (points .entry)) n (chosenSpacing spacing) (now (parameters .entry)) axis depth .certified)
         (now (given .entry)) ⌝ }
     ensures { λ _. ⌜ now (figure .exit) ≡ figureAfter (certifyOf (passedCurve d k (now (axes .entry)) start end clamp segments
         «other_segments») (slices (now (breaks .entry)) (now (coefficients .entry)) (now («other_breaks» .entry))
-        (now («other_coefficients» .entry))) (now (points .entry)) n (chosenSpacing even) (now (parameters .entry)) axis depth .certified)
+        (now («other_coefficients» .entry))) (now (points .entry)) n (chosenSpacing spacing) (now (parameters .entry)) axis depth .certified)
         (now (figure .entry)) ⌝ }
     ensures { λ r. ⌜ (r ≡ 0 → now (given .exit) ≡ true → Certified (passedCurve d k (now (axes .entry)) start end clamp segments
         «other_segments») (slices (now (breaks .entry)) (now (coefficients .entry)) (now («other_breaks» .entry))
-        (now («other_coefficients» .entry))) (now (points .entry)) n (chosenSpacing even) (now (parameters .entry)) axis
+        (now («other_coefficients» .entry))) (now (points .entry)) n (chosenSpacing spacing) (now (parameters .entry)) axis
         (now (figure .exit))) ⌝ }
 {
     let answer = certificate::certify::certify(
@@ -96,7 +96,7 @@ pub extern "C" fn pamitoye_certify(
         other_coefficients,
         points,
         n,
-        choices::spacing_of(even),
+        choices::spacing_of(spacing),
         parameters,
         axis,
         depth,

@@ -1,4 +1,4 @@
-// What a request or a curve chooses: each comes as a bool.
+// What a request or a curve chooses: each comes as a bool or a number.
 ghost use mathlib.Core.Path.{_≡_};
 ghost use Rattle.pamitoye.specs.Choices.{chosenAxes, chosenTolerance, chosenSpacing, chosenMode};
 use checks::Axes;
@@ -26,12 +26,15 @@ pub(crate) fn tolerance_of(uniform: bool, x: f64) -> Tolerance
     Tolerance::PerAxis
 }
 
-// Even parameters, or those of a list.
-pub(crate) fn spacing_of(even: bool) -> Spacing
-    ensures { λ r. ⌜ r ≡ chosenSpacing even ⌝ }
+// Even parameters (1), by chords (2), or those of a list (0, and any other number).
+pub(crate) fn spacing_of(spacing: u64) -> Spacing
+    ensures { λ r. ⌜ r ≡ chosenSpacing spacing ⌝ }
 {
-    if even {
+    if spacing == 1 {
         return Spacing::Even;
+    }
+    if spacing == 2 {
+        return Spacing::Chord;
     }
     Spacing::Listed
 }

@@ -116,12 +116,15 @@ fn line(certificate: Certificate, out: &mut [u8], at: usize) -> Line
     }
 }
 
-// Parameters are even in mode 0.
+// Parameters are even in mode 0, listed in mode 1, by chords in mode 2.
 fn spacing_of(mode: u64) -> Spacing {
     if mode == 0 {
         return Spacing::Even;
     }
-    Spacing::Listed
+    if mode == 1 {
+        return Spacing::Listed;
+    }
+    Spacing::Chord
 }
 
 // The answer for a curve whose slices, points and parameters are these parts of the cells.
@@ -174,7 +177,7 @@ pub fn certify(head: Head, cells: &[f64], out: &mut [u8], at: usize) -> Line
     let axis = word % 256;
     let mode = word / 256 % 256;
     let depth = word / 65536;
-    if 1 < mode {
+    if 2 < mode {
         return output::unanswered(at);
     }
     let found = axes::axes_of(&wholes, 5);

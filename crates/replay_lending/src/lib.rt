@@ -65,11 +65,14 @@ fn tolerance_of(uniform: bool, cells: &[f64]) -> Tolerance {
     Tolerance::PerAxis
 }
 
-fn spacing_of(even: bool) -> Spacing {
-    if even {
+fn spacing_of(mode: u64) -> Spacing {
+    if mode == 0 {
         return Spacing::Even;
     }
-    Spacing::Listed
+    if mode == 1 {
+        return Spacing::Listed;
+    }
+    Spacing::Chord
 }
 
 fn axes_of(k: usize) -> Axes {
@@ -170,7 +173,7 @@ fn build(
         &listed[0..count],
         tolerance_of(q.uniform, cells),
         &cells[0..t],
-        spacing_of(q.even),
+        spacing_of(q.spacing),
         &cells[e..end],
         limits,
         p,

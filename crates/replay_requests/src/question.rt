@@ -2,15 +2,15 @@
 ghost use Rattle.replay_requests.specs.Lending.{Asks};
 
 // `k` is the number of listed axes, 17 for all axes. The cells are the tolerances, the points and the
-// parameters: `tolerances` and `points` are where the first two end. Where the numbers do not fit the
-// count of cells, `good` says so.
+// parameters: `tolerances` and `points` are where the first two end. `spacing` is the parameters' mode:
+// 0 even, 1 listed, 2 by chords. Where the numbers do not fit the count of cells, `good` says so.
 pub struct Question {
     pub good: bool,
     pub d: usize,
     pub n: usize,
     pub k: usize,
     pub uniform: bool,
-    pub even: bool,
+    pub spacing: u64,
     pub refinements: usize,
     pub segments: usize,
     pub tolerances: usize,
@@ -46,7 +46,7 @@ pub fn asked(wholes: &[u64; 16], numbers: usize, count: usize) -> Question
         n: 0,
         k: 0,
         uniform: false,
-        even: false,
+        spacing: 0,
         refinements: 0,
         segments: 0,
         tolerances: 0,
@@ -79,7 +79,7 @@ pub fn asked(wholes: &[u64; 16], numbers: usize, count: usize) -> Question
         n: wholes[1] as usize,
         k,
         uniform: wholes[3] == 0,
-        even: wholes[5] == 0,
+        spacing: wholes[5],
         refinements: wholes[7] as usize,
         segments: wholes[8] as usize,
         tolerances,
@@ -87,12 +87,13 @@ pub fn asked(wholes: &[u64; 16], numbers: usize, count: usize) -> Question
     }
 }
 
-// Whether the modes are 0 or 1, with one tolerance or no parameter in mode 0.
+// Whether the tolerance's mode is 0 or 1, with one tolerance in mode 0, and that of the parameters 0, 1
+// or 2, with none unless they are listed, in mode 1.
 fn modes_fit(tolerance: u64, tolerances: usize, parameter: u64, parameters: usize) -> bool {
     if 1 < tolerance {
         return false;
     }
-    if 1 < parameter {
+    if 2 < parameter {
         return false;
     }
     if tolerance == 0 {
@@ -100,8 +101,8 @@ fn modes_fit(tolerance: u64, tolerances: usize, parameter: u64, parameters: usiz
             return false;
         }
     }
-    if parameter == 0 {
-        return parameters == 0;
+    if parameter == 1 {
+        return true;
     }
-    true
+    parameters == 0
 }

@@ -6,11 +6,12 @@ use Prim.Native.Nat.{ℕ, zero, suc, _+_, _-_, _*_, _≤_, _<_}
 use native.Mathlib.Nat.{mul-pos, zero-lt-suc}
 use native.Mathlib.Omega.{arith}
 use borrow.Author.Tests.{le-ltb, not-false}
-use lib.Dec.{T, eqb·suc-zero}
+use lib.Dec.{T, eqb, eqb·suc-zero}
 use lib.IntN.{pos}
+use lib.ListN.{length}
 use lib.Pow.{pow-pos}
-use lib.Ieee.{Float, nan, inf, fin, Format, binary32, binary64, up, down, isNan, fits, lt, le, eq, round, size, span, climb, units, odd, sub, div, sum, ofBits, ofInt}
-use lib.Ieee.Fits.{div-fits, down-pos, up-pos}
+use lib.Ieee.{Float, nan, inf, fin, Format, binary32, binary64, up, down, isNan, lt, le, eq, round, size, span, climb, units, odd, sub, div, sum, ofBits}
+use lib.Ieee.Fits.{down-pos, up-pos}
 use lib.Ieee.Positive.{above, positive}
 use lib.Ieee.Scale.{finite, round-same}
 use Rattle.arith.proofs.Truth.{or-none}
@@ -19,10 +20,8 @@ use Rattle.fraction.proofs.Comparison.{number-self}
 use Rattle.fraction.proofs.Rounding.{of-positive, quotient-number, rounded-not-nan, sub-rounded}
 use Rattle.fraction.proofs.Value.{finite-not-nan}
 use Rattle.arith.proofs.FloatOrder.{le-trans, lt-le, lt-of-not-le}
-use Rattle.request.specs.declared.parameters.Spacing.{Spacing}
-use Rattle.request.specs.declared.parameters.Spacing.the-variants.{Listed, Even}
 use Rattle.request.specs.Any.{any}
-use Rattle.request.specs.Parameters.{parameterOf, miscounted, anyFall, lengthOf, normalisedOf, misplaced, unreliable}
+use Rattle.request.specs.Parameters.{anyFall, lengthOf, normalisedOf, misplaced, unreliable}
 use Rattle.request.proofs.Anys.{any-none}
 use Rattle.fraction.proofs.Difference.{difference-above}
 
@@ -53,7 +52,7 @@ rounds-one : (f : Format) (a : ℕ) → 0 < a → round f false a a ≡ fin fals
 rounds-one f a A = round-same f false a a 1 1 A (pow-pos 0) (omega arith) ∙ one-rounds f
 
 -- x - x is +0
-less-itself : (f : Format) (x : Float) → T (finite x) → sub f x x ≡ fin false 0 (pos 0)
+pub less-itself : (f : Format) (x : Float) → T (finite x) → sub f x x ≡ fin false 0 (pos 0)
 unfolding sub sum
 less-itself f nan X = absurd X
 less-itself f (inf s) X = absurd X
@@ -78,31 +77,26 @@ over-itself f =
     (λ m e. rw (eqb·suc-zero m) (rounds-one f (suc m * up e * down e) (mul-pos (mul-pos (zero-lt-suc m) (up-pos e)) (down-pos e))))
 
 -- ---- the parameters
-pub parameter-fits : (spacing : Spacing) (list : List Float) (n i : ℕ) → Doubles list → T (fits binary64 (parameterOf spacing list n i))
-unfolding parameterOf
-parameter-fits Listed list n i F = F i
-parameter-fits Even list n i F = div-fits binary64 (ofInt binary64 (pos i)) (ofInt binary64 (pos (n - 1)))
-
-module _ (spacing : Spacing) (list : List Float) (n : ℕ) (two : 2 ≤ n) (doubles : Doubles list) (placed : misplaced spacing list n ≡ false)
-    (reliable : unreliable spacing list n ≡ false) where
+module _ (list : List Float) (n : ℕ) (two : 2 ≤ n) (doubles : Doubles list) (placed : misplaced list n ≡ false)
+    (reliable : unreliable list n ≡ false) where
   abbrev p : ℕ → Float
-  p = parameterOf spacing list n
+  p = at list
 
   abbrev s : ℕ → Float
-  s = normalisedOf spacing list n
+  s = normalisedOf list n
 
   -- what the tests say
   parts : (any n (λ i. not (finite (p i))) ≡ false) × (anyFall n p ≡ false)
   unfolding misplaced
   parts =
-      let a = miscounted spacing list n in
+      let a = not (eqb (length list) n) in
       let b = any n (λ i. not (finite (p i))) in
       let o = or-none (a || b) (anyFall n p) placed in
       (or-none a b (o .0) .1, o .1)
 
-  length-parts : (not (finite (lengthOf spacing list n)) ≡ false) × (anyFall n s ≡ false)
+  length-parts : (not (finite (lengthOf list n)) ≡ false) × (anyFall n s ≡ false)
   unfolding unreliable
-  length-parts = or-none (not (finite (lengthOf spacing list n))) (anyFall n s) reliable
+  length-parts = or-none (not (finite (lengthOf list n))) (anyFall n s) reliable
 
   pub parameter-finite : (i : ℕ) → i < n → T (finite (p i))
   parameter-finite i l = holds (not-false (finite (p i)) (any-none (λ i. not (finite (p i))) n (parts .0) i l))
@@ -133,13 +127,13 @@ module _ (spacing : Spacing) (list : List Float) (n : ℕ) (two : 2 ≤ n) (doub
           sym (le-trans (p 1) (p (n - 1)) (p 0) (rw e at (upto 1 (n - 2) (omega arith))) h) ∙ no-fall 0 (omega arith)
 
   -- end - start is above 0
-  pub length-positive : T (positive (lengthOf spacing list n))
+  pub length-positive : T (positive (lengthOf list n))
   unfolding lengthOf
   length-positive =
-      above-finite (lengthOf spacing list n)
-      (difference-above binary64 (p 0) (p (n - 1)) (parameter-fits spacing list n 0 doubles) (parameter-fits spacing list n (n - 1) doubles)
+      above-finite (lengthOf list n)
+      (difference-above binary64 (p 0) (p (n - 1)) (doubles 0) (doubles (n - 1))
       (parameter-finite 0 (omega arith)) (parameter-finite (n - 1) (omega arith)) (holds first-below))
-      (holds (not-false (finite (lengthOf spacing list n)) (length-parts .0)))
+      (holds (not-false (finite (lengthOf list n)) (length-parts .0)))
 
   normalised-number : (i : ℕ) → i < n → T (not (isNan (s i)))
   unfolding normalisedOf
@@ -147,14 +141,14 @@ module _ (spacing : Spacing) (list : List Float) (n : ℕ) (two : 2 ≤ n) (doub
       quotient-number binary64 (sub binary64 (p i) (p 0))
       (rounded-not-nan binary64 (sub binary64 (p i) (p 0)) _ (sub-rounded binary64 (p i) (p 0) (parameter-finite i l)
       (parameter-finite 0 (omega arith))))
-      (lengthOf spacing list n) length-positive
+      (lengthOf list n) length-positive
 
   -- ---- the normalised parameters start at 0, each is below the next, and the last is 1
   pub normalised-first : T (eq (s 0) +0)
   unfolding normalisedOf eq ofBits
   normalised-first =
-      let e : s 0 ≡ fin false 0 (pos 0) = ap (λ (x : Float). div binary64 x (lengthOf spacing list n))
-      (less-itself binary64 (p 0) (parameter-finite 0 (omega arith))) ∙ zero-over binary64 (lengthOf spacing list n) length-positive in
+      let e : s 0 ≡ fin false 0 (pos 0) = ap (λ (x : Float). div binary64 x (lengthOf list n))
+      (less-itself binary64 (p 0) (parameter-finite 0 (omega arith))) ∙ zero-over binary64 (lengthOf list n) length-positive in
       subst (λ (x : Float). T (eq x +0)) (sym e) tt
 
   pub normalised-rises : (i : ℕ) → i < n - 1 → T (lt (s i) (s (i + 1)))
@@ -166,4 +160,4 @@ module _ (spacing : Spacing) (list : List Float) (n : ℕ) (two : 2 ≤ n) (doub
   pub normalised-last : T (eq (s (n - 1)) (ofBits binary64 0x3ff0_0000_0000_0000))
   unfolding normalisedOf lengthOf eq ofBits
   normalised-last = subst (λ (x : Float). T (eq x (ofBits binary64 0x3ff0_0000_0000_0000)))
-      (sym (over-itself binary64 (lengthOf spacing list n) length-positive)) tt
+      (sym (over-itself binary64 (lengthOf list n) length-positive)) tt

@@ -22,7 +22,6 @@ use Rattle.fraction.proofs.OwnRounding.{rounds-below}
 use Rattle.fraction.proofs.Rational.{<q-weaken, never, rationalOrder, ≤q-<q-trans, <q-≤q-trans, ≤q-refl, ≤q-trans}
 use Rattle.fraction.proofs.Rounding.{sub-rounded}
 use Rattle.fraction.proofs.Value.{plus-zero}
-use Rattle.request.specs.declared.parameters.Spacing.{Spacing}
 use Rattle.request.specs.Parameters.{normalisedOf, misplaced, unreliable}
 use Rattle.fraction.proofs.Difference.{difference-above}
 use Rattle.request.proofs.Normalised.{normalised-first, normalised-rises, normalised-last}
@@ -49,20 +48,20 @@ above-positive (inf false) (fin t n d) a Y h = subst T (sym h) tt
 above-positive (fin true m e) y a Y h = absurd a
 above-positive (fin false m e) y a Y h = a
 
-module _ (spacing : Spacing) (list : List Float) (n : ℕ) (two : 2 ≤ n) (doubles : Doubles list) (placed : misplaced spacing list n ≡ false)
-    (reliable : unreliable spacing list n ≡ false) where
+module _ (list : List Float) (n : ℕ) (two : 2 ≤ n) (doubles : Doubles list) (placed : misplaced list n ≡ false)
+    (reliable : unreliable list n ≡ false) where
   abbrev s : ℕ → Float
-  s = normalisedOf spacing list n
+  s = normalisedOf list n
 
   rises : (i : ℕ) → i < n - 1 → T (lt (s i) (s (i + 1)))
-  rises = normalised-rises spacing list n two doubles placed reliable
+  rises = normalised-rises list n two doubles placed reliable
 
   pub normalised-fits : (i : ℕ) → T (fits binary64 (s i))
   unfolding normalisedOf
   normalised-fits i = div-fits binary64 _ _
 
   pub normalised-finite : (i : ℕ) → i < n → T (finite (s i))
-  normalised-finite zero l = eq-finite (s 0) +0 (normalised-first spacing list n two doubles placed reliable) zero-finite
+  normalised-finite zero l = eq-finite (s 0) +0 (normalised-first list n two doubles placed reliable) zero-finite
   normalised-finite (suc i) l = elim (decLt (suc i) (n - 1)) [
     | yes g ↦
         let e : i + 1 ≡ suc i = omega arith in
@@ -70,7 +69,7 @@ module _ (spacing : Spacing) (list : List Float) (n : ℕ) (two : 2 ≤ n) (doub
     | no g ↦
         let e : n - 1 ≡ suc i = omega arith in
         subst (λ (k : ℕ). T (finite (s k))) e
-        (eq-finite (s (n - 1)) one (normalised-last spacing list n two doubles placed reliable) one-finite)
+        (eq-finite (s (n - 1)) one (normalised-last list n two doubles placed reliable) one-finite)
   ]
 
   -- each is below the next
@@ -80,7 +79,7 @@ module _ (spacing : Spacing) (list : List Float) (n : ℕ) (two : 2 ≤ n) (doub
   -- none is below 0
   pub normalised-from-zero : (i : ℕ) → i < n → value +0 ≤q value (s i)
   normalised-from-zero zero l =
-      subst (λ (z : ℚ). z ≤q value (s 0)) (eq-value (s 0) +0 zero-finite (normalised-first spacing list n two doubles placed reliable))
+      subst (λ (z : ℚ). z ≤q value (s 0)) (eq-value (s 0) +0 zero-finite (normalised-first list n two doubles placed reliable))
       (≤q-refl (value (s 0)))
   normalised-from-zero (suc i) l =
       let e : i + 1 ≡ suc i = omega arith in
@@ -93,7 +92,7 @@ module _ (spacing : Spacing) (list : List Float) (n : ℕ) (two : 2 ≤ n) (doub
   to-one zero i e =
       let g : n - 1 ≡ i = omega arith in
       subst (λ (k : ℕ). value (s k) ≤q value one) g
-      (subst (λ (z : ℚ). value (s (n - 1)) ≤q z) (eq-value (s (n - 1)) one one-finite (normalised-last spacing list n two doubles placed
+      (subst (λ (z : ℚ). value (s (n - 1)) ≤q z) (eq-value (s (n - 1)) one one-finite (normalised-last list n two doubles placed
       reliable)) (≤q-refl (value (s (n - 1)))))
   to-one (suc d) i e =
       ≤q-trans (value (s i)) (value (s (i + 1))) (value one) (<q-weaken (value (s i)) (value (s (i + 1))) (next-above i (omega arith)))

@@ -34,7 +34,7 @@ use Rattle.seed.specs.Corridor.{axisTurn as axisTurn₂, narrowed}
 use Rattle.seed.specs.Knots.{jumpTurn, jumpOf, widthOf, around, anchorKnots, rawKnots, seedOf}
 use Rattle.seed.specs.Regions.{rangeOf, merged, regionsOf}
 use Rattle.request.specs.Any.{any}
-use Rattle.request.specs.Parameters.{parameterOf, miscounted, lengthOf, normalisedOf, misplaced, unreliable}
+use Rattle.request.specs.Parameters.{evenOf, sumOf, squareOf, chordOf as chordOf₂, parameterList, lengthOf, normalisedOf, misplaced, unreliable}
 use Rattle.request.specs.Points.{unfit}
 use Rattle.arith.specs.First.{firstOf}
 use Rattle.curve.specs.Form.{axesFormed}
@@ -43,7 +43,7 @@ use Rattle.smoothing.specs.Build.{selectedOf, otherOf, resultOf, smoothe
 use Rattle.smoothing.specs.Checks.{wideLane, wideLimits, miscountedPoints, noAxes, badAxes, badTolerance, exceeds, anyExceeds, overflows, refusalOf}
 use Rattle.smoothing.specs.Finish.{physicalOf, finalPolynomial, errorOf as errorOf₂, errorsOf, excessive, judged, finishOf as finishOf₂}
 use Rattle.smoothing.specs.Interpolate.{equation, waypointTurn, derivativeOf, endTurns, interpolationSystem, interpolateOf}
-use Rattle.smoothing.specs.Lanes.{fieldsOf, numbersOf, laneLines, fineLines, lines, even}
+use Rattle.smoothing.specs.Lanes.{fieldsOf, numbersOf, laneLines, fineLines, chordLines, lines, even, chord}
 use Rattle.smoothing.specs.Request.{upTo, axesOf as axesOf₂, tolerancesOf}
 use Rattle.smoothing.specs.Round.{worstOf, settled, selected, middleOf, rawLocations, locationsOf, spansAfter, outside, insertOf, insertAll, strengthOf, refitOf, refitAll, refitted, roundOf, refineOf}
 use Rattle.smoothing.specs.Rows.{gathered, centred, parametersOf, taskOf, smoothedRows, laneUnits, laneTask, leftOver, otherRows}
@@ -79,11 +79,12 @@ unfolding isNan ofBits toBits add sub mul div le lt eq ne round ofInt neg turns 
     boundsWith auditTurn auditOf pieceAt pieceFrom errorForm allFinite largestTurn axisTurn axesOf endedBy walkTurn intervalOf addTerm piecePower
     errorOf addShare bernsteinOf bernsteinCoefficients advanced placed sortOf thinned distinct gap inside apart testOf dedupOf keptOf
     fits scanTurn anchorsOf axisTurn₂ narrowed jumpTurn jumpOf widthOf around anchorKnots rawKnots seedOf rangeOf merged regionsOf
-    any parameterOf miscounted lengthOf normalisedOf misplaced unreliable unfit firstOf axesFormed andThen unless numberOf
+    any evenOf sumOf squareOf chordOf₂ parameterList
+    lengthOf normalisedOf misplaced unreliable unfit firstOf axesFormed andThen unless numberOf
     selectedOf otherOf resultOf smoothedOf checkedOf answerOf buildOf
     wideLane wideLimits miscountedPoints noAxes badAxes badTolerance exceeds anyExceeds overflows refusalOf
     physicalOf finalPolynomial errorOf₂ errorsOf excessive judged finishOf₂
-    equation waypointTurn derivativeOf endTurns interpolationSystem interpolateOf fieldsOf numbersOf laneLines fineLines
+    equation waypointTurn derivativeOf endTurns interpolationSystem interpolateOf fieldsOf numbersOf laneLines fineLines chordLines
     upTo axesOf₂ tolerancesOf
     worstOf settled selected middleOf rawLocations locationsOf spansAfter outside insertOf insertAll strengthOf refitOf refitAll refitted
     roundOf refineOf gathered centred parametersOf taskOf smoothedRows laneUnits laneTask leftOver otherRows
@@ -109,6 +110,19 @@ pub linear : cellsOf (buildOf (even 1 3 all 0x3ff0_0000_0000_0000 100 (0 ∷ 0x3
     ≡ 0 ∷ 1 ∷ 0 ∷ 0 ∷ 0 ∷ 4 ∷ 0x3fee_6666_6666_6666 ∷ 0 ∷ 0x3ff0_0000_0000_0000 ∷ 0 ∷ 0 ∷ 0 ∷ 0 ∷ 0 ∷ 0 ∷ []
 unfolding steps cellsOf
 linear = refl
+
+-- the start and the end of what is given, by their bits
+unfoldable pub endsOf : Answer Result → List ℕ
+endsOf (done x) = toBits binary64 (x .start) ∷ toBits binary64 (x .end) ∷ []
+endsOf (refused n) = []
+endsOf (exhausted r) = []
+
+-- points (0, 0) (3, 4) (3, 0) by their chords: from 0 to 9
+pub chord-ends : endsOf (buildOf (chord 2 3 all 0x4024_0000_0000_0000 20000
+    (0 ∷ 0 ∷ 0x4008_0000_0000_0000 ∷ 0x4010_0000_0000_0000 ∷ 0x4008_0000_0000_0000 ∷ 0 ∷ [])))
+    ≡ 0 ∷ 0x4022_0000_0000_0000 ∷ []
+unfolding steps endsOf
+chord-ends = refl
 
 -- points 0 y 0 at the parameters 0 s 1, tolerance 1
 abbrev pub bent : ℕ → ℕ → Request

@@ -23,7 +23,6 @@ use Rattle.bspline.proofs.Inserted.{knots-low, knots-at, knots-high, knots-leng
 use Rattle.bspline.proofs.InsertPlaced.{span-within}
 use Rattle.sorting.proofs.Kept.{Between}
 use Rattle.polynomial.specs.Outcome as audits
-use Rattle.request.specs.declared.parameters.Spacing.{Spacing}
 use Rattle.request.specs.Parameters.{normalisedOf, misplaced, unreliable}
 use Rattle.request.proofs.Normalised.{normalised-rises}
 use Rattle.request.proofs.ZeroToOne.{normalised-fits, normalised-finite, inner-above, inner-below}
@@ -226,17 +225,17 @@ unfolding chordState
 course-rising g left q st D e = course-keeps g q (λ left st. KnotsRising st) (keeps-rising g q) left st (λ t. chord-rising q D) e .1
 
 -- ---- the other axes: a knot at each inner waypoint
-module _ (spacing : Spacing) (list : List Float) (n : ℕ) (two : 2 ≤ n) (doubles : Doubles list) (placed : misplaced spacing list n ≡ false)
-    (reliable : unreliable spacing list n ≡ false) where
+module _ (list : List Float) (n : ℕ) (two : 2 ≤ n) (doubles : Doubles list) (placed : misplaced list n ≡ false)
+    (reliable : unreliable list n ≡ false) where
   abbrev s : ℕ → Float
-  s = normalisedOf spacing list n
+  s = normalisedOf list n
 
   inner-between : (i : ℕ) → 0 < i → i < n - 1 → Between (s i)
   inner-between i a b =
       record {
-        number = normalised-finite spacing list n two doubles placed reliable i (omega arith);
-        above = inner-above spacing list n two doubles placed reliable i a (omega arith);
-        below = inner-below spacing list n two doubles placed reliable i b;
+        number = normalised-finite list n two doubles placed reliable i (omega arith);
+        above = inner-above list n two doubles placed reliable i a (omega arith);
+        below = inner-below list n two doubles placed reliable i b;
       }
 
   -- l holds all n parameters
@@ -248,11 +247,11 @@ module _ (spacing : Spacing) (list : List Float) (n : ℕ) (two : 2 ≤ n) (doub
       let m : length (window 1 (n - 1) l) + 6 ≡ n + 4 = omega arith in
       subst (λ (k : ℕ). Rising (openKnots (window 1 (n - 1) l)) k) m
       (open-rising (window 1 (n - 1) l) (λ i h. subst (λ (x : Float). T (fits binary64 x)) (sym (cell i h))
-      (normalised-fits spacing list n two doubles placed reliable (1 + i)))
+      (normalised-fits list n two doubles placed reliable (1 + i)))
       (λ i h. subst Between (sym (cell i h)) (inner-between (1 + i) (omega arith) (omega arith)))
       (λ i h. let q : 1 + i + 1 ≡ 1 + (i + 1) = omega arith in
       rw (cell i (omega arith), cell (i + 1) h, ← q)
-      (true-of (normalised-rises spacing list n two doubles placed reliable (1 + i) (omega arith)))))
+      (true-of (normalised-rises list n two doubles placed reliable (1 + i) (omega arith)))))
     where
       true-of : {b : Bool} → T b → b ≡ true
       true-of {b} h = go b h

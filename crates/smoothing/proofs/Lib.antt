@@ -24,3 +24,5 @@ pub mod Refusals
 -- Higher limits, and rows that are not smoothed.
 pub mod HigherLimits
 pub mod UnsmoothedRows
+-- The parameters as a list.
+pub mod AsListed

@@ -24,8 +24,9 @@ use Rattle.request.specs.Parameters.{normalisedOf, misplaced, unreliable}
 use Rattle.request.specs.Points.{unfit}
 use Rattle.request.proofs.Anys.{any-none}
 use Rattle.request.proofs.Counts.{waypoint-count}
+use Rattle.request.proofs.Spaced.{spaced-doubles}
 use Rattle.request.proofs.ZeroToOne.{normalised-to-one}
-use Rattle.smoothing.specs.Request.{Lane, axisCount, smoothedAxes}
+use Rattle.smoothing.specs.Request.{Lane, axisCount, smoothedAxes, laneParameters}
 use Rattle.smoothing.specs.Checks.{overflows, noAxes, badAxes, badTolerance, tooFine, refusalOf}
 use Rattle.smoothing.specs.Rows.{taskOf, laneTask, laneUnits, parametersOf, centred, leftOver, otherAxes}
 
@@ -41,8 +42,8 @@ pub record Passed (l : Lane) : Type 0 where
   pub axes : badAxes l ≡ false
   pub tolerance : badTolerance l ≡ false
   pub coarse : tooFine l ≡ false
-  pub placed : misplaced (l .spacing) (l .parameters) (l .n) ≡ false
-  pub reliable : unreliable (l .spacing) (l .parameters) (l .n) ≡ false
+  pub placed : misplaced (laneParameters l) (l .n) ≡ false
+  pub reliable : unreliable (laneParameters l) (l .n) ≡ false
   pub carried : overflows (laneTask l) ≡ false
 
 pub lane-passed : (l : Lane) → refusalOf l ≡ 0 → Passed l
@@ -53,8 +54,8 @@ lane-passed l h =
     let d = passed (badAxes l) 3 _ (omega arith) (c .1) in
     let e = passed (badTolerance l) 4 _ (omega arith) (d .1) in
     let t = passed (tooFine l) 26 _ (omega arith) (e .1) in
-    let f = passed (misplaced (l .spacing) (l .parameters) (l .n)) 5 _ (omega arith) (t .1) in
-    let g = passed (unreliable (l .spacing) (l .parameters) (l .n)) 6 _ (omega arith) (f .1) in
+    let f = passed (misplaced (laneParameters l) (l .n)) 5 _ (omega arith) (t .1) in
+    let g = passed (unreliable (laneParameters l) (l .n)) 6 _ (omega arith) (f .1) in
     let o = passed (overflows (laneTask l)) 7 0 (omega arith) (g .1) in
     record {
       points = b .0;
@@ -96,20 +97,25 @@ all-axes l h =
 pub axes-count : (l : Lane) → refusalOf l ≡ 0 → length (otherAxes l) + axisCount l ≡ l .d
 axes-count l h = all-axes l (lane-passed l h .axes)
 
+-- ---- the parameters
+-- they are f64s, as those listed are
+pub lane-doubles : (l : Lane) → Doubles (l .parameters) → Doubles (laneParameters l)
+lane-doubles l F = spaced-doubles (l .spacing) (l .parameters) (l .points) (l .d) (l .n) F
+
 -- ---- the parameters of the task
 pub parameters-length : (l : Lane) → length (laneTask l .s) ≡ l .n
 unfolding laneTask laneUnits taskOf parametersOf
 parameters-length l = list-length (l .n) _
 
-pub parameter-at : (l : Lane) (i : ℕ) → i < l .n → at (laneTask l .s) i ≡ normalisedOf (l .spacing) (l .parameters) (l .n) i
+pub parameter-at : (l : Lane) (i : ℕ) → i < l .n → at (laneTask l .s) i ≡ normalisedOf (laneParameters l) (l .n) i
 unfolding laneTask laneUnits taskOf parametersOf
-parameter-at l i h = list-at (l .n) (normalisedOf (l .spacing) (l .parameters) (l .n)) nan i h
+parameter-at l i h = list-at (l .n) (normalisedOf (laneParameters l) (l .n)) nan i h
 
 -- past the last waypoint there is no parameter
 parameter-past : (l : Lane) (i : ℕ) → l .n ≤ i → at (laneTask l .s) i ≡ nan
 unfolding laneTask laneUnits taskOf parametersOf
 parameter-past l i h =
-    List·getD-eq-default (parametersOf l) nan (omega (arith, list-length (l .n) (normalisedOf (l .spacing) (l .parameters) (l .n))))
+    List·getD-eq-default (parametersOf l) nan (omega (arith, list-length (l .n) (normalisedOf (laneParameters l) (l .n))))
 
 -- the normalised parameters are f64s
 pub parameters-held : (l : Lane) → Doubles (laneTask l .s)
@@ -127,7 +133,7 @@ parameters-below l F h i =
     elim (decLt i (l .n)) [
       | yes b ↦
           ap (λ (x : Float). lt (floats .one) x) (parameter-at l i b)
-          ∙ normalised-to-one (l .spacing) (l .parameters) (l .n) (two-waypoints l h) F (k .placed) (k .reliable) i b
+          ∙ normalised-to-one (laneParameters l) (l .n) (two-waypoints l h) (lane-doubles l F) (k .placed) (k .reliable) i b
       | no b ↦ ap (λ (x : Float). lt (floats .one) x) (parameter-past l i (omega arith))
     ]
 

@@ -28,7 +28,7 @@ use Rattle.normal.specs.Solve.{solveOf}
 use Rattle.normal.proofs.Outcomes.{solve-number}
 use Rattle.smoothing.specs.Answer.{Answer, andThen, unless}
 use Rattle.smoothing.specs.Answer.Answer.{done, refused, exhausted}
-use Rattle.smoothing.specs.Request.{Lane, Limits, Request}
+use Rattle.smoothing.specs.Request.{Lane, Limits, Request, laneParameters}
 use Rattle.smoothing.specs.Checks.{Room, wideLane, wideLimits, miscountedPoints, noAxes, badAxes, badTolerance, tooFine, overflows, refusalOf, shortRoom}
 use Rattle.smoothing.specs.Rows.{Task, Units, laneTask, laneUnits, parametersOf, otherAxes, otherRows}
 use Rattle.smoothing.specs.State.{Spline, State}
@@ -158,8 +158,8 @@ refusal-most l =
     (pick (badAxes l) 3 _ (λ h. omega arith)
     (pick (badTolerance l) 4 _ (λ h. omega arith)
     (pick (tooFine l) 26 _ (λ h. refl)
-    (pick (misplaced (l .spacing) (l .parameters) (l .n)) 5 _ (λ h. omega arith)
-    (pick (unreliable (l .spacing) (l .parameters) (l .n)) 6 _ (λ h. omega arith)
+    (pick (misplaced (laneParameters l) (l .n)) 5 _ (λ h. omega arith)
+    (pick (unreliable (laneParameters l) (l .n)) 6 _ (λ h. omega arith)
     (pick (overflows (laneTask l)) 7 0 (λ h. omega arith) (λ h. omega arith))))))))
   where
     pick : (b : Bool) (k m : ℕ) → (7 < k → k ≡ 26) → (7 < m → m ≡ 26) → 7 < cond b k m → cond b k m ≡ 26

@@ -14,17 +14,17 @@ use Rattle.seed.specs.Corridor.{lowest, highest, narrowed}
 use Rattle.seed.specs.Anchors.{Scan, unscanned, anchorsOf}
 use Rattle.seed.proofs.FirstWaypoint.{first-fits}
 use Rattle.seed.proofs.SourceScan.{sourceTurn, source-anchors, scan-ends}
-use Rattle.smoothing.specs.Request.{Lane, axisCount}
+use Rattle.smoothing.specs.Request.{Lane, axisCount, laneParameters}
 use Rattle.smoothing.specs.Checks.{refusalOf}
 use Rattle.smoothing.specs.Rows.{laneTask}
-use Rattle.smoothing.proofs.Passed.{lane-passed, two-waypoints, parameters-length, parameter-at, y-finite}
+use Rattle.smoothing.proofs.Passed.{lane-passed, lane-doubles, two-waypoints, parameters-length, parameter-at, y-finite}
 
 -- the first waypoint after an anchor fits
 pub seed-ends : (l : Lane) (a : ℕ) → Doubles (l .parameters) → refusalOf l ≡ 0 → a + 1 < l .n
     → narrowed (laneTask l .s) (laneTask l .y) (axisCount l) a (a + 1) (lowest (axisCount l)) (highest (axisCount l)) .ok ≡ true
 seed-ends l a F h b =
     let p = lane-passed l h in
-    let apart = normalised-apart (l .spacing) (l .parameters) (l .n) (two-waypoints l h) F (p .placed) (p .reliable) a b in
+    let apart = normalised-apart (laneParameters l) (l .n) (two-waypoints l h) (lane-doubles l F) (p .placed) (p .reliable) a b in
     first-fits (laneTask l .s) (laneTask l .y) (axisCount l) a
     (rw (parameter-at l (a + 1) b, parameter-at l a (omega arith)) apart)
     (λ j g. (y-finite l (p .carried) a j (omega arith) g, y-finite l (p .carried) (a + 1) j b g))

@@ -14,6 +14,7 @@ use Rattle.arith.proofs.Truth.{or-none}
 use Rattle.window.specs.Cells.{Doubles}
 use Rattle.arith.specs.Operations.{floats}
 use Rattle.fraction.proofs.Comparison.{positive-above}
+use Rattle.window.specs.Cells.{at}
 use Rattle.window.specs.Rows.{join, listOf}
 use Rattle.bspline.specs.Segments.{Polynomial, polynomialOf}
 use Rattle.window.proofs.Joined.{list-at}
@@ -21,11 +22,11 @@ use Rattle.normal.specs.Solve.{solveOf}
 use Rattle.curve.specs.declared.Mode.{Mode}
 use Rattle.curve.specs.Form.{axesFormed, withWidths, setFormed, othersFormed, rangeFormed, wellFormed}
 use Rattle.curve.proofs.Formed.{axes-same}
-use Rattle.request.specs.Parameters.{parameterOf, lengthOf}
+use Rattle.request.specs.Parameters.{lengthOf}
 use Rattle.request.proofs.Normalised.{length-positive, parameter-finite}
 use Rattle.smoothing.specs.Answer.{andThen}
 use Rattle.smoothing.specs.Answer.Answer.{done}
-use Rattle.smoothing.specs.Request.{Lane, Limits, axisCount, smoothedAxes}
+use Rattle.smoothing.specs.Request.{Lane, Limits, axisCount, smoothedAxes, laneParameters}
 use Rattle.smoothing.specs.Checks.{wideLane, wideLimits, noAxes, badAxes, refusalOf}
 use Rattle.smoothing.specs.Rows.{Task, Units, taskOf, laneTask, laneUnits, parametersOf, otherAxes, otherRows}
 use Rattle.smoothing.specs.Start.{startOf}
@@ -34,7 +35,7 @@ use Rattle.smoothing.specs.Finish.{Selected, physicalOf, finalPolynomial
 use Rattle.smoothing.specs.Interpolate.{waypointKnots, controlCount, interpolationSystem, interpolateOf}
 use Rattle.smoothing.specs.Build.{Result, curveOf, slicesOf, segmentsOf, selectedOf, otherOf, resultOf, buildOf}
 use Rattle.smoothing.proofs.Accepted.{done-same, then-done, unless-done, build-accepted, build-domain}
-use Rattle.smoothing.proofs.Passed.{lane-passed, two-waypoints, axes-count, parameters-length, parameter-at, parameters-held}
+use Rattle.smoothing.proofs.Passed.{lane-passed, lane-doubles, two-waypoints, axes-count, parameters-length, parameter-at, parameters-held}
 use Rattle.smoothing.proofs.Sizes.{course-within}
 use Rattle.smoothing.proofs.Rooms.{judged-done}
 use Rattle.smoothing.proofs.KnotsRise.{course-rising, others-rising}
@@ -74,7 +75,8 @@ interpolated-formed l j rows p F h few e =
     let k = lane-passed l h in
     let two = two-waypoints l h in
     let t = waypointKnots (l .n) j s rows in
-    let r = others-rising (l .spacing) (l .parameters) (l .n) two F (k .placed) (k .reliable) s (parameters-length l) (parameter-at l) in
+    let r = others-rising (laneParameters l) (l .n) two (lane-doubles l F) (k .placed) (k .reliable) s (parameters-length l)
+    (parameter-at l) in
     let c = solveOf (controlCount (l .n) j s rows) j (interpolationSystem (l .n) j s rows) .system .right in
     let a = unless-done _ _ p e in
     let n : length (polynomialOf floats t c j (l .n + 4) .breaks) - 1 ≡ l .n + 4 - 5 = omega (arith, breaks-count t (l .n + 4) r c j) in
@@ -114,16 +116,16 @@ true-of {b} h = go b h
 
 -- "start and end are finite and end - start is finite and above 0"
 range-formed : (l : Lane) → Doubles (l .parameters) → refusalOf l ≡ 0
-    → rangeFormed (parameterOf (l .spacing) (l .parameters) (l .n) 0) (parameterOf (l .spacing) (l .parameters) (l .n) (l .n - 1)) ≡ true
+    → rangeFormed (at (laneParameters l) 0) (at (laneParameters l) (l .n - 1)) ≡ true
 unfolding rangeFormed lengthOf
 range-formed l F h =
     let k = lane-passed l h in
     let two = two-waypoints l h in
-    let p = length-positive (l .spacing) (l .parameters) (l .n) two F (k .placed) (k .reliable) in
-    let f = parameter-finite (l .spacing) (l .parameters) (l .n) two F (k .placed) (k .reliable) in
-    let length = lengthOf (l .spacing) (l .parameters) (l .n) in
-    let start : finite (parameterOf (l .spacing) (l .parameters) (l .n) 0) ≡ true = true-of (f 0 (omega arith)) in
-    let end : finite (parameterOf (l .spacing) (l .parameters) (l .n) (l .n - 1)) ≡ true = true-of (f (l .n - 1) (omega arith)) in
+    let p = length-positive (laneParameters l) (l .n) two (lane-doubles l F) (k .placed) (k .reliable) in
+    let f = parameter-finite (laneParameters l) (l .n) two (lane-doubles l F) (k .placed) (k .reliable) in
+    let length = lengthOf (laneParameters l) (l .n) in
+    let start : finite (at (laneParameters l) 0) ≡ true = true-of (f 0 (omega arith)) in
+    let end : finite (at (laneParameters l) (l .n - 1)) ≡ true = true-of (f (l .n - 1) (omega arith)) in
     let some : finite length ≡ true = true-of (positive-finite length p) in
     rw (start, end, some, positive-above binary64 length p)
 

@@ -5,15 +5,15 @@ use mathlib.Core.List.{List, []}
 use lib.Dec.{eqb}
 use lib.ListN.{length, getD}
 use lib.Ieee.{Float}
+use Rattle.window.specs.Cells.{at}
 use Rattle.window.specs.Rows.{listOf}
 use Rattle.bspline.specs.Segments.{Polynomial}
 use Rattle.curve.specs.declared.Curve.{Curve}
 use Rattle.curve.specs.declared.Mode.{Mode}
 use Rattle.curve.specs.Form.{Slices, slices, withWidths}
-use Rattle.request.specs.Parameters.{parameterOf}
 use Rattle.smoothing.specs.Answer.{Answer, andThen}
 use Rattle.smoothing.specs.Answer.Answer.{done, refused}
-use Rattle.smoothing.specs.Request.{Lane, Limits, Request, smoothedAxes}
+use Rattle.smoothing.specs.Request.{Lane, Limits, Request, smoothedAxes, laneParameters}
 use Rattle.smoothing.specs.Checks.{wideLane, wideLimits, miscountedPoints, refusalOf, Room, shortRoom}
 use Rattle.smoothing.specs.Rows.{Task, Units, laneTask, laneUnits, otherAxes, otherRows, parametersOf}
 use Rattle.smoothing.specs.State.{Counts}
@@ -82,8 +82,8 @@ resultOf l x p =
       selected = x .curve;
       other = p;
       axes = smoothedAxes l;
-      start = parameterOf (l .spacing) (l .parameters) (l .n) 0;
-      end = parameterOf (l .spacing) (l .parameters) (l .n) (l .n - 1);
+      start = at (laneParameters l) 0;
+      end = at (laneParameters l) (l .n - 1);
       report = record { segments = segmentsOf (x .curve); interpolated = segmentsOf p; work = x .report; errors = x .errors };
     }
 

@@ -12,7 +12,7 @@ use Rattle.request.specs.Any.{any}
 use Rattle.request.specs.Parameters.{misplaced, unreliable}
 use Rattle.request.specs.Points.{unfit}
 use Rattle.curve.specs.Form.{axesFormed}
-use Rattle.smoothing.specs.Request.{Lane, Limits, smoothedAxes, axisCount, toleranceList}
+use Rattle.smoothing.specs.Request.{Lane, Limits, smoothedAxes, axisCount, laneParameters, toleranceList}
 use Rattle.smoothing.specs.Rows.{Task, laneTask}
 
 -- 18, "d, n, max_segments or max_refinements above the domain"; and that of each of the two limits
@@ -70,8 +70,8 @@ refusalOf l =
     (cond (badAxes l) 3
     (cond (badTolerance l) 4
     (cond (tooFine l) 26
-    (cond (misplaced (l .spacing) (l .parameters) (l .n)) 5
-    (cond (unreliable (l .spacing) (l .parameters) (l .n)) 6
+    (cond (misplaced (laneParameters l) (l .n)) 5
+    (cond (unreliable (laneParameters l) (l .n)) 6
     (cond (overflows (laneTask l)) 7 0)))))))
 
 -- the lengths of the lent slices

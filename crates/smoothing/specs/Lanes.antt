@@ -1,10 +1,11 @@
--- Document 01's starred lanes ("Lanes to try"), as rows of one table with the float leaves' lines and document 02's refusal 26. A line's answer is a list of whole
--- numbers: the refusal's number alone, or 0 and the fields that `lane` prints, an error standing by its bits.
+-- Document 01's starred lanes ("Lanes to try"), as rows of one table with the float leaves' lines and document 02's refusal 26 and
+-- chords. A line's answer is a list of whole numbers: the refusal's number alone, or 0 and the fields that `lane` prints, an error
+-- standing by its bits.
 use Prim.Native.Nat.{ℕ}
 use mathlib.Core.List.{List, [], _∷_, _++_, map}
 use lib.Ieee.{binary64, ofBits, toBits}
 use Rattle.float.specs.Samples.{Line, floatLines}
-use Rattle.request.specs.declared.parameters.Spacing.the-variants.{Listed, Even}
+use Rattle.request.specs.declared.parameters.Spacing.the-variants.{Listed, Even, Chord}
 use Rattle.smoothing.specs.Request.{Axes, Request}
 use Rattle.smoothing.specs.Request.Axes.{all, listed}
 use Rattle.smoothing.specs.Request.Tolerance.{uniform}
@@ -33,6 +34,22 @@ even d n axes eps segments points =
         axes = axes;
         tolerance = uniform (ofBits binary64 eps);
         spacing = Even;
+        parameters = [];
+        points = map (ofBits binary64) points;
+      };
+      limits = record { refinements = 20; segments = segments };
+    }
+
+-- d rows, n points by their chords and max_segments; 20 refinements
+abbrev pub chord : ℕ → ℕ → Axes → ℕ → ℕ → List ℕ → Request
+chord d n axes eps segments points =
+    record {
+      lane = record {
+        d = d;
+        n = n;
+        axes = axes;
+        tolerance = uniform (ofBits binary64 eps);
+        spacing = Chord;
         parameters = [];
         points = map (ofBits binary64) points;
       };
@@ -97,6 +114,21 @@ fineLines =
     ∷ line (even 2 2 (listed (0 ∷ [])) 0x3ff0_0000_0000_0000 0 (0 ∷ 0 ∷ 0 ∷ 0x4300_0000_0000_0000 ∷ [])) (8 ∷ [])
     ∷ []
 
+-- document 02, request 3: chords
+unfoldable pub chordLines : List Line
+chordLines =
+    -- points 1 1, tolerance 1, equal neighbours: 5; 0 2^-600, whose chord rounds to 0: 5
+    line (chord 1 2 all 0x3ff0_0000_0000_0000 20000 (0x3ff0_0000_0000_0000 ∷ 0x3ff0_0000_0000_0000 ∷ [])) (5 ∷ [])
+    ∷ line (chord 1 2 all 0x3ff0_0000_0000_0000 20000 (0 ∷ 0x1a70_0000_0000_0000 ∷ [])) (5 ∷ [])
+    -- points 0 1e200, tolerance 1e200, an infinite chord: 5
+    ∷ line (chord 1 2 all 0x6974_e718_d7d7_625a 20000 (0 ∷ 0x6974_e718_d7d7_625a ∷ [])) (5 ∷ [])
+    -- points 0 0, tolerance 0: 4 comes before; points 2^49 2^49, tolerance 1: 26 comes before
+    ∷ line (chord 1 2 all 0 20000 (0 ∷ 0 ∷ [])) (4 ∷ [])
+    ∷ line (chord 1 2 all 0x3ff0_0000_0000_0000 20000 (0x4300_0000_0000_0000 ∷ 0x4300_0000_0000_0000 ∷ [])) (26 ∷ [])
+    -- d 2, axis 0 smoothed and flat, row 1 = 0 4: a row that is not smoothed counts (8: max_segments 0)
+    ∷ line (chord 2 2 (listed (0 ∷ [])) 0x3ff0_0000_0000_0000 0 (0 ∷ 0 ∷ 0 ∷ 0x4010_0000_0000_0000 ∷ [])) (8 ∷ [])
+    ∷ []
+
 -- all of them
 abbrev pub lines : List Line
-lines = laneLines ++ fineLines ++ floatLines
+lines = laneLines ++ fineLines ++ chordLines ++ floatLines

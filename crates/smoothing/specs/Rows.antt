@@ -10,7 +10,7 @@ use Rattle.window.specs.Cells.{at}
 use Rattle.window.specs.Rows.{listOf, table}
 use Rattle.request.specs.Parameters.{normalisedOf}
 use Rattle.curve.specs.Places.{positionOf}
-use Rattle.smoothing.specs.Request.{Lane, smoothedAxes, axisCount, toleranceList}
+use Rattle.smoothing.specs.Request.{Lane, smoothedAxes, axisCount, laneParameters, toleranceList}
 
 -- `points[(axes[a], i)]`, waypoint after waypoint: the rows `axes` of n points of d rows
 unfoldable pub gathered : List Float → ℕ → ℕ → List ℕ → List Float
@@ -22,7 +22,7 @@ centred rows eps n k = table n k (λ i a. div binary64 (sub binary64 (at rows (i
 
 -- `s`: the normalised parameters
 unfoldable pub parametersOf : Lane → List Float
-parametersOf l = listOf (l .n) (normalisedOf (l .spacing) (l .parameters) (l .n))
+parametersOf l = listOf (l .n) (normalisedOf (laneParameters l) (l .n))
 
 -- what is smoothed: n waypoints of k axes at the parameters s, centred over their tolerances
 pub record Task : Type 0 where

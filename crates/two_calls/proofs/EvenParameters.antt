@@ -5,7 +5,7 @@ use mathlib.Core.List.{List}
 use lib.Ieee.{Float}
 use Prim.Native.Nat.{ℕ}
 use Rattle.request.specs.declared.parameters.Spacing.the-variants.{Even}
-use Rattle.request.specs.Parameters.{parameterOf, miscounted, lengthOf, normalisedOf, misplaced, unreliable}
+use Rattle.request.specs.Parameters.{parameterList}
 use Rattle.curve.specs.declared.Curve.{Curve}
 use Rattle.curve.specs.Form.{Slices}
 use Rattle.figure.specs.Certify.{certifyOf}
@@ -33,11 +33,10 @@ evenly l list =
 pub list-unread : (l : Lane) (list list′ : List Float) (m : Limits) (work : List Float) (lent : Results)
     → answerTo (evenly l list) m work lent ≡ answerTo (evenly l list′) m work lent
 unfolding buildIn answerOf checkedOf smoothedOf resultOf otherOf wideLane miscountedPoints shortRoom noAxes badAxes badTolerance refusalOf
-    parametersOf smoothedRows laneUnits laneTask otherRows
-    misplaced miscounted unreliable lengthOf normalisedOf parameterOf
+    parametersOf smoothedRows laneUnits laneTask otherRows parameterList
 list-unread l list list′ m work lent = refl
 
 pub certificate-unread : (c : Curve) (s : Slices) (points : List Float) (n : ℕ) (list list′ : List Float) (axis depth : ℕ)
     → certifyOf c s points n Even list axis depth ≡ certifyOf c s points n Even list′ axis depth
-unfolding certifyOf misplaced miscounted unreliable lengthOf normalisedOf parameterOf
+unfolding certifyOf parameterList
 certificate-unread c s points n list list′ axis depth = refl

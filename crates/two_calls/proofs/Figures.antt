@@ -14,8 +14,10 @@ use Rattle.window.specs.Cells.{+0, at, Doubles}
 use Rattle.window.specs.Rows.{listOf}
 use Rattle.bspline.specs.Segments.{Polynomial}
 use Rattle.request.specs.declared.parameters.Spacing.{Spacing}
-use Rattle.request.specs.Parameters.{normalisedOf, misplaced, unreliable}
+use Rattle.request.specs.declared.parameters.Spacing.the-variants.{Chord}
+use Rattle.request.specs.Parameters.{normalisedOf, parameterList, misplaced, unreliable}
 use Rattle.request.specs.Points.{unfit}
+use Rattle.request.proofs.Spaced.{points-unread}
 use Rattle.curve.specs.declared.Curve.{Curve}
 use Rattle.curve.specs.declared.Mode.{Mode}
 use Rattle.curve.specs.Form.{withWidths, wellFormed}
@@ -24,7 +26,7 @@ use Rattle.figure.specs.Axis.{axisOf}
 use Rattle.figure.specs.Certify.{CertificateOutcome, outcome, certifyOf}
 use Rattle.figure.specs.Figure.{Axis, Figure, figure, noFigure, larger, intersectionFigure, meeting, intersection, withIntersection, figureOf}
 use Rattle.smoothing.specs.Answer.Answer.{done, refused}
-use Rattle.smoothing.specs.Request.{Lane, Limits, smoothedAxes, axisCount}
+use Rattle.smoothing.specs.Request.{Lane, Limits, smoothedAxes, axisCount, laneParameters}
 use Rattle.smoothing.specs.Checks.{wideLane, wideLimits, miscountedPoints}
 use Rattle.smoothing.specs.Build.{Result, slicesOf, curveOf, resultOf, checkedOf, answerOf, buildOf}
 use Rattle.smoothing.proofs.Accepted.{not-refused, build-accepted, build-domain}
@@ -37,9 +39,10 @@ use Rattle.two_calls.specs.Certifying.{CertifyCall}
 use Rattle.two_calls.proofs.AcceptedCalls.{built}
 use Rattle.two_calls.proofs.UnsmoothedRows.{same-result}
 
--- ---- the figure reads of the points only row `axis`
+-- ---- the figure reads of the points only row `axis`, chords apart
 module _ (depth : ℕ) (breaks coefficients : List Float) (k place : ℕ) (points points′ : List Float) (d axis n : ℕ) (spacing : Spacing)
-    (parameters : List Float) (same : (i : ℕ) → i < n → at points (i * d + axis) ≡ at points′ (i * d + axis)) where
+    (parameters : List Float) (spaced : parameterList spacing parameters points d n ≡ parameterList spacing parameters points′ d n)
+    (same : (i : ℕ) → i < n → at points (i * d + axis) ≡ at points′ (i * d + axis)) where
   abbrev here : Axis
   here = axisOf breaks coefficients k place points d axis n spacing parameters
 
@@ -51,10 +54,9 @@ module _ (depth : ℕ) (breaks coefficients : List Float) (k place : ℕ) (point
   intersection-same i m so-far h =
       let a = same i (omega arith) in
       let b = same (i + 1) (omega arith) in
-      let x = meeting (here .break m) (here .break (m + 1)) (here .coefficient m) (here .parameter i) (here .parameter (i + 1))
-      (here .waypoint i) (here .waypoint (i + 1)) in
-      λ j. cond (lt (x .left) (x .right)) (larger so-far (intersectionFigure depth (meeting (here .break m) (here .break (m + 1))
-      (here .coefficient m) (here .parameter i) (here .parameter (i + 1)) (a j) (b j)))) so-far
+      λ j. let x = meeting (here .break m) (here .break (m + 1)) (here .coefficient m) (normalisedOf (spaced j) n i)
+      (normalisedOf (spaced j) n (i + 1)) (a j) (b j) in
+      cond (lt (x .left) (x .right)) (larger so-far (intersectionFigure depth x)) so-far
 
   pub row-figure : figureOf depth here ≡ figureOf depth there
   unfolding figureOf
@@ -97,7 +99,7 @@ unfolding certifyOf curveOf wideLane miscountedPoints
 certified-is l m x mode axis depth F h =
     let p = lane-passed l (build-accepted l m x h .passed) in
     passes (ltb 6 depth) (wideLane l) (miscountedPoints l) (unfit (l .d) (l .n) (l .points))
-    (misplaced (l .spacing) (l .parameters) (l .n)) (unreliable (l .spacing) (l .parameters) (l .n))
+    (misplaced (laneParameters l) (l .n)) (unreliable (laneParameters l) (l .n))
     (wellFormed (curveOf mode (l .d) x) (slicesOf x)) _
     (build-domain l m x h .0) (counted l m x h) (p .points) (p .placed) (p .reliable) (accepted-well-formed l m x mode F h)
 
@@ -108,12 +110,13 @@ axes-are l m x h = ap (λ (r : Result). r .axes) (sym (build-accepted l m x h .r
 -- Smoothed axis a certified, at one depth, on the curve of each call and the used cells of its slices, against its own points: one answer.
 -- `Doubles`, that each listed parameter is an f64, is what every slice has.
 pub figures-agree : {l : Lane} {points : List Float} {m : Limits} (first : BuildCall l m) (second : BuildCall (withPoints l points) m)
-    → SelectedRowsSame l points → Doubles (l .parameters) → {x x′ : Result} → Gave first x → Gave second x′ → (a depth : ℕ)
+    → (l .spacing ≡ Chord → ⊥) → SelectedRowsSame l points → Doubles (l .parameters)
+    → {x x′ : Result} → Gave first x → Gave second x′ → (a depth : ℕ)
     → a < axisCount l → let axis = getD (smoothedAxes l) a 0 in
     (u : CertifyCall (first .curve) (slicesOf x) (l .points) (l .n) (l .spacing) (l .parameters) axis depth)
     (v : CertifyCall (second .curve) (slicesOf x′) points (l .n) (l .spacing) (l .parameters) axis depth)
     → outcomeOf (u .answer) ≡ outcomeOf (v .answer)
-figures-agree {l} {points} {m} first second S F {x} {x′} g g′ a depth h u v =
+figures-agree {l} {points} {m} first second C S F {x} {x′} g g′ a depth h u v =
     let l′ = withPoints l points in
     let axis = getD (smoothedAxes l) a 0 in
     let s = l .spacing in
@@ -122,12 +125,12 @@ figures-agree {l} {points} {m} first second S F {x} {x′} g g′ a depth h u v 
     let b = built first g in
     let b′ = built second g′ in
     let axes : x .axes ≡ x′ .axes = axes-are l m x b ∙ sym (axes-are l′ m x′ b′) in
-    let same = same-result first second S g g′ in
+    let same = same-result first second C S g g′ in
     let k = length (x′ .axes) in
     let place = positionOf (listOf 16 (λ i. getD (x′ .axes) i 0)) k axis in
     let p = x′ .selected in
     let row = row-figure depth (p .breaks) (withWidths (p .breaks) (p .coefficients)) k place (l .points) points (l .d) axis n s t
-    (λ i e. S i a e h) in
+    (points-unread s C t (l .points) points (l .d) n) (λ i e. S i a e h) in
     u .answered
     ∙ ap (λ (c : Curve). certifyOf c (slicesOf x) (l .points) n s t axis depth) (g .curve)
     ∙ certified-is l m x (first .mode) axis depth F b

@@ -6,3 +6,4 @@ pub mod Figures
 pub mod EvenParameters
 pub mod OtherRows
 pub mod WayBack
+pub mod AsListed

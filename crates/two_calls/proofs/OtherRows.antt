@@ -7,7 +7,7 @@ use lib.ListN.{getD}
 use lib.Ieee.{Float}
 use Rattle.window.specs.Cells.{Doubles}
 use Rattle.request.specs.declared.parameters.Spacing.{Spacing}
-use Rattle.request.specs.declared.parameters.Spacing.the-variants.{Listed, Even}
+use Rattle.request.specs.declared.parameters.Spacing.the-variants.{Listed, Even, Chord}
 use Rattle.curve.specs.declared.Curve.{Curve}
 use Rattle.curve.specs.Form.{Slices}
 use Rattle.figure.specs.Certify.{CertificateOutcome, certifyOf}
@@ -64,6 +64,7 @@ module _ {l l′ : Lane} (o : OtherRows l l′) where
           ap (λ (s : Spacing). told s (l′ .parameters)) e
           ∙ list-unread (withPoints l (l′ .points)) (l′ .parameters) (l .parameters) m work lent
           ∙ ap (λ (s : Spacing). told s (l .parameters)) (sym e)
+      go Chord e = absurd (o .no-chords e)
 
   certificate-same : (c : Curve) (s : Slices) (axis depth : ℕ)
       → certifyOf c s (l′ .points) (l′ .n) (l′ .spacing) (l′ .parameters) axis depth
@@ -80,6 +81,7 @@ module _ {l l′ : Lane} (o : OtherRows l l′) where
           ap (λ (t : Spacing). told t (l′ .parameters)) e
           ∙ certificate-unread c s (l′ .points) (l .n) (l′ .parameters) (l .parameters) axis depth
           ∙ ap (λ (t : Spacing). told t (l .parameters)) (sym e)
+      go Chord e = absurd (o .no-chords e)
 
   module _ {m : Limits} (second : BuildCall l′ m) where
     -- the second call as one of the first lane with other points
@@ -114,7 +116,7 @@ module _ {l l′ : Lane} (o : OtherRows l l′) where
       pub selected-agree : (r r′ : Report) → outcomeOf (first .answer) ≡ done r → outcomeOf (second .answer) ≡ done r′
           → SelectedAgree first second
       selected-agree r r′ e e′ =
-          let a = same.selected-agree first call (o .selected) r r′ e e′ in
+          let a = same.selected-agree first call (o .no-chords) (o .selected) r r′ e e′ in
           record {
             report = a .report;
             breaks = a .breaks;
@@ -140,5 +142,5 @@ module _ {l l′ : Lane} (o : OtherRows l l′) where
           → certificates.outcomeOf (u .answer) ≡ certificates.outcomeOf (v .answer)
       figures-agree F {x} {x′} g g′ a depth h u v =
           let axis = getD (smoothedAxes l) a 0 in
-          same-figures.figures-agree first call (o .selected) F g (call-gave g′) a depth h u
+          same-figures.figures-agree first call (o .no-chords) (o .selected) F g (call-gave g′) a depth h u
           (record { answer = v .answer; answered = v .answered ∙ certificate-same (second .curve) (slicesOf x′) axis depth })

@@ -9,6 +9,7 @@ use Rattle.window.specs.Cells.{at}
 use Rattle.window.proofs.Joined.{table-ap}
 use Rattle.bspline.specs.Segments.{Polynomial}
 use Rattle.curve.specs.Form.{withWidths}
+use Rattle.request.specs.declared.parameters.Spacing.the-variants.{Chord}
 use Rattle.smoothing.specs.Answer as answers
 use Rattle.smoothing.specs.Answer.Answer.{done}
 use Rattle.smoothing.specs.Request.{Lane, Limits, smoothedAxes, axisCount}
@@ -29,10 +30,10 @@ rows-same l points S =
     (λ i a. at points (i * l .d + getD (smoothedAxes l) a 0)) S
 
 module _ {l : Lane} {points : List Float} {m : Limits} (first : BuildCall l m) (second : BuildCall (withPoints l points) m)
-    (S : SelectedRowsSame l points) where
+    (C : l .spacing ≡ Chord → ⊥) (S : SelectedRowsSame l points) where
   -- the selected curve and the report of what they gave
   pub same-result : {x x′ : Result} → Gave first x → Gave second x′ → (x .selected ≡ x′ .selected) × (x .report ≡ x′ .report)
-  same-result {x} {x′} g g′ = unsmoothed-rows l points m x x′ (rows-same l points S) (built first g) (built second g′)
+  same-result {x} {x′} g g′ = unsmoothed-rows l points m x x′ C (rows-same l points S) (built first g) (built second g′)
 
   pub selected-agree : (r r′ : Report) → outcomeOf (first .answer) ≡ done r → outcomeOf (second .answer) ≡ done r′
       → SelectedAgree first second

@@ -8,7 +8,7 @@ use Prim.Native.Nat.{ℕ, _+_, _*_, _≤_, _<_}
 use lib.ListN.{getD}
 use lib.Ieee.{Float}
 use Rattle.window.specs.Cells.{at}
-use Rattle.request.specs.declared.parameters.Spacing.the-variants.{Listed}
+use Rattle.request.specs.declared.parameters.Spacing.the-variants.{Listed, Chord}
 use Rattle.curve.specs.declared.Curve.{Curve}
 use Rattle.curve.specs.declared.Mode.{Mode}
 use Rattle.smoothing.specs.Answer as answers
@@ -75,13 +75,14 @@ SelectedRowsSame l points = (i a : ℕ) → i < l .n → a < axisCount l
     → at (l .points) (i * l .d + getD (smoothedAxes l) a 0) ≡ at points (i * l .d + getD (smoothedAxes l) a 0)
 
 -- "Two .. requests with equal d, n, axes, tolerances .. and, bit for bit, equal selected rows and listed or even parameters"; a list beside
--- even parameters may be any
+-- even parameters may be any. "Chord spacing is outside this, as it reads every row".
 pub record OtherRows (l l′ : Lane) : Type 0 where
   pub d : l .d ≡ l′ .d
   pub n : l .n ≡ l′ .n
   pub axes : l .axes ≡ l′ .axes
   pub tolerance : l .tolerance ≡ l′ .tolerance
   pub spacing : l .spacing ≡ l′ .spacing
+  pub no-chords : l .spacing ≡ Chord → ⊥
   pub listed : l .spacing ≡ Listed → l .parameters ≡ l′ .parameters
   pub selected : SelectedRowsSame l (l′ .points)
 

@@ -14,7 +14,6 @@ use Rattle.window.proofs.Windows.{length-window, length-splice, window-same}
 use Rattle.window.specs.Rows.{listOf}
 use Rattle.window.proofs.Joined.{list-length, list-at, table-length}
 use Rattle.window.proofs.TwoParts.{Apart, both-first}
-use Rattle.request.specs.declared.parameters.Spacing.{Spacing}
 use Rattle.request.specs.Any.{any}
 use Rattle.request.specs.Parameters.{normalisedOf, lengthOf, anyFall, unreliable}
 use Rattle.smoothing.specs.Checks.{overflows}
@@ -32,15 +31,15 @@ any-ap f g zero h = refl
 any-ap f g (suc n) h = rw (any-ap f g n (λ i l. h i (omega arith)), h n (omega arith))
 
 -- 6, on the stored parameters
-pub unreliable-is : (spacing : Spacing) (list : List Float) (n : ℕ) (whole : Float) (s : List Float) → whole ≡ lengthOf spacing list n
-    → s ≡ sOf spacing list n
-    → (not (finite whole) || anyFall (length s) (at s)) ≡ unreliable spacing list n
+pub unreliable-is : (list : List Float) (n : ℕ) (whole : Float) (s : List Float) → whole ≡ lengthOf list n
+    → s ≡ sOf list n
+    → (not (finite whole) || anyFall (length s) (at s)) ≡ unreliable list n
 unfolding unreliable
-unreliable-is spacing list n whole s e h =
-    let f = normalisedOf spacing list n in
+unreliable-is list n whole s e h =
+    let f = normalisedOf list n in
     let l : length s ≡ n = ap length h ∙ list-length n f in
     let same : (i : ℕ) → i < n → at s i ≡ f i = λ i g. ap (λ (v : List Float). at v i) h ∙ list-at n f nan i g in
-    rw (e, l) (ap (λ (b : Bool). not (finite (lengthOf spacing list n)) || b)
+    rw (e, l) (ap (λ (b : Bool). not (finite (lengthOf list n)) || b)
     (any-ap (λ i. le (at s (i + 1)) (at s i)) (λ i. le (f (i + 1)) (f i)) (n - 1)
     (λ i g. (λ j. le (same (i + 1) (omega arith) j) (same i (omega arith) j)))))
 
@@ -53,14 +52,14 @@ overflow-is q y e = ap (λ (v : List Float). any (length v) (λ i. not (finite (
 pub front-long : (n : ℕ) (w : List Float) → n ≤ length w → length (window 0 n w) ≡ n
 front-long n w h = length-window 0 n w (omega arith) h ∙ omega arith
 
--- v is what `put_parameters` ensures of them
-pub record Put (spacing : Spacing) (list : List Float) (n : ℕ) (w v : List Float) : Type 0 where
+-- v is what `put_parameters` ensures of them, of which there are list m for m waypoints
+pub record Put (list : ℕ → List Float) (n : ℕ) (w v : List Float) : Type 0 where
   pub fits : n ≤ length w
-  pub put : v ≡ sOf spacing list (length (window 0 n w))
+  pub put : v ≡ sOf (list (length (window 0 n w))) (length (window 0 n w))
 
-module _ {spacing : Spacing} {list : List Float} {n : ℕ} {w v : List Float} (P : Put spacing list n w v) where
-  put-is : v ≡ sOf spacing list n
-  put-is = P .put ∙ ap (sOf spacing list) (front-long n w (P .fits))
+module _ {list : ℕ → List Float} {n : ℕ} {w v : List Float} (P : Put list n w v) where
+  put-is : v ≡ sOf (list n) n
+  put-is = P .put ∙ ap (λ (m : ℕ). sOf (list m) m) (front-long n w (P .fits))
 
   pub put-count : length v ≡ n - 0
   put-count = ap length put-is ∙ list-length n _ ∙ omega arith
@@ -68,7 +67,7 @@ module _ {spacing : Spacing} {list : List Float} {n : ℕ} {w v : List Float} (P
   pub put-long : length (splice 0 n v w) ≡ length w
   put-long = length-splice 0 n v w (omega arith) (P .fits) put-count
 
-  pub put-read : window 0 n (splice 0 n v w) ≡ sOf spacing list n
+  pub put-read : window 0 n (splice 0 n v w) ≡ sOf (list n) n
   put-read = window-same 0 n v w (omega (arith, P .fits)) put-count ∙ put-is
 
   -- the part that then takes m cells of rows
@@ -76,7 +75,7 @@ module _ {spacing : Spacing} {list : List Float} {n : ℕ} {w v : List Float} (P
   rows-long b m g = length-window b (b + m) (splice 0 n v w) (omega arith) (omega (arith, put-long)) ∙ omega arith
 
   -- the parameters once they are written
-  pub put-stays : {b f : ℕ} {z : List Float} → Apart 0 n b f v z w → window 0 (0 + n) (splice b f z (splice 0 n v w)) ≡ sOf spacing list n
+  pub put-stays : {b f : ℕ} {z : List Float} → Apart 0 n b f v z w → window 0 (0 + n) (splice b f z (splice 0 n v w)) ≡ sOf (list n) n
   put-stays {b} {f} {z} A =
       ap (λ (i : ℕ). window 0 i (splice b f z (splice 0 n v w))) {x = 0 + n} {y = n} (omega arith) ∙ both-first A ∙ put-is
 

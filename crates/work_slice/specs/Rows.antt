@@ -7,7 +7,6 @@ use lib.ListN.{length, drop, take}
 use lib.Ieee.{Float}
 use Rattle.window.specs.Rows.{listOf}
 use Rattle.bspline.specs.Segments.{Polynomial}
-use Rattle.request.specs.declared.parameters.Spacing.{Spacing}
 use Rattle.request.specs.Parameters.{normalisedOf}
 use Rattle.smoothing.specs.Answer.{Answer}
 use Rattle.smoothing.specs.Answer.Answer.{done}
@@ -16,8 +15,8 @@ use Rattle.smoothing.specs.Interpolate.{interpolateOf}
 use Rattle.interpolation.specs.Memory.{polynomialIn}
 
 -- `s`, n normalised parameters
-abbrev pub sOf : Spacing → List Float → ℕ → List Float
-sOf spacing parameters n = listOf n (normalisedOf spacing parameters n)
+abbrev pub sOf : List Float → ℕ → List Float
+sOf parameters n = listOf n (normalisedOf parameters n)
 
 -- the polynomial of the other axes, j of them: none where j is 0
 abbrev pub otherIn : ℕ → ℕ → ℕ → ℕ → List Float → Polynomial Float
@@ -29,8 +28,8 @@ abbrev pub unitsFrom : ℕ → ℕ → List Float → ℕ → List ℕ → List 
 unitsFrom n k points d axes eps = record { rows = gathered points d n (take k axes); eps = take k eps }
 
 -- what is smoothed of them
-abbrev pub taskFrom : ℕ → ℕ → Spacing → List Float → Units → Task
-taskFrom n k spacing parameters u = taskOf n k (sOf spacing parameters n) u
+abbrev pub taskFrom : ℕ → ℕ → List Float → Units → Task
+taskFrom n k parameters u = taskOf n k (sOf parameters n) u
 
 -- `interpolate(points, &s, &other)`, if there is an other axis: j of them, with these rows
 abbrev pub otherWith : ℕ → ℕ → List Float → List Float → Answer (Polynomial Float)
@@ -40,8 +39,8 @@ otherWith n j s rows =
     cond (eqb j 0) none some
 
 -- with the rows of the first j of `axes`
-abbrev pub otherFrom : ℕ → ℕ → Spacing → List Float → List Float → ℕ → List ℕ → Answer (Polynomial Float)
-otherFrom n j spacing parameters points d axes = otherWith n j (sOf spacing parameters n) (gathered points d n (take j axes))
+abbrev pub otherFrom : ℕ → ℕ → List Float → List Float → ℕ → List ℕ → Answer (Polynomial Float)
+otherFrom n j parameters points d axes = otherWith n j (sOf parameters n) (gathered points d n (take j axes))
 
 -- l with v in its first cells, its "used cells"; the others are unchanged
 abbrev pub onto : List Float → List Float → List Float

@@ -3,6 +3,7 @@ ghost use mathlib.Core.Path.{_≡_};
 ghost use Prim.Native.Nat.{_+_, _*_, _≤_, _<_};
 ghost use lib.ListN.{length};
 ghost use Rattle.request.specs.declared.parameters.Spacing.the-variants.{Listed};
+ghost use Rattle.request.specs.Parameters.{parameterList};
 ghost use Rattle.smoothing.specs.Answer.{unless};
 ghost use Rattle.gathering.specs.Rows.{Below};
 ghost use Rattle.work_slice.specs.Rows.{otherIn, otherFrom};
@@ -27,7 +28,8 @@ pub fn interpolate_others(
         × (d ≤ 16) × (n * d ≤ length (now points)) × Below (now axes) j d ⌝ }
     requires { ⌜ (spacing ≡ Listed → n ≤ length (now parameters)) ⌝ }
     ensures { λ r. ⌜ unless (r .number) (otherIn n j room (r .segments) (now (part .exit)))
-        ≡ otherFrom n j spacing (now (parameters .entry)) (now (points .entry)) d (now (axes .entry)) ⌝ }
+        ≡ otherFrom n j (parameterList spacing (now (parameters .entry)) (now (points .entry)) d n) (now (points .entry)) d
+        (now (axes .entry)) ⌝ }
     ensures { λ r. ⌜ r .segments < n ⌝ }
 {
     if j == 0 {
@@ -37,7 +39,7 @@ pub fn interpolate_others(
         };
     }
     let y_end = room + n * j;
-    gathering::put_parameters(&mut part[0..n], spacing, parameters);
+    gathering::put_parameters(&mut part[0..n], spacing, parameters, points, d);
     gathering::put_rows(&mut part[room..y_end], points, d, n, axes, j);
     let p = Nodes {
         samples: n,

@@ -3,6 +3,7 @@ ghost use mathlib.Core.Path.{_≡_};
 ghost use Prim.Native.Nat.{_*_, _≤_};
 ghost use lib.ListN.{length};
 ghost use Rattle.request.specs.declared.parameters.Spacing.the-variants.{Listed};
+ghost use Rattle.request.specs.Parameters.{parameterList};
 ghost use Rattle.refinement.specs.Memory.{Roomy, memoryAt, taskIn};
 ghost use Rattle.checks.specs.Checks.{refusalAfter};
 ghost use Rattle.gathering.specs.Rows.{Below};
@@ -25,17 +26,19 @@ pub fn prepare(
     requires { ⌜ Roomy p (length (now work)) × (d ≤ 16) × (p .samples ≤ 20000) × (p .samples * d ≤ length (now points)) × Below
         (now axes) (p .axes) d ⌝ }
     requires { ⌜ (spacing ≡ Listed → p .samples ≤ length (now parameters)) ⌝ }
-    ensures { λ r. ⌜ r ≡ refusalAfter spacing (now (parameters .entry)) (taskFrom (p .samples) (p .axes) spacing
-        (now (parameters .entry)) (unitsFrom (p .samples) (p .axes) (now (points .entry)) d (now (axes .entry)) (now (eps .entry)))) ⌝ }
-    ensures { λ r. ⌜ (r ≡ 0 → taskIn p (memoryAt p (now (work .exit))) ≡ taskFrom (p .samples) (p .axes) spacing
-        (now (parameters .entry)) (unitsFrom (p .samples) (p .axes) (now (points .entry)) d (now (axes .entry)) (now (eps .entry)))) ⌝ }
+    ensures { λ r. ⌜ r ≡ refusalAfter (parameterList spacing (now (parameters .entry)) (now (points .entry)) d (p .samples))
+        (taskFrom (p .samples) (p .axes) (parameterList spacing (now (parameters .entry)) (now (points .entry)) d (p .samples))
+        (unitsFrom (p .samples) (p .axes) (now (points .entry)) d (now (axes .entry)) (now (eps .entry)))) ⌝ }
+    ensures { λ r. ⌜ (r ≡ 0 → taskIn p (memoryAt p (now (work .exit))) ≡ taskFrom (p .samples) (p .axes)
+        (parameterList spacing (now (parameters .entry)) (now (points .entry)) d (p .samples))
+        (unitsFrom (p .samples) (p .axes) (now (points .entry)) d (now (axes .entry)) (now (eps .entry)))) ⌝ }
 {
     let n = p.samples;
     let k = p.axes;
     let e = p.room;
     let y_end = e + n * k;
-    gathering::put_parameters(&mut work[0..n], spacing, parameters);
-    let whole = request::parameters::length(spacing, parameters, n);
+    gathering::put_parameters(&mut work[0..n], spacing, parameters, points, d);
+    let whole = request::parameters::length(spacing, parameters, points, d, n);
     if refusals::is_unreliable(whole, &work[0..n]) {
         return 6;
     }

@@ -7,6 +7,7 @@ use borrow.Author.Needs.{needs}
 use lib.ListN.{length, take, drop}
 use lib.Ieee.{Float}
 use Rattle.bspline.specs.Segments.{Polynomial}
+use Rattle.request.specs.Parameters.{parameterList}
 use Rattle.smoothing.specs.Answer.{Answer}
 use Rattle.smoothing.specs.Request.{Limits}
 use Rattle.smoothing.specs.Rows.{Task, Units}
@@ -26,8 +27,12 @@ limits s = limitsOf (s .args .limits)
 abbrev units : tie.Start → Units
 units s = let a = s .args in unitsFrom (a .p .samples) (a .p .axes) (a .points .now) (a .d) (a .axes .now) (a .eps .now)
 
+-- the parameters
+abbrev listed : tie.Start → List Float
+listed s = let a = s .args in parameterList (a .spacing) (a .parameters .now) (a .points .now) (a .d) (a .p .samples)
+
 abbrev task : tie.Start → Task
-task s = let a = s .args in taskFrom (a .p .samples) (a .p .axes) (a .spacing) (a .parameters .now) (units s)
+task s = let a = s .args in taskFrom (a .p .samples) (a .p .axes) (listed s) (units s)
 
 -- 6 and 7 were asked: where it began
 abbrev first : tie.After-prepare → tie.Start
@@ -47,7 +52,7 @@ returns c =
     let a = s .args in
     let r = p .prepare in (
       ended-refused _ _ (r .result) (c .ended .ensures)
-          ∙ sym (stops (a .spacing) (a .parameters .now) (limits s) (task s) (units s) _ (r .result) (r .ensures .0)
+          ∙ sym (stops (listed s) (limits s) (task s) (units s) _ (r .result) (r .ensures .0)
           (c .before .if1 .taken)),
       λ e. absurd (refused-not-done _ _ (c .ended .ensures) e),
     )
@@ -68,15 +73,15 @@ module _ (c : tie.After-smooth) where
   begun = first asked
 
   abbrev other : Answer (Polynomial Float)
-  other = let a = begun .args in otherFrom (a .p .samples) (a .j) (a .spacing) (a .parameters .now) (a .points .now) (a .d) (a .rest .now)
+  other = let a = begun .args in otherFrom (a .p .samples) (a .j) (listed begun) (a .points .now) (a .d) (a .rest .now)
 
   none : asked .prepare .result ≡ 0
   none = omega (arith, c .before .before .if1 .left)
 
-  passed : computedOf (begun .args .spacing) (begun .args .parameters .now) (limits begun) (task begun) (units begun) other
+  passed : computedOf (listed begun) (limits begun) (task begun) (units begun) other
       ≡ bothFrom (limits begun) (task begun) (units begun) other
   passed =
-      goes (begun .args .spacing) (begun .args .parameters .now) (limits begun) (task begun) (units begun) other (asked .prepare .result)
+      goes (listed begun) (limits begun) (task begun) (units begun) other (asked .prepare .result)
       (asked .prepare .ensures .0) none
 
   smoothed : endingOf (c .smooth .result .ending) (smoothedAt (begun .args .p) (c .smooth .result) (c .smooth .last .0))

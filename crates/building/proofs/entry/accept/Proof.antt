@@ -12,10 +12,10 @@ use Rattle.building.proofs.entry.accept.Tie as tie
 
 returns : tie.Need-returns
 returns c =
-    let a = c .before .before .before .before .before .before .before .before .args in
+    let a = c .before .before .before .before .before .before .before .before .before .args in
     let o = c .before .before .before .others-of .ensures in
-    let s = c .before .parameter .ensures in
-    let e = c .parameter2 .ensures in (
+    let s = c .before .first .ensures (a .points .now) (a .d) in
+    let e = c .last .ensures in (
       λ i. done (record {
         segments = a .r .computed .count - 5;
         «interpolated_segments» = o i;
@@ -42,6 +42,5 @@ accept-spec =
     (λ c. search needs)
     (λ c κs. search needs)
     (λ c κs. search needs)
-    (λ c. search needs)
     (λ c κs. search needs)
     returns)

@@ -119,7 +119,8 @@ accept-requires c κs =
     let h = c .before .before .before .before .before .before .before .before .before in
     let t = h .before .before .before .before .before .before .before .before .before in
     let P = places t in
-    (P .two, begun t .pre .0 .n-most, omega (arith, P .roomy .six), P .listed)
+    let cells = begun t .pre .0 .points-are in
+    (P .two, begun t .pre .0 .n-most, omega (arith, P .roomy .six), omega (arith, cells), P .listed)
 
 -- the results were written
 abbrev roomed : tie.After-accept → tie.After-room-of

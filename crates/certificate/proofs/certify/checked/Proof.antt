@@ -58,6 +58,7 @@ misplaced-requires c κs =
     let a = c .before .before .before .before .before .before .before .before .before .before .before .before .args in (
       waypoint-count (a .curve .d) (a .n) (a .points .now) (sym (c .before .unfit .ensures) ∙ c .if5 .left),
       c .before .before .before .if3 .left,
+      omega (arith, c .before .before .if4 .left),
     )
 
 returns-6 : tie.Need-returns-6
@@ -76,10 +77,12 @@ returns-6 c = rw (
 unreliable-requires : tie.Need-unreliable-requires
 unreliable-requires c κs =
     let a = c .before .before .before .before .before .before .before .before .before .before .before .before .before .before .args in
-    let count = listed-count (a .spacing) (a .parameters .now) (a .n) (sym (c .before .misplaced .ensures) ∙ c .if6 .left) in (
+    let count = listed-count (a .spacing) (a .parameters .now) (a .points .now) (a .curve .d) (a .n)
+    (sym (c .before .misplaced .ensures) ∙ c .if6 .left) in (
       waypoint-count (a .curve .d) (a .n) (a .points .now) (sym (c .before .before .before .unfit .ensures) ∙ c .before .before .if5
           .left),
       c .before .before .before .before .before .if3 .left,
+      omega (arith, c .before .before .before .before .if4 .left),
       λ e. let l = count e in omega arith,
     )
 
@@ -189,7 +192,7 @@ walk-requires c κs =
         waypoint-count (a .curve .d) (a .n) (a .points .now) (A .points-fit),
         A .n-domain,
         A .cells,
-        listed-count (a .spacing) (a .parameters .now) (a .n) (A .placed),
+        listed-count (a .spacing) (a .parameters .now) (a .points .now) (a .curve .d) (a .n) (A .placed),
       ),
       (
         breaks-rise (a .curve) s (a .points .now) (a .n) (a .spacing) (a .parameters .now) (a .axis) (a .depth) A,

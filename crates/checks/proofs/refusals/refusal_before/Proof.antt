@@ -95,7 +95,7 @@ misplaced-requires : tie.Need-misplaced-requires
 misplaced-requires c κs =
     let p = c .before .before .before .before .before .before .before .before in
     let s = p .before .before .before .before .before .before in
-    (waypoint-count (s .args .d) (s .args .n) (s .args .points .now) (fit p), s .pre .1)
+    (waypoint-count (s .args .d) (s .args .n) (s .args .points .now) (fit p), s .pre .1, s .pre .2)
 
 returns-6 : tie.Need-returns-6
 unfolding refusalBefore

@@ -41,7 +41,7 @@ asked s axes tolerance spacing =
 
 abbrev lane : tie.Start → Lane
 lane s =
-    let a = s .args in asked s (chosenAxes (a .all)) (chosenTolerance (a .uniform) (a .tolerance)) (chosenSpacing (a .even))
+    let a = s .args in asked s (chosenAxes (a .all)) (chosenTolerance (a .uniform) (a .tolerance)) (chosenSpacing (a .spacing))
 
 abbrev answered : tie.Start → Axes → Tolerance → Spacing → Answer Result
 answered s axes tolerance spacing = answerTo (asked s axes tolerance spacing) (limits s) (s .args .work .now) (lent s)
@@ -60,7 +60,7 @@ returns c =
     let b = g .build in
     let n = h .number in
     let e : answered s (x .axes-of .result) (t .tolerance-of .result) (p .spacing-of .result)
-    ≡ answered s (chosenAxes (a .all)) (chosenTolerance (a .uniform) (a .tolerance)) (chosenSpacing (a .even)) =
+    ≡ answered s (chosenAxes (a .all)) (chosenTolerance (a .uniform) (a .tolerance)) (chosenSpacing (a .spacing)) =
     λ i. answered s (x .axes-of .ensures i) (t .tolerance-of .ensures i) (p .spacing-of .ensures i) in
     let number = n .ensures ∙ ap numberOf (b .ensures .0) ∙ ap (λ (z : Answer Result). numberOf (reported z)) e in
     let all = all-written (m .mode-of .result) (a .d) _ (outcomeOf (b .result .answer)) (b .result .curve) (n .result) (b .ensures .0)

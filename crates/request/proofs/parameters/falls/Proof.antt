@@ -1,53 +1,79 @@
--- `parameters::falls` meets its contract. The invariant: none of the first i tests passed.
+-- `parameters::falls` meets its contract. The invariant: up to i, no normalised parameter is at or below the one before it.
 use mathlib.Core.Bool.{Bool, false}
-use mathlib.Core.Path.{_≡_, refl, sym}
+use mathlib.Core.Path.{_≡_, refl, sym, _∙_}
+use mathlib.Core.List.{List}
 use Prim.Native.Nat.{ℕ, _+_, _-_, _≤_}
 use native.Mathlib.Omega.{arith}
 use borrow.Author.Needs.{needs}
-use lib.Ieee.{le}
+use lib.Ieee.{Float, binary64, div, sub, le}
+use Rattle.window.specs.Cells.{at}
 use Rattle.request.specs.Any.{any}
-use Rattle.request.specs.Parameters.{valueOf}
+use Rattle.request.specs.Parameters.{normalisedOf, parameterList}
 use Rattle.request.proofs.Anys.{any-next, any-found, le-same}
 use Rattle.request.proofs.parameters.falls.Statement.{statement}
 use Rattle.request.proofs.parameters.falls.Tie as tie
 
 abbrev Inv-loop : tie.InvT-loop
-Inv-loop spacing list n normal previous₀ i₀ previous i =
+Inv-loop spacing list points d n start range current₀ previous₀ i₀ current previous i =
+    let p = parameterList spacing list points d n in
     (i ≤ n - 1)
-    × (previous ≡ valueOf spacing list n normal i)
-    × (any i (λ j. le (valueOf spacing list n normal (j + 1)) (valueOf spacing list n normal j)) ≡ false)
+    × (current ≡ at p i)
+    × (previous ≡ normalisedOf p n i)
+    × (any i (λ j. le (normalisedOf p n (j + 1)) (normalisedOf p n j)) ≡ false)
 
 abbrev μ-loop : tie.MeasureT-loop
-μ-loop spacing list n normal previous₀ i₀ previous i = n - i
+μ-loop spacing list points d n start range current₀ previous₀ i₀ current previous i = n - i
+
+-- the parameters, and normalised
+abbrev p : tie.Start Inv-loop μ-loop → List Float
+p s = let a = s .args in parameterList (a .spacing) (a .list .now) (a .points .now) (a .d) (a .n)
+
+abbrev x : tie.Start Inv-loop μ-loop → ℕ → Float
+x s = normalisedOf (p s) (s .args .n)
+
+-- a number, normalised as the code does it
+normal : (s : tie.Start Inv-loop μ-loop) (v : Float) (i : ℕ) → v ≡ at (p s) i
+    → div binary64 (sub binary64 v (s .args .start)) (s .args .range) ≡ x s i
+unfolding normalisedOf
+normal s v i e = λ j. div binary64 (sub binary64 (e j) (s .pre .1 .0 j)) (s .pre .1 .1 j)
 
 loop-holds : tie.Need-loop-holds Inv-loop μ-loop
 unfolding any
-loop-holds c = (omega arith, c .value .ensures, refl)
+loop-holds c =
+    let s = c .before .before in
+    (omega arith, s .pre .1 .0, normal s (s .args .start) 0 (s .pre .1 .0), refl)
 
--- the test of value j
-abbrev test : tie.At-loop Inv-loop μ-loop → ℕ → Bool
-test c j =
-    let a = c .before .before .before .args in
-    le (valueOf (a .spacing) (a .list .now) (a .n) (a .normal) (j + 1)) (valueOf (a .spacing) (a .list .now) (a .n) (a .normal) j)
+following-requires : tie.Need-following-requires Inv-loop μ-loop
+following-requires c κs =
+    let s = c .before .before .before .before in
+    ((omega arith, omega arith, omega arith, s .pre .0 .3), c .before .loop .inv .1)
+
+-- the next one
+abbrev test : tie.Start Inv-loop μ-loop → ℕ → Bool
+test s j = le (x s (j + 1)) (x s j)
 
 returns : tie.Need-returns Inv-loop μ-loop
 returns c =
-    let a = c .before .before .before .before .before .before .args in
     let l = c .before .before .before .loop in
-    let fell = le-same _ _ _ _ (c .before .value2 .ensures) (l .inv .1) (c .if1 .taken) in
-    sym (any-found (test (c .before .before .before)) (a .n - 1) (l .i) (c .before .before .loop-test .taken) fell)
+    let s = c .before .before .before .before .before .before in
+    let e = normal s _ (l .i + 1) (c .before .following .ensures) in
+    sym (any-found (test s) (s .args .n - 1) (l .i) (c .before .before .loop-test .taken)
+    (le-same _ _ _ _ e (l .inv .2) (c .if1 .taken)))
 
 loop-again : tie.Need-loop-again Inv-loop μ-loop
 loop-again c =
     let l = c .before .before .before .loop in
-    let rose = le-same _ _ _ _ (c .before .value2 .ensures) (l .inv .1) (c .if1 .left) in
-    (omega arith, c .before .value2 .ensures, any-next (test (c .before .before .before)) (l .i) (l .inv .2) rose)
+    let s = c .before .before .before .before .before .before in
+    let f = c .before .following .ensures in
+    let e = normal s _ (l .i + 1) f in
+    (omega arith, f, e, any-next (test s) (l .i) (l .inv .3) (le-same _ _ _ _ e (l .inv .2) (c .if1 .left)))
 
 returns-2 : tie.Need-returns-2 Inv-loop μ-loop
 returns-2 c =
     let l = c .before .loop in
-    let e : l .i ≡ c .before .before .before .before .args .n - 1 = omega arith in
-    sym (rw e at (l .inv .2))
+    let s = c .before .before .before .before in
+    let e : l .i ≡ s .args .n - 1 = omega arith in
+    sym (rw e at (l .inv .3))
 
 pub falls-spec : {M : Type 1} → statement M
 falls-spec =
@@ -55,11 +81,9 @@ falls-spec =
     (tie.spec
     Inv-loop
     μ-loop
-    (λ c κs. search needs)
     loop-holds
     (λ c. omega arith)
-    (λ c. omega arith)
-    (λ c κs. search needs)
+    following-requires
     returns
     (λ c. omega arith)
     (λ c. omega arith)

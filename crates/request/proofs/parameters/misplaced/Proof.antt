@@ -1,44 +1,33 @@
 -- `parameters::misplaced` meets its contract: by cases on the tests, in their order.
-use mathlib.Core.Path.{sym, _∙_}
+use mathlib.Core.Path.{_≡_, sym, _∙_}
+use mathlib.Core.Bool.{not}
 use native.Mathlib.Omega.{arith}
 use borrow.Author.Needs.{needs}
-use Rattle.request.specs.Parameters.{misplaced}
+use lib.Dec.{eqb}
+use lib.ListN.{length}
+use Rattle.request.specs.Parameters.{misplaced, parameterList}
 use Rattle.request.proofs.Counts.{counted}
 use Rattle.request.proofs.parameters.misplaced.Statement.{statement}
 use Rattle.request.proofs.parameters.misplaced.Tie as tie
 
+-- the count, as it was tested
+tested : (c : tie.After-miscounted) → let a = c .before .before .before .args in
+    c .miscounted .result ≡ not (eqb (length (parameterList (a .spacing) (a .list .now) (a .points .now) (a .d) (a .n))) (a .n))
+tested c = c .miscounted .ensures _ _
+
 returns : tie.Need-returns
 unfolding misplaced
-returns c = rw (sym (c .before .miscounted .ensures) ∙ c .if1 .taken)
+returns c = rw (sym (tested (c .before)) ∙ c .if1 .taken)
 
-not-finite-requires : tie.Need-not-finite-requires
-not-finite-requires c κs =
-    let a = c .before .before .before .args in
-    let e = counted (a .spacing) (a .list .now) (a .n) (sym (c .before .miscounted .ensures) ∙ c .if1 .left) in
-    (omega arith, omega arith, λ s. let l = e s in omega arith)
+stray-requires : tie.Need-stray-requires
+stray-requires c κs =
+    let a = c .before .before .before .before .args in
+    let e = counted (a .spacing) (a .list .now) (a .points .now) (a .d) (a .n) (sym (tested (c .before)) ∙ c .if1 .left) in
+    (omega arith, omega arith, omega arith, λ s. let l = e s in omega arith)
 
 returns-2 : tie.Need-returns-2
 unfolding misplaced
-returns-2 c = rw (
-  sym (c .before .before .before .miscounted .ensures) ∙ c .before .before .if1 .left,
-  sym (c .before .not-finite .ensures)
-      ∙ c .if2 .taken,
-)
-
-falls-requires : tie.Need-falls-requires
-falls-requires c κs =
-    let a = c .before .before .before .before .before .args in
-    let e = counted (a .spacing) (a .list .now) (a .n) (sym (c .before .before .before .miscounted .ensures)
-    ∙ c .before .before .if1 .left) in
-    (omega arith, omega arith, λ s. let l = e s in omega arith)
-
-returns-3 : tie.Need-returns-3
-unfolding misplaced
-returns-3 c = rw (
-  sym (c .before .before .before .before .miscounted .ensures)
-      ∙ c .before .before .before .if1 .left,
-  sym (c .before .before .not-finite .ensures) ∙ c .before .if2 .left,
-) (c .falls .ensures)
+returns-2 c = rw (sym (tested (c .before .before)) ∙ c .before .if1 .left) (c .stray .ensures)
 
 pub misplaced-spec : {M : Type 1} → statement M
-misplaced-spec = tie.close (tie.spec (λ c κs. search needs) returns not-finite-requires returns-2 falls-requires returns-3)
+misplaced-spec = tie.close (tie.spec (λ c κs. search needs) returns stray-requires returns-2)

@@ -1,9 +1,16 @@
 -- `parameters::unreliable` meets its contract: by cases on the length's test.
-use mathlib.Core.Path.{sym, _∙_}
+use mathlib.Core.Path.{sym, ap, _∙_}
+use mathlib.Core.Bool.{not}
 use borrow.Author.Needs.{needs}
+use lib.Ieee.Scale.{finite}
 use Rattle.request.specs.Parameters.{unreliable}
 use Rattle.request.proofs.parameters.unreliable.Statement.{statement}
 use Rattle.request.proofs.parameters.unreliable.Tie as tie
+
+falls-requires : tie.Need-falls-requires
+falls-requires c κs =
+    let s = c .before .before .before .before .before .before in
+    (s .pre, (c .before .before .before .first .ensures _ _, c .before .before .length .ensures))
 
 returns : tie.Need-returns
 unfolding unreliable
@@ -15,4 +22,5 @@ unfolding unreliable
 returns-2 c = rw (← c .before .before .length .ensures, sym (c .before .is-finite .ensures) ∙ c .if1 .left)
 
 pub unreliable-spec : {M : Type 1} → statement M
-unreliable-spec = tie.close (tie.spec (λ c κs. search needs) (λ c κs. search needs) (λ c κs. search needs) returns returns-2)
+unreliable-spec =
+    tie.close (tie.spec (λ c κs. search needs) (λ c κs. search needs) (λ c κs. search needs) falls-requires returns returns-2)

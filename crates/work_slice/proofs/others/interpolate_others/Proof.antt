@@ -10,6 +10,7 @@ use borrow.Author.Tests.{ne-eqb}
 use lib.ListN.{length, take}
 use lib.Ieee.{Float}
 use Rattle.window.proofs.TwoParts.{Apart, both-length, both-second}
+use Rattle.request.specs.Parameters.{parameterList}
 use Rattle.smoothing.specs.Answer.{unless}
 use Rattle.smoothing.specs.Interpolate.{interpolateOf}
 use Rattle.work_slice.proofs.Preparing.{cells-few, front-long, Put, put-count, put-long, rows-long, put-stays}
@@ -33,14 +34,15 @@ put-parameters-requires : tie.Need-put-parameters-requires
 put-parameters-requires c κs =
     let s = c .before .before .before .before .before in
     let l = front-long (s .args .n) (s .args .part .now) (front s) in
-    (omega (arith, l), omega (arith, l), λ e. omega (arith, l, s .pre .1 e))
+    let m = ap (λ (n : ℕ). n * s .args .d) l in
+    (omega (arith, l), omega (arith, l), omega (arith, m), λ e. omega (arith, l, s .pre .1 e))
 
 -- the parameters were put: where it began
 abbrev begun : tie.After-put-parameters → tie.Start
 begun c = c .before .before .before .before .before .before
 
 put : (c : tie.After-put-parameters) → let a = begun c .args in
-    Put (a .spacing) (a .parameters .now) (a .n) (a .part .now) (c .put-parameters .last .0)
+    Put (parameterList (a .spacing) (a .parameters .now) (a .points .now) (a .d)) (a .n) (a .part .now) (c .put-parameters .last .0)
 put c = record { fits = front (begun c); put = c .put-parameters .ensures }
 
 part-put-rows-end : tie.Need-part-put-rows-end

@@ -9,7 +9,7 @@ use borrow.Author.Needs.{needs}
 use lib.ListN.{length}
 use lib.Ieee.{Float}
 use Rattle.window.proofs.TwoParts.{Apart, both-length, both-second}
-use Rattle.request.specs.Parameters.{unreliable}
+use Rattle.request.specs.Parameters.{parameterList, unreliable}
 use Rattle.smoothing.specs.Rows.{Task, Units, taskOf}
 use Rattle.smoothing.specs.Checks.{overflows}
 use Rattle.refinement.specs.Memory.{Roomy}
@@ -21,8 +21,12 @@ use Rattle.work_slice.proofs.selected.prepare.Tie as tie
 abbrev units : tie.Start → Units
 units s = let a = s .args in unitsFrom (a .p .samples) (a .p .axes) (a .points .now) (a .d) (a .axes .now) (a .eps .now)
 
+-- the parameters of m waypoints
+abbrev listed : tie.Start → ℕ → List Float
+listed s = let a = s .args in parameterList (a .spacing) (a .parameters .now) (a .points .now) (a .d)
+
 abbrev task : tie.Start → Task
-task s = let a = s .args in taskFrom (a .p .samples) (a .p .axes) (a .spacing) (a .parameters .now) (units s)
+task s = let a = s .args in taskFrom (a .p .samples) (a .p .axes) (listed s (a .p .samples)) (units s)
 
 abbrev cells : tie.Start → ℕ
 cells s = s .args .p .samples * s .args .p .axes
@@ -45,25 +49,27 @@ put-parameters-requires : tie.Need-put-parameters-requires
 put-parameters-requires c κs =
     let s = c .before .before .before .before in
     let l = front-long (s .args .p .samples) (s .args .work .now) (front s) in
-    (omega (arith, l, room s .two), omega (arith, l), λ e. omega (arith, l, s .pre .1 e))
+    let m = ap (λ (n : ℕ). n * s .args .d) l in
+    (omega (arith, l, room s .two), omega (arith, l), omega (arith, m), λ e. omega (arith, l, s .pre .1 e))
 
 -- the parameters were put: where it began
 abbrev begun : tie.After-put-parameters → tie.Start
 begun c = c .before .before .before .before .before
 
 put : (c : tie.After-put-parameters) → let a = begun c .args in
-    Put (a .spacing) (a .parameters .now) (a .p .samples) (a .work .now) (c .put-parameters .last .0)
+    Put (listed (begun c)) (a .p .samples) (a .work .now) (c .put-parameters .last .0)
 put c = record { fits = front (begun c); put = c .put-parameters .ensures }
 
 -- 6, as it was tested
-tested : (c : tie.After-is-unreliable) → let a = begun (c .before .before .before .before .before .before) .args in
-    c .is-unreliable .result ≡ unreliable (a .spacing) (a .parameters .now) (a .p .samples)
+tested : (c : tie.After-is-unreliable) → let s = begun (c .before .before .before .before .before .before) in
+    let n = s .args .p .samples in
+    c .is-unreliable .result ≡ unreliable (listed s n) n
 tested c =
     let v = c .before .before .before .before .before .before in
     let a = begun v .args in
     let l = c .before .before .before .length in
     c .is-unreliable .ensures
-    ∙ unreliable-is (a .spacing) (a .parameters .now) (a .p .samples) (l .result) _ (l .ensures)
+    ∙ unreliable-is (listed (begun v) (a .p .samples)) (a .p .samples) (l .result) _ (l .ensures)
     (put-read (put v))
 
 returns : tie.Need-returns
