@@ -79,10 +79,12 @@ fn checked(
     if points::unfit(d, n, points) {
         return Certificate::Refused(Refusal::BadPoints);
     }
-    if parameters::misplaced(spacing, parameters, points, d, n) {
+    let placement = parameters::placed(spacing, parameters, points, d, n);
+    if placement.misplaced {
         return Certificate::Refused(Refusal::BadParameters);
     }
-    if parameters::unreliable(spacing, parameters, points, d, n) {
+    let range = placement.range;
+    if parameters::unreliable(spacing, parameters, points, d, n, range) {
         return Certificate::Refused(Refusal::BadRange);
     }
     if !form::well_formed(
@@ -111,6 +113,7 @@ fn checked(
         n,
         spacing,
         parameters,
+        range,
         depth,
     ))
 }

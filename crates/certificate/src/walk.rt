@@ -8,7 +8,7 @@ ghost use lib.Ieee.{lt};
 ghost use lib.ListN.{drop, length, take};
 ghost use Rattle.window.specs.Cells.{at};
 ghost use Rattle.request.specs.declared.parameters.Spacing.the-variants.{Listed};
-ghost use Rattle.request.specs.Parameters.{normalisedOf, parameterList};
+ghost use Rattle.request.specs.Parameters.{lengthOf, normalisedOf, parameterList};
 ghost use Rattle.figure.specs.Axis.{axisOf};
 ghost use Rattle.figure.specs.Distance.{Rises};
 ghost use Rattle.figure.specs.Figure.{figureOf, intersectionFigure, larger, meeting};
@@ -80,7 +80,7 @@ fn with_intersection(depth: usize, x: Intersection, so_far: Figure) -> Figure
     so_far
 }
 
-// The certified figure of an axis.
+// The certified figure of an axis. `range` is the last parameter less the first.
 pub(crate) fn walk(
     breaks: &[f64],
     coefficients: &[f64],
@@ -92,6 +92,7 @@ pub(crate) fn walk(
     n: usize,
     spacing: Spacing,
     parameters: &[f64],
+    range: f64,
     depth: usize,
 ) -> Figure
     requires { ⌜ (place < k) × (k ≤ 16) × (2 ≤ length (now breaks)) × (length (now breaks) ≤ 20001)
@@ -99,6 +100,7 @@ pub(crate) fn walk(
         × (axis < d) × (d ≤ 16) × (2 ≤ n) × (n ≤ 20000) × (length (now points) ≡ d * n) × (spacing ≡ Listed → length (now parameters) ≡ n) ⌝ }
     requires { ⌜ Rises (length (now breaks) - 1) (at (now breaks)) × Rises (n - 1) (normalisedOf (parameterList spacing (now parameters)
         (now points) d n) n) ⌝ }
+    requires { ⌜ range ≡ lengthOf (parameterList spacing (now parameters) (now points) d n) n ⌝ }
     ensures { λ r. ⌜ figureIn r ≡ figureOf depth (axisOf (now (breaks .entry)) (now (coefficients .entry)) k place (now (points .entry)) d
         axis n spacing (now (parameters .entry))) ⌝ }
 {
@@ -106,7 +108,6 @@ pub(crate) fn walk(
     let mut i = 0;
     let mut m = 0;
     let start = parameters::first(spacing, parameters, n);
-    let range = parameters::length(spacing, parameters, points, d, n);
     let mut current = parameters::next(spacing, parameters, points, d, n, 0, start);
     let mut from = (start - start) / range;
     let mut to = (current - start) / range;

@@ -266,7 +266,8 @@ pub fn refusal_before(
     if too_fine(points, d, n, axes, list, tolerance, tolerances) {
         return 26;
     }
-    if request::parameters::misplaced(spacing, parameters, points, d, n) {
+    let placement = request::parameters::placed(spacing, parameters, points, d, n);
+    if placement.misplaced {
         return 5;
     }
     0

@@ -16,7 +16,7 @@ use Rattle.fraction.specs.NextNumber.{nextDown, nextUp}
 use Rattle.request.specs.declared.parameters.Spacing.{Spacing}
 use Rattle.request.specs.declared.parameters.Spacing.the-variants.{Listed, Even, Chord}
 use Rattle.request.specs.Any.{any}
-use Rattle.request.specs.Parameters.{evenOf, sumOf, squareOf, chordOf, parameterList, lengthOf, normalisedOf, misplaced, unreliable}
+use Rattle.request.specs.Parameters.{evenOf, sumOf, squareOf, chordLength, parameterList, lengthOf, normalisedOf, misplaced, unreliable}
 use Rattle.request.specs.Points.{unfit}
 use Rattle.curve.specs.declared.Curve.{Curve}
 use Rattle.curve.specs.declared.Mode.the-variants.{Error}
@@ -58,7 +58,7 @@ flat = slices (+0 ∷ one ∷ []) (zeros 6 ++ (one ∷ [])) [] []
 
 -- what the answers below are computed by
 unfoldable pub checks : Unit {0}
-unfolding certifyOf unfit any misplaced parameterList evenOf sumOf squareOf chordOf
+unfolding certifyOf unfit any misplaced parameterList evenOf sumOf squareOf chordLength
     unreliable lengthOf normalisedOf wellFormed axesFormed firstOf setFormed
     widthsKept othersFormed rangeFormed ofBits toBits div ofInt le sub lt eq join sqrtOf add mul
 checks = tt

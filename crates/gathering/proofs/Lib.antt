@@ -1,2 +1,3 @@
 -- Laws.
 pub mod Gathered
+pub mod Normalising

@@ -20,18 +20,18 @@ use Rattle.fraction.proofs.Rounding.{add-rounded}
 use Rattle.float.specs.Root.{sqrtOf}
 use Rattle.request.specs.declared.parameters.Spacing.the-variants.{Chord}
 use Rattle.request.specs.Any.{any}
-use Rattle.request.specs.Parameters.{sumOf, squareOf, chordOf, parameterList, anyFall, misplaced}
+use Rattle.request.specs.Parameters.{sumOf, squareOf, chordLength, parameterList, anyFall, misplaced}
 use Rattle.request.proofs.Anys.{any-found}
 use Rattle.request.proofs.Normalised.{less-itself}
 use Rattle.request.proofs.Spaced.{chord-at, chord-next, sum-fits}
-use Rattle.request.proofs.Straight.{stray-found}
+use Rattle.request.proofs.InPlace.{misplaced-found}
 
--- a parameter that strays is refused
-pub strays-misplaced : (p : List Float) (n i : ℕ) → i + 1 < n → (not (finite (at p (i + 1))) || le (at p (i + 1)) (at p i)) ≡ true
+-- a parameter that is infinite, a NaN, or at or below the one before it is refused
+pub not-above-misplaced : (p : List Float) (n i : ℕ) → i + 1 < n → (not (finite (at p (i + 1))) || le (at p (i + 1)) (at p i)) ≡ true
     → misplaced p n ≡ true
 unfolding misplaced
-strays-misplaced p n i l h = go (not (eqb (length p) n)) (any n (λ j. not (finite (at p j)))) (anyFall n (at p))
-    (stray-found (at p) n (omega arith) i (omega arith) h)
+not-above-misplaced p n i l h = go (not (eqb (length p) n)) (any n (λ j. not (finite (at p j)))) (anyFall n (at p))
+    (misplaced-found (at p) n (omega arith) i (omega arith) h)
   where
     go : (a b c : Bool) → (b || c) ≡ true → (a || b || c) ≡ true
     go true b c h = refl
@@ -56,7 +56,7 @@ beyond (inf true) = refl
 beyond (inf false) = refl
 beyond (fin s m e) = refl
 
-pub infinite-chord : (list points : List Float) (d n i : ℕ) → i + 1 < n → chordOf points d i ≡ inf false
+pub infinite-chord : (list points : List Float) (d n i : ℕ) → i + 1 < n → chordLength points d i ≡ inf false
     → misplaced (parameterList Chord list points d n) n ≡ true
 infinite-chord list points d n i l h =
     let p = parameterList Chord list points d n in
@@ -90,8 +90,8 @@ module _ (points : List Float) (d i : ℕ) (equal : (r : ℕ) → r < d → at p
       ∙ less-itself binary64 (at points (i * d + r)) (number r l) in
       ap (λ (x : Float). mul binary64 x x) e
 
-  no-chord : chordOf points d i ≡ nought
-  unfolding chordOf sqrtOf
+  no-chord : chordLength points d i ≡ nought
+  unfolding chordLength sqrtOf
   no-chord = ap (sqrtOf binary64) (zeros-sum d (squareOf points d i) no-square)
 
   pub equal-neighbours : (list : List Float) (n : ℕ) → i + 1 < n → misplaced (parameterList Chord list points d n) n ≡ true
@@ -106,11 +106,11 @@ module _ (points : List Float) (d i : ℕ) (equal : (r : ℕ) → r < d → at p
           let x = at p i in
           let e = chord-next list points d n i l ∙ ap (add binary64 x) no-chord in
           let F = subst (λ (y : Float). T (fits binary64 y)) (sym (chord-at list points d n i (omega arith)))
-          (sum-fits i (chordOf points d)) in
+          (sum-fits i (chordLength points d)) in
           let X : T (finite x) = subst T (sym h) tt in
           let v : value x +q value nought ≡ value x =
           ap (λ (z : ℚ). value x +q z) nought-value ∙ solve rationalRing (value x ∷ []) (var 0 ⊕ con (pos 0)) (var 0) tt in
           let below = rounds-below binary64 x F X (add binary64 x nought) (value x +q value nought) (add-rounded binary64 x nought X tt)
           (subst (λ (z : ℚ). z ≤q value x) (sym v) (≤q-refl (value x))) in
           let fell : le (at p (i + 1)) x ≡ true = ap (λ (y : Float). le y x) e ∙ below in
-          strays-misplaced p n i l (ap (λ (b : Bool). not (finite (at p (i + 1))) || b) fell ∙ or-true (not (finite (at p (i + 1)))))
+          not-above-misplaced p n i l (ap (λ (b : Bool). not (finite (at p (i + 1))) || b) fell ∙ or-true (not (finite (at p (i + 1)))))

@@ -4,5 +4,5 @@ pub mod Chords
 pub mod Counts
 pub mod Normalised
 pub mod Spaced
-pub mod Straight
+pub mod InPlace
 pub mod ZeroToOne

@@ -9,12 +9,12 @@ use lib.Dec.{T}
 use lib.ListN.{length, List·getD-eq-default}
 use lib.Ieee.{Float, nan, binary64, add, fits, ofBits}
 use lib.Ieee.Fits.{add-fits, div-fits}
-use Rattle.window.specs.Cells.{+0, at}
+use Rattle.window.specs.Cells.{+0, at, Doubles}
 use Rattle.window.specs.Rows.{listOf}
 use Rattle.window.proofs.Joined.{list-at, list-length}
 use Rattle.request.specs.declared.parameters.Spacing.{Spacing}
 use Rattle.request.specs.declared.parameters.Spacing.the-variants.{Listed, Even, Chord}
-use Rattle.request.specs.Parameters.{evenOf, sumOf, chordOf, parameterList}
+use Rattle.request.specs.Parameters.{evenOf, sumOf, chordLength, parameterList}
 
 -- one number more in a sum
 pub sum-next : (n : ℕ) (x : ℕ → Float) → sumOf (n + 1) x ≡ add binary64 (sumOf n x) (x n)
@@ -27,9 +27,9 @@ module _ (list points : List Float) (d n : ℕ) where
   unfolding parameterList
   even-at i l = list-at n (evenOf n) nan i l
 
-  pub chord-at : (i : ℕ) → i < n → at (parameterList Chord list points d n) i ≡ sumOf i (chordOf points d)
+  pub chord-at : (i : ℕ) → i < n → at (parameterList Chord list points d n) i ≡ sumOf i (chordLength points d)
   unfolding parameterList
-  chord-at i l = list-at n (λ i. sumOf i (chordOf points d)) nan i l
+  chord-at i l = list-at n (λ i. sumOf i (chordLength points d)) nan i l
 
   -- "parameters start at 0"
   pub chord-first : 0 < n → at (parameterList Chord list points d n) 0 ≡ +0
@@ -38,8 +38,8 @@ module _ (list points : List Float) (d n : ℕ) where
 
   -- "and grow by" the chords
   pub chord-next : (i : ℕ) → i + 1 < n
-      → at (parameterList Chord list points d n) (i + 1) ≡ add binary64 (at (parameterList Chord list points d n) i) (chordOf points d i)
-  chord-next i l = chord-at (i + 1) l ∙ sum-next i (chordOf points d) ∙ rw (chord-at i (omega arith))
+      → at (parameterList Chord list points d n) (i + 1) ≡ add binary64 (at (parameterList Chord list points d n) i) (chordLength points d i)
+  chord-next i l = chord-at (i + 1) l ∙ sum-next i (chordLength points d) ∙ rw (chord-at i (omega arith))
 
   -- n of them, where they are not listed
   pub even-count : length (parameterList Even list points d n) ≡ n
@@ -48,7 +48,7 @@ module _ (list points : List Float) (d n : ℕ) where
 
   pub chord-count : length (parameterList Chord list points d n) ≡ n
   unfolding parameterList
-  chord-count = list-length n (λ i. sumOf i (chordOf points d))
+  chord-count = list-length n (λ i. sumOf i (chordLength points d))
 
 -- other points, other chords; the others do not read them
 pub points-unread : (spacing : Spacing) → (spacing ≡ Chord → ⊥) → (list points points′ : List Float) (d n : ℕ)
@@ -78,4 +78,4 @@ pub spaced-doubles : (spacing : Spacing) (list points : List Float) (d n : ℕ) 
 unfolding parameterList evenOf
 spaced-doubles Listed list points d n F = F
 spaced-doubles Even list points d n F = list-doubles n (evenOf n) (λ i. div-fits binary64 _ _)
-spaced-doubles Chord list points d n F = list-doubles n (λ i. sumOf i (chordOf points d)) (λ i. sum-fits i (chordOf points d))
+spaced-doubles Chord list points d n F = list-doubles n (λ i. sumOf i (chordLength points d)) (λ i. sum-fits i (chordLength points d))

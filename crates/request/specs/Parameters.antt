@@ -30,15 +30,15 @@ squareOf points d i r =
 
 -- Document 02, request 3, "the root of the sum of squared differences, rows summed lowest first. Every row counts, also unsmoothed ones":
 -- the chord from waypoint i to the next.
-unfoldable pub chordOf : List Float → ℕ → ℕ → Float
-chordOf points d i = sqrtOf binary64 (sumOf d (squareOf points d i))
+unfoldable pub chordLength : List Float → ℕ → ℕ → Float
+chordLength points d i = sqrtOf binary64 (sumOf d (squareOf points d i))
 
 -- The parameters of n waypoints: those listed, which "override both" versions of the rule of spacing; version 1, even; version 2,
 -- "parameters start at 0 and grow by" the chords.
 unfoldable pub parameterList : Spacing → List Float → List Float → ℕ → ℕ → List Float
 parameterList Listed list points d n = list
 parameterList Even list points d n = listOf n (evenOf n)
-parameterList Chord list points d n = listOf n (λ i. sumOf i (chordOf points d))
+parameterList Chord list points d n = listOf n (λ i. sumOf i (chordLength points d))
 
 -- `windows(2).any(|v| v[1] <= v[0])` of x 0 .. x (n - 1)
 abbrev pub anyFall : ℕ → (ℕ → Float) → Bool

@@ -1,7 +1,7 @@
 // The parameters of n waypoints, listed or spaced by a rule, and normalised to 0 to 1. Under the rule
 // of chords a parameter is a sum of all chords before it: so parameters are gone through from the first
 // on, each made from the one before it.
-ghost use mathlib.Core.Bool.{not, _||_};
+ghost use mathlib.Core.Bool.{false, not, _||_};
 ghost use mathlib.Core.Path.{_≡_};
 ghost use mathlib.Core.List.{List};
 ghost use Prim.Native.Nat.{ℕ, _+_, _-_, _*_, _≤_, _<_};
@@ -11,7 +11,7 @@ ghost use lib.Ieee.Scale.{finite};
 ghost use lib.ListN.{length};
 ghost use Rattle.window.specs.Cells.{at};
 ghost use Rattle.request.specs.declared.parameters.Spacing.the-variants.{Listed};
-ghost use Rattle.request.specs.Parameters.{evenOf, sumOf, chordOf, parameterList, anyFall, lengthOf, normalisedOf, misplaced, unreliable};
+ghost use Rattle.request.specs.Parameters.{evenOf, sumOf, chordLength, parameterList, anyFall, lengthOf, normalisedOf, misplaced, unreliable};
 ghost use Rattle.request.specs.Any.{any};
 
 // Where the parameters come from: a list, which stands beside it, or the rule of spacing, whose version 1
@@ -33,7 +33,7 @@ fn even_at(n: usize, i: usize) -> f64
 // The chord from waypoint i to the next.
 fn chord_from(points: &[f64], d: usize, i: usize) -> f64
     requires { ⌜ (i < 20000) × ((i + 1) * d + d ≤ length (now points)) ⌝ }
-    ensures { λ r. ⌜ r ≡ chordOf (now (points .entry)) d i ⌝ }
+    ensures { λ r. ⌜ r ≡ chordLength (now (points .entry)) d i ⌝ }
 {
     let from = i * d;
     let to = (i + 1) * d;
@@ -50,7 +50,7 @@ fn chord_from(points: &[f64], d: usize, i: usize) -> f64
 // The sum of the first chords.
 fn chords(points: &[f64], d: usize, count: usize) -> f64
     requires { ⌜ (count ≤ 20000) × ((count + 1) * d ≤ length (now points)) ⌝ }
-    ensures { λ r. ⌜ r ≡ sumOf count (chordOf (now (points .entry)) d) ⌝ }
+    ensures { λ r. ⌜ r ≡ sumOf count (chordLength (now (points .entry)) d) ⌝ }
 {
     let mut sum = 0.0;
     let mut i = 0;
@@ -126,14 +126,6 @@ pub fn last(spacing: Spacing, list: &[f64], points: &[f64], d: usize, n: usize) 
     }
 }
 
-// The last parameter less the first.
-pub fn length(spacing: Spacing, list: &[f64], points: &[f64], d: usize, n: usize) -> f64
-    requires { ⌜ (2 ≤ n) × (n ≤ 20000) × (n * d ≤ length (now points)) × (spacing ≡ Listed → n ≤ length (now list)) ⌝ }
-    ensures { λ r. ⌜ r ≡ lengthOf (parameterList spacing (now (list .entry)) (now (points .entry)) d n) n ⌝ }
-{
-    last(spacing, list, points, d, n) - first(spacing, list, n)
-}
-
 // Whether the list has another number of parameters than n.
 fn miscounted(spacing: Spacing, list: &[f64], n: usize) -> bool
     ensures { λ r. ⌜ ((points : List Float) (d : ℕ) → r ≡ not (eqb (length (parameterList spacing (now (list .entry)) points d n)) n)) ⌝ }
@@ -146,7 +138,7 @@ fn miscounted(spacing: Spacing, list: &[f64], n: usize) -> bool
 }
 
 // Whether x is infinite, a NaN, or at or below the one before it.
-fn strays(previous: f64, x: f64) -> bool
+fn is_misplaced(previous: f64, x: f64) -> bool
     ensures { λ r. ⌜ r ≡ (not (finite x) || le x previous) ⌝ }
 {
     if float::is_finite(x) {
@@ -155,55 +147,74 @@ fn strays(previous: f64, x: f64) -> bool
     true
 }
 
-// Whether a parameter is infinite or a NaN, or at or below the one before it.
-fn stray(spacing: Spacing, list: &[f64], points: &[f64], d: usize, n: usize) -> bool
+// The parameters tested (5). Where they are not misplaced, `range` is the last less the first.
+pub struct Placement {
+    pub misplaced: bool,
+    pub range: f64,
+}
+
+// Whether a parameter is infinite or a NaN, or at or below the one before it: gone through once.
+fn tested(spacing: Spacing, list: &[f64], points: &[f64], d: usize, n: usize) -> Placement
     requires { ⌜ (2 ≤ n) × (n ≤ 20000) × (n * d ≤ length (now points)) × (spacing ≡ Listed → n ≤ length (now list)) ⌝ }
-    ensures { λ r. ⌜ r ≡ (any n (λ i. not (finite (at (parameterList spacing (now (list .entry)) (now (points .entry)) d n) i)))
+    ensures { λ r. ⌜ r .misplaced ≡ (any n (λ i. not (finite (at (parameterList spacing (now (list .entry)) (now (points .entry)) d n) i)))
         || anyFall n (at (parameterList spacing (now (list .entry)) (now (points .entry)) d n))) ⌝ }
+    ensures { λ r. ⌜ (r .misplaced ≡ false → r .range ≡ lengthOf (parameterList spacing (now (list .entry)) (now (points .entry)) d n) n) ⌝ }
 {
-    let mut previous = first(spacing, list, n);
-    if !float::is_finite(previous) {
-        return true;
+    let start = first(spacing, list, n);
+    if !float::is_finite(start) {
+        return Placement {
+            misplaced: true,
+            range: 0.0,
+        };
     }
+    let mut previous = start;
     let mut i = 0;
     while i < n - 1 {
         let x = following(spacing, list, points, d, n, i, previous);
-        if strays(previous, x) {
-            return true;
+        if is_misplaced(previous, x) {
+            return Placement {
+                misplaced: true,
+                range: 0.0,
+            };
         }
         previous = x;
         i += 1;
     }
-    false
+    Placement {
+        misplaced: false,
+        range: previous - start,
+    }
 }
 
-// Whether the parameters are refused (5).
-pub fn misplaced(spacing: Spacing, list: &[f64], points: &[f64], d: usize, n: usize) -> bool
+// Whether the parameters are refused (5), and their range.
+pub fn placed(spacing: Spacing, list: &[f64], points: &[f64], d: usize, n: usize) -> Placement
     requires { ⌜ (2 ≤ n) × (n ≤ 20000) × (n * d ≤ length (now points)) ⌝ }
-    ensures { λ r. ⌜ r ≡ misplaced (parameterList spacing (now (list .entry)) (now (points .entry)) d n) n ⌝ }
+    ensures { λ r. ⌜ r .misplaced ≡ misplaced (parameterList spacing (now (list .entry)) (now (points .entry)) d n) n ⌝ }
+    ensures { λ r. ⌜ (r .misplaced ≡ false → r .range ≡ lengthOf (parameterList spacing (now (list .entry)) (now (points .entry)) d n) n) ⌝ }
 {
     if miscounted(spacing, list, n) {
-        return true;
+        return Placement {
+            misplaced: true,
+            range: 0.0,
+        };
     }
-    stray(spacing, list, points, d, n)
+    tested(spacing, list, points, d, n)
 }
 
-// Whether a normalised parameter is at or below the one before it: the parameters from `start` on, whose
-// length is `range`.
+// Whether a normalised parameter is at or below the one before it.
 fn falls(
     spacing: Spacing,
     list: &[f64],
     points: &[f64],
     d: usize,
     n: usize,
-    start: f64,
     range: f64,
 ) -> bool
     requires { ⌜ (2 ≤ n) × (n ≤ 20000) × (n * d ≤ length (now points)) × (spacing ≡ Listed → n ≤ length (now list)) ⌝ }
-    requires { ⌜ (start ≡ at (parameterList spacing (now list) (now points) d n) 0)
-        × (range ≡ lengthOf (parameterList spacing (now list) (now points) d n) n) ⌝ }
+    requires { ⌜ range ≡ lengthOf (parameterList spacing (now list) (now points) d n) n ⌝ }
     ensures { λ r. ⌜ r ≡ anyFall n (normalisedOf (parameterList spacing (now (list .entry)) (now (points .entry)) d n) n) ⌝ }
 {
+    let start = first(spacing, list, n);
     let mut current = start;
     let mut previous = (start - start) / range;
     let mut i = 0;
@@ -220,14 +231,20 @@ fn falls(
 }
 
 // Whether their range is refused (6).
-pub fn unreliable(spacing: Spacing, list: &[f64], points: &[f64], d: usize, n: usize) -> bool
+pub fn unreliable(
+    spacing: Spacing,
+    list: &[f64],
+    points: &[f64],
+    d: usize,
+    n: usize,
+    range: f64,
+) -> bool
     requires { ⌜ (2 ≤ n) × (n ≤ 20000) × (n * d ≤ length (now points)) × (spacing ≡ Listed → n ≤ length (now list)) ⌝ }
+    requires { ⌜ range ≡ lengthOf (parameterList spacing (now list) (now points) d n) n ⌝ }
     ensures { λ r. ⌜ r ≡ unreliable (parameterList spacing (now (list .entry)) (now (points .entry)) d n) n ⌝ }
 {
-    let start = first(spacing, list, n);
-    let range = length(spacing, list, points, d, n);
     if float::is_finite(range) {
-        return falls(spacing, list, points, d, n, start, range);
+        return falls(spacing, list, points, d, n, range);
     }
     true
 }

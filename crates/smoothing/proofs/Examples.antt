@@ -34,7 +34,7 @@ use Rattle.seed.specs.Corridor.{axisTurn as axisTurn₂, narrowed}
 use Rattle.seed.specs.Knots.{jumpTurn, jumpOf, widthOf, around, anchorKnots, rawKnots, seedOf}
 use Rattle.seed.specs.Regions.{rangeOf, merged, regionsOf}
 use Rattle.request.specs.Any.{any}
-use Rattle.request.specs.Parameters.{evenOf, sumOf, squareOf, chordOf as chordOf₂, parameterList, lengthOf, normalisedOf, misplaced, unreliable}
+use Rattle.request.specs.Parameters.{evenOf, sumOf, squareOf, chordLength, parameterList, lengthOf, normalisedOf, misplaced, unreliable}
 use Rattle.request.specs.Points.{unfit}
 use Rattle.arith.specs.First.{firstOf}
 use Rattle.curve.specs.Form.{axesFormed}
@@ -79,7 +79,7 @@ unfolding isNan ofBits toBits add sub mul div le lt eq ne round ofInt neg turns 
     boundsWith auditTurn auditOf pieceAt pieceFrom errorForm allFinite largestTurn axisTurn axesOf endedBy walkTurn intervalOf addTerm piecePower
     errorOf addShare bernsteinOf bernsteinCoefficients advanced placed sortOf thinned distinct gap inside apart testOf dedupOf keptOf
     fits scanTurn anchorsOf axisTurn₂ narrowed jumpTurn jumpOf widthOf around anchorKnots rawKnots seedOf rangeOf merged regionsOf
-    any evenOf sumOf squareOf chordOf₂ parameterList
+    any evenOf sumOf squareOf chordLength parameterList
     lengthOf normalisedOf misplaced unreliable unfit firstOf axesFormed andThen unless numberOf
     selectedOf otherOf resultOf smoothedOf checkedOf answerOf buildOf
     wideLane wideLimits miscountedPoints noAxes badAxes badTolerance exceeds anyExceeds overflows refusalOf

@@ -114,12 +114,14 @@ fineLines =
     ∷ line (even 2 2 (listed (0 ∷ [])) 0x3ff0_0000_0000_0000 0 (0 ∷ 0 ∷ 0 ∷ 0x4300_0000_0000_0000 ∷ [])) (8 ∷ [])
     ∷ []
 
--- document 02, request 3: chords
+-- document 02, request 3: parameters by chords
 unfoldable pub chordLines : List Line
 chordLines =
     -- points 1 1, tolerance 1, equal neighbours: 5; 0 2^-600, whose chord rounds to 0: 5
     line (chord 1 2 all 0x3ff0_0000_0000_0000 20000 (0x3ff0_0000_0000_0000 ∷ 0x3ff0_0000_0000_0000 ∷ [])) (5 ∷ [])
     ∷ line (chord 1 2 all 0x3ff0_0000_0000_0000 20000 (0 ∷ 0x1a70_0000_0000_0000 ∷ [])) (5 ∷ [])
+    -- points 0 2^53 0 1, tolerance 1024: the last chord, 1, is lost in the sum 2^54: 5
+    ∷ line (chord 1 4 all 0x4090_0000_0000_0000 20000 (0 ∷ 0x4340_0000_0000_0000 ∷ 0 ∷ 0x3ff0_0000_0000_0000 ∷ [])) (5 ∷ [])
     -- points 0 1e200, tolerance 1e200, an infinite chord: 5
     ∷ line (chord 1 2 all 0x6974_e718_d7d7_625a 20000 (0 ∷ 0x6974_e718_d7d7_625a ∷ [])) (5 ∷ [])
     -- points 0 0, tolerance 0: 4 comes before; points 2^49 2^49, tolerance 1: 26 comes before

@@ -20,7 +20,7 @@ use Rattle.window.proofs.Joined.{by-row, join-at, table-at, table-length}
 use Rattle.request.specs.declared.parameters.Spacing.{Spacing}
 use Rattle.request.specs.declared.parameters.Spacing.the-variants.{Listed}
 use Rattle.request.specs.Any.{any}
-use Rattle.request.specs.Parameters.{misplaced, unreliable}
+use Rattle.request.specs.Parameters.{parameterList, misplaced, unreliable}
 use Rattle.request.specs.Points.{unfit}
 use Rattle.request.proofs.Anys.{any-none}
 use Rattle.request.proofs.Counts.{waypoint-count}
@@ -109,15 +109,15 @@ module _ {c : Curve} {s lent : Slices} (back : ReturnCall c s lent) (returned : 
   -- The certificate of the way back is refused for its listed parameters alone, and is otherwise the figure of the lane driven back.
   pub way-back : (deep : ℕ) → deep ≤ 6
       → (call : CertifyCall c lane (reversedPoints (c .d) n points) n Listed listed axis deep)
-      → outcomeOf (call .answer) ≡ cond (misplaced Listed listed n) (outcome 5 noFigure)
-      (cond (unreliable Listed listed n) (outcome 6 noFigure) (outcome 0 (figureOf deep here)))
-  unfolding certifyOf
+      → outcomeOf (call .answer) ≡ cond (misplaced listed n) (outcome 5 noFigure)
+      (cond (unreliable listed n) (outcome 6 noFigure) (outcome 0 (figureOf deep here)))
+  unfolding certifyOf parameterList
   way-back deep within call =
       let p = passed in
       let counted = table-length n (c .d) (λ i a. at points ((n - (i + 1)) * c .d + a)) in
       call .answered
       ∙ passes (ltb 6 deep) (ltb 16 (c .d) || ltb 20000 n) (not (eqb (length (reversedPoints (c .d) n points)) (c .d * n)))
-      (unfit (c .d) n (reversedPoints (c .d) n points)) (misplaced Listed listed n) (unreliable Listed listed n) (wellFormed c lane)
+      (unfit (c .d) n (reversedPoints (c .d) n points)) (misplaced listed n) (unreliable listed n) (wellFormed c lane)
       (ltb (positionOf (c .axes) (c .k) axis) (c .k)) (outcome 0 (figureOf deep here))
       (le-ltb 6 deep within)
       (rw (le-ltb 16 (c .d) (p .d-domain), le-ltb 20000 n (p .n-domain)) refl)

@@ -61,6 +61,10 @@ module _ {list : ℕ → List Float} {n : ℕ} {w v : List Float} (P : Put list 
   put-is : v ≡ sOf (list n) n
   put-is = P .put ∙ ap (λ (m : ℕ). sOf (list m) m) (front-long n w (P .fits))
 
+  -- the last parameter less the first, as `put_parameters` gives it
+  pub put-range : {x : Float} → x ≡ lengthOf (list (length (window 0 n w))) (length (window 0 n w)) → x ≡ lengthOf (list n) n
+  put-range e = e ∙ ap (λ (m : ℕ). lengthOf (list m) m) (front-long n w (P .fits))
+
   pub put-count : length v ≡ n - 0
   put-count = ap length put-is ∙ list-length n _ ∙ omega arith
 

@@ -37,9 +37,8 @@ pub fn prepare(
     let k = p.axes;
     let e = p.room;
     let y_end = e + n * k;
-    gathering::put_parameters(&mut work[0..n], spacing, parameters, points, d);
-    let whole = request::parameters::length(spacing, parameters, points, d, n);
-    if refusals::is_unreliable(whole, &work[0..n]) {
+    let range = gathering::put_parameters(&mut work[0..n], spacing, parameters, points, d);
+    if refusals::is_unreliable(range, &work[0..n]) {
         return 6;
     }
     gathering::put_centred(&mut work[e..y_end], points, d, n, axes, k, eps);

@@ -53,8 +53,8 @@ returns-5 c = rw (
   sym (c .before .unfit .ensures) ∙ c .if5 .taken,
 )
 
-misplaced-requires : tie.Need-misplaced-requires
-misplaced-requires c κs =
+placed-requires : tie.Need-placed-requires
+placed-requires c κs =
     let a = c .before .before .before .before .before .before .before .before .before .before .before .before .args in (
       waypoint-count (a .curve .d) (a .n) (a .points .now) (sym (c .before .unfit .ensures) ∙ c .if5 .left),
       c .before .before .before .if3 .left,
@@ -71,20 +71,21 @@ returns-6 c = rw (
   eq-eqb _ _ (c .before .before .before .before .if4 .left),
   sym
       (c .before .before .before .unfit .ensures) ∙ c .before .before .if5 .left,
-  sym (c .before .misplaced .ensures) ∙ c .if6 .taken,
+  sym (c .before .placed .ensures .0) ∙ c .if6 .taken,
 )
 
 unreliable-requires : tie.Need-unreliable-requires
 unreliable-requires c κs =
     let a = c .before .before .before .before .before .before .before .before .before .before .before .before .before .before .args in
     let count = listed-count (a .spacing) (a .parameters .now) (a .points .now) (a .curve .d) (a .n)
-    (sym (c .before .misplaced .ensures) ∙ c .if6 .left) in (
+    (sym (c .before .placed .ensures .0) ∙ c .if6 .left) in
+    ((
       waypoint-count (a .curve .d) (a .n) (a .points .now) (sym (c .before .before .before .unfit .ensures) ∙ c .before .before .if5
           .left),
       c .before .before .before .before .before .if3 .left,
       omega (arith, c .before .before .before .before .if4 .left),
       λ e. let l = count e in omega arith,
-    )
+    ), c .before .placed .ensures .1 (c .if6 .left))
 
 returns-7 : tie.Need-returns-7
 unfolding certifyOf
@@ -97,7 +98,7 @@ returns-7 c = rw (
       (c .before .before .before .before .before .before .if4 .left),
   sym (c .before .before .before .before .before .unfit .ensures)
       ∙ c .before .before .before .before .if5 .left,
-  sym (c .before .before .before .misplaced .ensures)
+  sym (c .before .before .before .placed .ensures .0)
       ∙ c .before .before .if6 .left,
   sym (c .before .unreliable .ensures) ∙ c .if7 .taken,
 )
@@ -114,7 +115,7 @@ returns-8 c = rw (
   sym
       (c .before .before .before .before .before .before .before .unfit .ensures)
       ∙ c .before .before .before .before .before .before .if5 .left,
-  sym (c .before .before .before .before .before .misplaced .ensures)
+  sym (c .before .before .before .before .before .placed .ensures .0)
       ∙ c .before .before .before .before .if6 .left,
   sym (c .before .before .before .unreliable .ensures)
       ∙ c .before .before .if7 .left,
@@ -144,7 +145,7 @@ returns-9 c = rw (
   sym (c .before .before .before .before .before .before .before .before .before .before .before .unfit .ensures)
       ∙ c .before .before .before .before .before .before .before .before .before .before .if5 .left,
   sym
-      (c .before .before .before .before .before .before .before .before .before .misplaced .ensures)
+      (c .before .before .before .before .before .before .before .before .before .placed .ensures .0)
       ∙ c .before .before .before .before .before .before .before .before .if6 .left,
   sym
       (c .before .before .before .before .before .before .before .unreliable .ensures)
@@ -171,7 +172,7 @@ walk-requires c κs =
       cells = c .before .before .before .before .before .before .before .before .before .before .before .before .if4 .left;
       points-fit = sym (c .before .before .before .before .before .before .before .before .before .before .before .unfit .ensures)
           ∙ c .before .before .before .before .before .before .before .before .before .before .if5 .left;
-      placed = sym (c .before .before .before .before .before .before .before .before .before .misplaced .ensures)
+      placed = sym (c .before .before .before .before .before .before .before .before .before .placed .ensures .0)
           ∙ c .before .before .before .before .before .before .before .before .if6 .left;
       reliable = sym (c .before .before .before .before .before .before .before .unreliable .ensures)
           ∙ c .before .before .before .before .before .before .if7 .left;
@@ -195,10 +196,14 @@ walk-requires c κs =
         listed-count (a .spacing) (a .parameters .now) (a .points .now) (a .curve .d) (a .n) (A .placed),
       ),
       (
-        breaks-rise (a .curve) s (a .points .now) (a .n) (a .spacing) (a .parameters .now) (a .axis) (a .depth) A,
-        parameters-rise (a .curve) s (a .points .now) (a .n) (a .spacing) (a .parameters .now) (a .axis) (a .depth) A
-            (c .before .before .before .before .before .before .before .before .before .before .before .before .before .before .before
-            .before .shared-slice-known6 .given),
+        (
+          breaks-rise (a .curve) s (a .points .now) (a .n) (a .spacing) (a .parameters .now) (a .axis) (a .depth) A,
+          parameters-rise (a .curve) s (a .points .now) (a .n) (a .spacing) (a .parameters .now) (a .axis) (a .depth) A
+              (c .before .before .before .before .before .before .before .before .before .before .before .before .before .before .before
+              .before .shared-slice-known6 .given),
+        ),
+        c .before .before .before .before .before .before .before .before .before .placed .ensures .1
+            (c .before .before .before .before .before .before .before .before .if6 .left),
       ),
     )
 
@@ -217,7 +222,7 @@ returns-10 c = rw (
   sym (c .before .before .before .before .before .before .before .before .before .before .before .before
       .before .unfit .ensures) ∙ c .before .before .before .before .before .before .before .before .before .before .before .before .if5
       .left,
-  sym (c .before .before .before .before .before .before .before .before .before .before .before .misplaced .ensures)
+  sym (c .before .before .before .before .before .before .before .before .before .before .before .placed .ensures .0)
       ∙ c .before .before .before .before .before .before .before .before .before .before .if6 .left,
   sym
       (c .before .before .before .before .before .before .before .before .before .unreliable .ensures)
@@ -241,7 +246,7 @@ checked-spec =
     returns-4
     (λ c κs. search needs)
     returns-5
-    misplaced-requires
+    placed-requires
     returns-6
     unreliable-requires
     returns-7

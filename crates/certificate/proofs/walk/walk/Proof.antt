@@ -16,19 +16,19 @@ use Rattle.certificate.proofs.walk.walk.Statement.{statement}
 use Rattle.certificate.proofs.walk.walk.Tie as tie
 
 abbrev Inv-loop : tie.InvT-loop
-Inv-loop breaks coefficients k place points d axis n spacing parameters depth so-far₀ i₀ m₀ start range current₀ from₀ to₀ so-far i m
+Inv-loop breaks coefficients k place points d axis n spacing parameters range depth so-far₀ i₀ m₀ start current₀ from₀ to₀ so-far i m
     current from to =
     Standing breaks coefficients k place points d axis n spacing parameters depth i m from to (figureIn so-far)
     × (i + 1 < n → current ≡ at (parameterList spacing parameters points d n) (i + 1))
 
 abbrev μ-loop : tie.MeasureT-loop
-μ-loop breaks coefficients k place points d axis n spacing parameters depth so-far₀ i₀ m₀ start range current₀ from₀ to₀ so-far i m
+μ-loop breaks coefficients k place points d axis n spacing parameters range depth so-far₀ i₀ m₀ start current₀ from₀ to₀ so-far i m
     current from to =
     n - i + (length breaks - m)
 
 -- where it began, and the parameters
 abbrev begun : tie.After-next Inv-loop μ-loop → tie.Start Inv-loop μ-loop
-begun c = c .before .before .before .before .before .before .before
+begun c = c .before .before .before .before .before .before
 
 abbrev p : tie.After-next Inv-loop μ-loop → List Float
 p c = let a = begun c .args in parameterList (a .spacing) (a .parameters .now) (a .points .now) (a .d) (a .n)
@@ -36,31 +36,22 @@ p c = let a = begun c .args in parameterList (a .spacing) (a .parameters .now) (
 first-requires : tie.Need-first-requires Inv-loop μ-loop
 first-requires c κs = (omega arith, omega arith, λ e. omega (arith, c .before .before .before .before .pre .0 .10 e))
 
-length-requires : tie.Need-length-requires Inv-loop μ-loop
-length-requires c κs = (
-  omega arith,
-  omega arith,
-  omega arith,
-  λ e. omega (arith, c .before .before .before .before .before .pre .0 .10 e),
-)
-
 next-requires : tie.Need-next-requires Inv-loop μ-loop
 next-requires c κs =
-    let s = c .before .before .before .before .before .before in (
+    let s = c .before .before .before .before .before in (
       (omega arith, omega arith, omega arith, λ e. omega (arith, s .pre .0 .10 e)),
-      c .before .first .ensures (s .args .points .now) (s .args .d),
+      c .first .ensures (s .args .points .now) (s .args .d),
     )
 
 -- a parameter, normalised as the code does it
 module _ (c : tie.After-next Inv-loop μ-loop) where
-  start-is : c .before .before .first .result ≡ at (p c) 0
-  start-is = c .before .before .first .ensures (begun c .args .points .now) (begun c .args .d)
+  start-is : c .before .first .result ≡ at (p c) 0
+  start-is = c .before .first .ensures (begun c .args .points .now) (begun c .args .d)
 
   normal : (v : Float) (i : ℕ) → v ≡ at (p c) i
-      → div binary64 (sub binary64 v (c .before .before .first .result)) (c .before .length .result)
-      ≡ normalisedOf (p c) (begun c .args .n) i
+      → div binary64 (sub binary64 v (c .before .first .result)) (begun c .args .range) ≡ normalisedOf (p c) (begun c .args .n) i
   unfolding normalisedOf
-  normal v i e = λ j. div binary64 (sub binary64 (e j) (start-is j)) (c .before .length .ensures j)
+  normal v i e = λ j. div binary64 (sub binary64 (e j) (start-is j)) (begun c .pre .1 .1 j)
 
 loop-holds : tie.Need-loop-holds Inv-loop μ-loop
 loop-holds c = (
@@ -86,7 +77,7 @@ few l =
 loop-again : tie.Need-loop-again Inv-loop μ-loop
 loop-again c =
     let l = c .before .before .before .before .before in (
-      standing-segment (l .loop .inv .0) (begun (l .before) .pre .1) (omega arith)
+      standing-segment (l .loop .inv .0) (begun (l .before) .pre .1 .0) (omega arith)
           (c .before .before .before .intersect .ensures) (c .before .before .with-intersection .ensures) (c .if1 .taken),
       l .loop .inv .1,
     )
@@ -102,7 +93,7 @@ next-requires-2 c κs =
 loop-again-2 : tie.Need-loop-again-2 Inv-loop μ-loop
 loop-again-2 c =
     let l = c .before .before .before .before .before .before in (
-      standing-interval (l .loop .inv .0) (begun (l .before) .pre .1) (omega arith)
+      standing-interval (l .loop .inv .0) (begun (l .before) .pre .1 .0) (omega arith)
           (c .before .before .before .before .intersect .ensures) (c .before .before .before .with-intersection .ensures)
           (c .before .if1 .left)
           (λ h. normal (l .before) _ (l .loop .i + 1 + 1) (c .next2 .ensures h)),
@@ -119,7 +110,6 @@ walk-spec =
     Inv-loop
     μ-loop
     first-requires
-    length-requires
     next-requires
     loop-holds
     (λ c. omega arith)

@@ -91,8 +91,8 @@ returns-5 c =
     let q = r .before .before in
     rw (fit (q .before .before), some q, formed r, tolerant t, sym (c .before .too-fine .ensures) ∙ c .if5 .taken)
 
-misplaced-requires : tie.Need-misplaced-requires
-misplaced-requires c κs =
+placed-requires : tie.Need-placed-requires
+placed-requires c κs =
     let p = c .before .before .before .before .before .before .before .before in
     let s = p .before .before .before .before .before .before in
     (waypoint-count (s .args .d) (s .args .n) (s .args .points .now) (fit p), s .pre .1, s .pre .2)
@@ -104,7 +104,7 @@ returns-6 c =
     let t = u .before .before in
     let r = t .before .before in
     let q = r .before .before in
-    rw (fit (q .before .before), some q, formed r, tolerant t, coarse u, sym (c .before .misplaced .ensures) ∙ c .if6 .taken)
+    rw (fit (q .before .before), some q, formed r, tolerant t, coarse u, sym (c .before .placed .ensures .0) ∙ c .if6 .taken)
 
 returns-7 : tie.Need-returns-7
 unfolding refusalBefore
@@ -113,7 +113,7 @@ returns-7 c =
     let t = u .before .before in
     let r = t .before .before in
     let q = r .before .before in
-    rw (fit (q .before .before), some q, formed r, tolerant t, coarse u, sym (c .before .misplaced .ensures) ∙ c .if6 .left)
+    rw (fit (q .before .before), some q, formed r, tolerant t, coarse u, sym (c .before .placed .ensures .0) ∙ c .if6 .left)
 
 pub refusal-before-spec : {M : Type 1} → statement M
 refusal-before-spec =
@@ -129,6 +129,6 @@ refusal-before-spec =
     returns-4
     too-fine-requires
     returns-5
-    misplaced-requires
+    placed-requires
     returns-6
     returns-7)

@@ -5,7 +5,7 @@ use native.Mathlib.Omega.{arith}
 use borrow.Author.Needs.{needs}
 use lib.Ieee.{Float, binary64, add}
 use Rattle.float.specs.Root.{sqrtOf}
-use Rattle.request.specs.Parameters.{sumOf, squareOf, chordOf}
+use Rattle.request.specs.Parameters.{sumOf, squareOf, chordLength}
 use Rattle.request.proofs.Spaced.{sum-next}
 use Rattle.request.proofs.parameters.chord_from.Statement.{statement}
 use Rattle.request.proofs.parameters.chord_from.Tie as tie
@@ -29,7 +29,7 @@ loop-again c =
     (omega arith, ap (λ (s : Float). add binary64 s (x (l .row))) (l .inv .1) ∙ sym (sum-next (l .row) x))
 
 returns : tie.Need-returns Inv-loop μ-loop
-unfolding chordOf
+unfolding chordLength
 returns c =
     let l = c .before .before .loop in
     let e : l .row ≡ c .before .before .before .before .args .d = omega arith in

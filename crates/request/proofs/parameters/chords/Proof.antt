@@ -5,13 +5,13 @@ use native.Mathlib.Nat.{mul-le-mul-right}
 use native.Mathlib.Omega.{arith}
 use borrow.Author.Needs.{needs}
 use lib.Ieee.{Float, binary64, add}
-use Rattle.request.specs.Parameters.{sumOf, chordOf}
+use Rattle.request.specs.Parameters.{sumOf, chordLength}
 use Rattle.request.proofs.Spaced.{sum-next}
 use Rattle.request.proofs.parameters.chords.Statement.{statement}
 use Rattle.request.proofs.parameters.chords.Tie as tie
 
 abbrev Inv-loop : tie.InvT-loop
-Inv-loop points d count sum₀ i₀ sum i = (i ≤ count) × (sum ≡ sumOf i (chordOf points d))
+Inv-loop points d count sum₀ i₀ sum i = (i ≤ count) × (sum ≡ sumOf i (chordLength points d))
 
 abbrev μ-loop : tie.MeasureT-loop
 μ-loop points d count sum₀ i₀ sum i = count - i
@@ -30,7 +30,7 @@ loop-again : tie.Need-loop-again Inv-loop μ-loop
 loop-again c =
     let a = c .before .before .before .before .args in
     let l = c .before .before .loop in
-    let x = chordOf (a .points .now) (a .d) in
+    let x = chordLength (a .points .now) (a .d) in
     (omega arith, (λ j. add binary64 (l .inv .1 j) (c .chord-from .ensures j)) ∙ sym (sum-next (l .i) x))
 
 returns : tie.Need-returns Inv-loop μ-loop

@@ -7,20 +7,14 @@ use Rattle.request.specs.Parameters.{unreliable}
 use Rattle.request.proofs.parameters.unreliable.Statement.{statement}
 use Rattle.request.proofs.parameters.unreliable.Tie as tie
 
-falls-requires : tie.Need-falls-requires
-falls-requires c κs =
-    let s = c .before .before .before .before .before .before in
-    (s .pre, (c .before .before .before .first .ensures _ _, c .before .before .length .ensures))
-
 returns : tie.Need-returns
 unfolding unreliable
-returns c = rw (← c .before .before .before .length .ensures, sym (c .before .before .is-finite .ensures) ∙ c .before .if1 .taken)
+returns c = rw (← c .before .before .before .before .before .pre .1, sym (c .before .before .is-finite .ensures) ∙ c .before .if1 .taken)
     (c .falls .ensures)
 
 returns-2 : tie.Need-returns-2
 unfolding unreliable
-returns-2 c = rw (← c .before .before .length .ensures, sym (c .before .is-finite .ensures) ∙ c .if1 .left)
+returns-2 c = rw (← c .before .before .before .before .pre .1, sym (c .before .is-finite .ensures) ∙ c .if1 .left)
 
 pub unreliable-spec : {M : Type 1} → statement M
-unreliable-spec =
-    tie.close (tie.spec (λ c κs. search needs) (λ c κs. search needs) (λ c κs. search needs) falls-requires returns returns-2)
+unreliable-spec = tie.close (tie.spec (λ c κs. search needs) (λ c κs. search needs) returns returns-2)

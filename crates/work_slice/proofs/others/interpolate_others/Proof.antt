@@ -43,7 +43,7 @@ begun c = c .before .before .before .before .before .before
 
 put : (c : tie.After-put-parameters) → let a = begun c .args in
     Put (parameterList (a .spacing) (a .parameters .now) (a .points .now) (a .d)) (a .n) (a .part .now) (c .put-parameters .last .0)
-put c = record { fits = front (begun c); put = c .put-parameters .ensures }
+put c = record { fits = front (begun c); put = c .put-parameters .ensures .1 }
 
 part-put-rows-end : tie.Need-part-put-rows-end
 part-put-rows-end c =

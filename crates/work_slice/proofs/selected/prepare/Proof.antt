@@ -14,7 +14,7 @@ use Rattle.smoothing.specs.Rows.{Task, Units, taskOf}
 use Rattle.smoothing.specs.Checks.{overflows}
 use Rattle.refinement.specs.Memory.{Roomy}
 use Rattle.work_slice.specs.Rows.{unitsFrom, taskFrom}
-use Rattle.work_slice.proofs.Preparing.{cells-few, unreliable-is, overflow-is, front-long, Put, put-count, put-long, put-read, rows-long, put-stays, y-length}
+use Rattle.work_slice.proofs.Preparing.{cells-few, unreliable-is, overflow-is, front-long, Put, put-count, put-long, put-read, put-range, rows-long, put-stays, y-length}
 use Rattle.work_slice.proofs.selected.prepare.Statement.{statement}
 use Rattle.work_slice.proofs.selected.prepare.Tie as tie
 
@@ -58,18 +58,17 @@ begun c = c .before .before .before .before .before
 
 put : (c : tie.After-put-parameters) → let a = begun c .args in
     Put (listed (begun c)) (a .p .samples) (a .work .now) (c .put-parameters .last .0)
-put c = record { fits = front (begun c); put = c .put-parameters .ensures }
+put c = record { fits = front (begun c); put = c .put-parameters .ensures .1 }
 
 -- 6, as it was tested
-tested : (c : tie.After-is-unreliable) → let s = begun (c .before .before .before .before .before .before) in
+tested : (c : tie.After-is-unreliable) → let s = begun (c .before .before .before .before .before) in
     let n = s .args .p .samples in
     c .is-unreliable .result ≡ unreliable (listed s n) n
 tested c =
-    let v = c .before .before .before .before .before .before in
+    let v = c .before .before .before .before .before in
     let a = begun v .args in
-    let l = c .before .before .before .length in
     c .is-unreliable .ensures
-    ∙ unreliable-is (listed (begun v) (a .p .samples)) (a .p .samples) (l .result) _ (l .ensures)
+    ∙ unreliable-is (listed (begun v) (a .p .samples)) (a .p .samples) _ _ (put-range (put v) (v .put-parameters .ensures .0))
     (put-read (put v))
 
 returns : tie.Need-returns
@@ -80,7 +79,7 @@ returns c =
 
 -- 6 did not hold
 abbrev passed : tie.Else1 → tie.After-put-parameters
-passed c = c .before .before .before .before .before .before .before
+passed c = c .before .before .before .before .before .before
 
 part-put-centred-end : tie.Need-part-put-centred-end
 part-put-centred-end c =
@@ -96,7 +95,7 @@ put-centred-requires c κs =
 -- the rows were put, too
 module _ (c : tie.After-put-centred) where
   abbrev first : tie.After-put-parameters
-  first = c .before .before .before .before .before .before .before .before .before
+  first = c .before .before .before .before .before .before .before .before
 
   abbrev start : tie.Start
   start = begun first
@@ -157,7 +156,6 @@ prepare-spec =
     (λ c. search needs)
     (λ c. search needs)
     put-parameters-requires
-    (λ c κs. search needs)
     (λ c. search needs)
     (λ c. search needs)
     (λ c. search needs)
