@@ -47,7 +47,7 @@ int main(void) {
     size_t counts[5] = {0}, k = 0, axes[16] = {0};
     double ratio = 0, start = 0, end = 0;
     expect_done("build", pamitoye_build(points, D * N, D, N, true, no_axes, 0, true, 1.0,
-        no_list, 0, true, no_list, 0, MAX_REFINEMENTS, MAX_SEGMENTS, false, work, room[0],
+        no_list, 0, PAMITOYE_EVEN, no_list, 0, MAX_REFINEMENTS, MAX_SEGMENTS, false, work, room[0],
         breaks, room[1], coefficients, room[2], other_breaks, room[3], other_coefficients, room[4],
         errors, room[5], counts, &ratio, &k, axes, &start, &end));
     printf("accepted %zu %zu %zu %zu %zu\n", counts[0], counts[1], counts[2], counts[3], counts[4]);
@@ -70,7 +70,7 @@ int main(void) {
     double figure = 0;
     expect_done("certify", pamitoye_certify(D, k, axes, start, end, false, counts[0], counts[1],
         breaks, breaks_len, coefficients, coefficients_len, other_breaks, 0, other_coefficients, 0,
-        points, D * N, N, true, no_list, 0, 0, 0, &given, &figure));
+        points, D * N, N, PAMITOYE_EVEN, no_list, 0, 0, 0, &given, &figure));
     if (given)
         printf("certified %.17g\n", figure);
     else

@@ -100,8 +100,8 @@ static uint64_t build(struct built *b, const double *points, double tolerance, s
     const double tolerance_list[2] = {tolerance, tolerance};
     const double parameters[N] = {-1, 0, 0.5, 2, 3};
     return pamitoye_build(points, D * N, D, N, false, axis_list, 2, false, 0, tolerance_list, 2,
-        false, parameters, N, max_refinements, MAX_SEGMENTS, false, b->work, work_len, b->breaks,
-        b->room[1], b->coefficients, b->room[2], b->other_breaks, b->room[3],
+        PAMITOYE_LISTED, parameters, N, max_refinements, MAX_SEGMENTS, false, b->work, work_len,
+        b->breaks, b->room[1], b->coefficients, b->room[2], b->other_breaks, b->room[3],
         b->other_coefficients, b->room[4], b->errors, b->room[5], b->counts, &b->ratio, &b->k,
         b->axes, &b->start, &b->end);
 }
@@ -215,19 +215,19 @@ static void certificates(const struct built *b, const double *points) {
     bool given = true;
     double figure = MARK;
     expect("certify, points cut", pamitoye_certify(NUMBERS(*b), SLICES(*b), points, D * N - 1, N,
-        false, parameters, N, 0, 0, &given, &figure), PAMITOYE_POINT_CELLS);
+        PAMITOYE_LISTED, parameters, N, 0, 0, &given, &figure), PAMITOYE_POINT_CELLS);
     expect("certify an axis that is not smoothed", pamitoye_certify(NUMBERS(*b), SLICES(*b), points,
-        D * N, N, false, parameters, N, 1, 0, &given, &figure), PAMITOYE_BAD_AXES);
-    expect("certify, depth 7", pamitoye_certify(NUMBERS(*b), SLICES(*b), points, D * N, N, false,
-        parameters, N, 2, 7, &given, &figure), PAMITOYE_ORDER_ABOVE_THREE);
+        D * N, N, PAMITOYE_LISTED, parameters, N, 1, 0, &given, &figure), PAMITOYE_BAD_AXES);
+    expect("certify, depth 7", pamitoye_certify(NUMBERS(*b), SLICES(*b), points, D * N, N,
+        PAMITOYE_LISTED, parameters, N, 2, 7, &given, &figure), PAMITOYE_ORDER_ABOVE_THREE);
     check("given and figure are unchanged", given && figure == MARK);
     given = false;
-    expect("certify", pamitoye_certify(NUMBERS(*b), SLICES(*b), points, D * N, N, false, parameters,
-        N, 2, 0, &given, &figure), PAMITOYE_DONE);
+    expect("certify", pamitoye_certify(NUMBERS(*b), SLICES(*b), points, D * N, N, PAMITOYE_LISTED,
+        parameters, N, 2, 0, &given, &figure), PAMITOYE_DONE);
     check("a figure at or above the error", given && figure >= b->errors[0] && figure < 0.5);
     const double own = figure;
-    expect("certify, depth 6", pamitoye_certify(NUMBERS(*b), SLICES(*b), points, D * N, N, false,
-        parameters, N, 2, 6, &given, &figure), PAMITOYE_DONE);
+    expect("certify, depth 6", pamitoye_certify(NUMBERS(*b), SLICES(*b), points, D * N, N,
+        PAMITOYE_LISTED, parameters, N, 2, 6, &given, &figure), PAMITOYE_DONE);
     check("a deeper figure is not larger", given && figure <= own);
 }
 

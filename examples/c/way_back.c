@@ -109,8 +109,8 @@ static struct curve build(const double *points, const double *parameters) {
     c.other_breaks.cells = marked(room[3]);
     c.other_coefficients.cells = marked(room[4]);
     expect("build", pamitoye_build(points, D * N, D, N, false, axis_list, 1, true, 0.4, no_list, 0,
-        false, parameters, N, MAX_REFINEMENTS, MAX_SEGMENTS, c.clamp, work, room[0], c.breaks.cells,
-        room[1], c.coefficients.cells, room[2], c.other_breaks.cells, room[3],
+        PAMITOYE_LISTED, parameters, N, MAX_REFINEMENTS, MAX_SEGMENTS, c.clamp, work, room[0],
+        c.breaks.cells, room[1], c.coefficients.cells, room[2], c.other_breaks.cells, room[3],
         c.other_coefficients.cells, room[4], errors, room[5], counts, &ratio, &c.k, c.axes,
         &c.start, &c.end), PAMITOYE_DONE);
     /* the used cells: coefficients, and behind them a width for each segment */
@@ -163,8 +163,8 @@ static double certify(const char *call, const struct curve *c, const double *poi
                       const double *parameters, size_t depth) {
     bool given = false;
     double figure = MARK;
-    expect(call, pamitoye_certify(CURVE(*c), points, D * N, N, false, parameters, N, HEIGHT, depth,
-        &given, &figure), PAMITOYE_DONE);
+    expect(call, pamitoye_certify(CURVE(*c), points, D * N, N, PAMITOYE_LISTED, parameters, N,
+        HEIGHT, depth, &given, &figure), PAMITOYE_DONE);
     check("a figure is given", given);
     return figure;
 }
