@@ -299,8 +299,9 @@ uint64_t pamitoye_certify(
  * nothing.
  * A certified figure of the way out is none of the way back, whose coefficients are rounded anew:
  * pass pamitoye_certify the points in reverse and list parameters for them, start + (end - p) for
- * each p, in reverse. Coefficients of some 1e306 may overflow on the way back; then there is no
- * figure.
+ * each p, in reverse; PAMITOYE_CHORD over the points in reverse gives the same list, up to rounding,
+ * where the way out is by chords. Coefficients of some 1e306 may overflow on the way back; then there
+ * is no figure.
  * Numbers: 24, 19 (a lent slice is shorter than the curve's own), 29, in this order. */
 uint64_t pamitoye_return_lane(
     size_t d, size_t k, const size_t axes[16], double start, double end, bool clamp,

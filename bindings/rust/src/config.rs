@@ -1,5 +1,7 @@
 //! What a request asks for, and what an accepted one reports.
 
+use crate::ffi;
+
 /// The most axes (d) that a request may have.
 pub const MAX_AXES: usize = 16;
 /// The most waypoints (n) that a request may have.
@@ -34,7 +36,33 @@ pub enum OutOfRangeMode {
     Clamp,
 }
 
-/// How waypoints are to be smoothed. The fields and their defaults are copp's.
+/// The rule that spaces the parameters of waypoints where none are listed.
+#[derive(Clone, Copy, Debug, Default, PartialEq, Eq)]
+pub enum Spacing {
+    /// Version 1 of the rule: even from 0 to 1. Parameter i of n is i / (n - 1).
+    #[default]
+    Even,
+    /// Version 2: by chord length. The first parameter is 0, and each further one is the one before it plus the chord, the
+    /// distance of the two waypoints over all axes, also those that are not smoothed. Nothing is divided by the total: the
+    /// last parameter is the length of the line through the waypoints.
+    ///
+    /// [`chord_parameters`](crate::chord_parameters) has the list. It is refused, with
+    /// [`PathError::BadChords`](crate::PathError::BadChords) (5), where two neighbours are at the same place.
+    Chord,
+}
+
+impl Spacing {
+    /// The library's number for this rule, or for a list where there is one.
+    pub(crate) fn number(self, list: Option<&[f64]>) -> u64 {
+        match (list, self) {
+            (Some(_), _) => ffi::LISTED,
+            (None, Self::Even) => ffi::EVEN,
+            (None, Self::Chord) => ffi::CHORD,
+        }
+    }
+}
+
+/// How waypoints are to be smoothed. The fields and their defaults are copp's, but for `spacing`, which copp does not have.
 ///
 /// ```
 /// use pamitoye::{SmoothingConfig, SmoothingTolerance};
@@ -53,8 +81,12 @@ pub struct SmoothingConfig {
     /// The axes to smooth, distinct, in the order of the report; `None`, the default, is all of them. The others pass
     /// through every waypoint.
     pub axes: Option<Vec<usize>>,
-    /// A parameter for each waypoint, strictly rising; `None`, the default, is even from 0 to 1.
+    /// A parameter for each waypoint, strictly rising; `None`, the default, leaves them to `spacing`.
     pub parameters: Option<Vec<f64>>,
+    /// The rule that spaces the parameters, read where none are listed; even, as in copp, unless given. copp has no such
+    /// field: what [`Spacing::Chord`] gives here, copp gives, bit for bit, with
+    /// [`chord_parameters`](crate::chord_parameters) listed.
+    pub spacing: Spacing,
     /// How many rounds of refinement are allowed, at most [`MAX_REFINEMENTS`]; 20 unless given.
     pub max_refinements: usize,
     /// How many segments the smoothed axes may have, at most [`MAX_SEGMENTS`]; 20,000 unless given.
@@ -69,6 +101,7 @@ impl Default for SmoothingConfig {
             tolerance: SmoothingTolerance::Uniform(0.001),
             axes: None,
             parameters: None,
+            spacing: Spacing::Even,
             max_refinements: 20,
             max_segments: MAX_SEGMENTS,
             out_of_range_mode: OutOfRangeMode::Error,

@@ -1,7 +1,8 @@
 //! A curve that the library built or drove back, and the calls of the library. Every `unsafe` block of the crate is here.
 
 use crate::config::{
-    MAX_AXES, MAX_REFINEMENTS, OutOfRangeMode, SmoothingConfig, SmoothingReport, SmoothingTolerance,
+    MAX_AXES, MAX_REFINEMENTS, OutOfRangeMode, SmoothingConfig, SmoothingReport,
+    SmoothingTolerance, Spacing,
 };
 use crate::error::PathError;
 use crate::ffi;
@@ -177,6 +178,7 @@ impl Curve {
         };
         let parameter_list = config.parameters.as_deref();
         let parameters = parameter_list.unwrap_or_default();
+        let spacing = config.spacing.number(parameter_list);
         let mode = config.out_of_range_mode;
         let mut counts = [0; 5];
         let (mut ratio, mut start, mut end) = (f64::NAN, f64::NAN, f64::NAN);
@@ -197,7 +199,7 @@ impl Curve {
                 tolerance,
                 tolerances.as_ptr(),
                 tolerances.len(),
-                parameter_list.is_none(),
+                spacing,
                 parameters.as_ptr(),
                 parameters.len(),
                 config.max_refinements,
@@ -224,7 +226,7 @@ impl Curve {
             )
         };
         if number != 0 {
-            return Err(PathError::of_request(number, ratio));
+            return Err(PathError::of_request(number, ratio).of_spacing(spacing));
         }
         let [segments, others, refinements, fitting_rows, checked] = counts;
         // What `build` promises lets none of these fail.
@@ -402,16 +404,19 @@ impl Curve {
         }
     }
 
-    /// The certified figure of an axis at a depth, against the line through these points, if there is one.
+    /// The certified figure of an axis at a depth, against the line through these points, if there is one. Where no
+    /// parameters are listed, the rule spaces them.
     pub(crate) fn certify(
         &self,
         axis: usize,
         depth: usize,
         points: &[f64],
         parameter_list: Option<&[f64]>,
+        rule: Spacing,
     ) -> Result<Option<f64>, PathError> {
         let n = points.len().checked_div(self.d).unwrap_or(0);
         let parameters = parameter_list.unwrap_or_default();
+        let spacing = rule.number(parameter_list);
         let (mut given, mut figure) = (false, f64::NAN);
         // SAFETY: the function has no precondition: it refuses what it cannot take. Each pointer with its count is a
         // slice that is borrowed for the call, and the two cells to be written are of the types that it names.
@@ -422,7 +427,7 @@ impl Curve {
                 points.as_ptr(),
                 points.len(),
                 n,
-                parameter_list.is_none(),
+                spacing,
                 parameters.as_ptr(),
                 parameters.len(),
                 axis,
@@ -433,7 +438,7 @@ impl Curve {
         };
         match number {
             0 => Ok(given.then_some(figure)),
-            number => Err(PathError::of_certificate(number)),
+            number => Err(PathError::of_certificate(number).of_spacing(spacing)),
         }
     }
 }

@@ -1,5 +1,6 @@
 //! What is refused, with its number and its words.
 
+use crate::ffi;
 use std::fmt;
 
 /// Why a request or a query was turned away. Each case has the number that the library gives it, see
@@ -22,6 +23,10 @@ pub enum PathError {
     BadTolerance,
     /// 5: parameters of a wrong count, not finite or not strictly rising.
     BadParameters,
+    /// 5, of parameters by chord length ([`Spacing::Chord`](crate::Spacing::Chord)): two neighbouring waypoints are at the
+    /// same place, or their distance is infinite, rounds to 0 (differences below about 1.5e-162) or is lost in the sum
+    /// of those before. One of the two left out helps, or listed parameters.
+    BadChords,
     /// 6: the parameters' range is not finite, or they no longer rise once they are normalised.
     BadRange,
     /// 7: a coordinate's distance from the first one, over its tolerance, is not finite.
@@ -91,7 +96,7 @@ impl PathError {
             Self::NoAxes => 2,
             Self::BadAxes | Self::NotSelected => 3,
             Self::BadTolerance => 4,
-            Self::BadParameters => 5,
+            Self::BadParameters | Self::BadChords => 5,
             Self::BadRange => 6,
             Self::Overflow => 7,
             Self::InitialSegments => 8,
@@ -155,6 +160,14 @@ impl PathError {
         }
     }
 
+    /// The same refusal where the parameters have this spacing, by the library's number for it.
+    pub(crate) fn of_spacing(self, spacing: u64) -> Self {
+        match (self, spacing) {
+            (Self::BadParameters, ffi::CHORD) => Self::BadChords,
+            (error, _) => error,
+        }
+    }
+
     /// The refusal with this number of a curve that is to be certified.
     pub(crate) fn of_certificate(number: u64) -> Self {
         match number {
@@ -175,6 +188,10 @@ impl fmt::Display for PathError {
             Self::BadTolerance => "each smoothed axis needs a tolerance that is finite and above 0",
             Self::BadParameters => {
                 "the parameters must be finite, rise strictly and be as many as the waypoints"
+            }
+            Self::BadChords => {
+                "neighbouring waypoints are at the same place, or their distance is infinite or lost in the sum: \
+                 leave one of them out, or list parameters"
             }
             Self::BadRange => {
                 "the parameters' range is too wide, or some are too close together for it"
@@ -251,5 +268,21 @@ mod tests {
         assert_eq!(PathError::of_certificate(23), PathError::DepthAboveSix);
         assert!(used_up.to_string().ends_with("2.5"));
         assert_eq!(PathError::of_request(29, 2.5), PathError::NotRising);
+    }
+
+    /// 5 has words of its own where the parameters are by chord length, and no other number has.
+    #[test]
+    fn chords_have_their_words() {
+        for number in (1..=20).chain([24, 26, 29, 77]) {
+            let error = PathError::of_request(number, 2.5);
+            for spacing in [ffi::LISTED, ffi::EVEN] {
+                assert_eq!(error.of_spacing(spacing), error);
+            }
+            let by_chords = error.of_spacing(ffi::CHORD);
+            assert_eq!(by_chords.number(), number);
+            assert_eq!(by_chords == error, number != 5);
+        }
+        assert!(PathError::BadChords.to_string().contains("same place"));
+        assert!(!PathError::BadChords.higher_limit_may_help());
     }
 }

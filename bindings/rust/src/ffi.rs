@@ -4,6 +4,11 @@
 
 #![allow(clippy::too_many_arguments)]
 
+// Where the parameters of waypoints come from: the header's `enum pamitoye_spacing`.
+pub(crate) const LISTED: u64 = 0;
+pub(crate) const EVEN: u64 = 1;
+pub(crate) const CHORD: u64 = 2;
+
 unsafe extern "C" {
     pub(crate) fn pamitoye_room(
         d: usize,
@@ -24,7 +29,7 @@ unsafe extern "C" {
         tolerance: f64,
         tolerance_list: *const f64,
         tolerance_list_len: usize,
-        even: bool,
+        spacing: u64,
         parameters: *const f64,
         parameters_len: usize,
         max_refinements: usize,
@@ -130,7 +135,7 @@ unsafe extern "C" {
         points: *const f64,
         points_len: usize,
         n: usize,
-        even: bool,
+        spacing: u64,
         parameters: *const f64,
         parameters_len: usize,
         axis: usize,

@@ -26,10 +26,13 @@
 //!
 //! - Waypoints are a slice and a shape, answers are lists: nalgebra is not needed. Cells lie as in nalgebra's matrices.
 //! - [`PathError`] has a case for each reason, with its [number](PathError::number).
+//! - [`SmoothingConfig`] has one field more, `spacing`: where a program names all of copp's fields, it adds
+//!   `..Default::default()`.
 //! - Sizes above [`MAX_AXES`], [`MAX_WAYPOINTS`], [`MAX_SEGMENTS`] and [`MAX_REFINEMENTS`] are refused.
 //! - New: [`Path::certify`], [`Path::evaluate_into`] and [`Path::evaluate_at`], the breaks, the coefficients and the
-//!   widths, [`Workspace`]; [`Path::reversed`], the lane driven back, with [`reversed_waypoints`]; and
-//!   [`cutting_order`], which lane is cut first.
+//!   widths, [`Workspace`]; [`Spacing::Chord`], parameters by chord length, with [`chord_parameters`];
+//!   [`Path::reversed`], the lane driven back, with [`reversed_waypoints`]; and [`cutting_order`], which lane is cut
+//!   first.
 //!
 //! # What is relied on
 //!
@@ -56,9 +59,9 @@ mod workspace;
 
 pub use config::{
     MAX_AXES, MAX_REFINEMENTS, MAX_SEGMENTS, MAX_WAYPOINTS, OutOfRangeMode, SmoothingConfig,
-    SmoothingReport, SmoothingTolerance,
+    SmoothingReport, SmoothingTolerance, Spacing,
 };
 pub use error::PathError;
 pub use order::{MAX_LANES, MAX_PAIRS, OrderError, cutting_order, cutting_order_into};
-pub use path::{Path, PathDerivatives, reversed_waypoints};
+pub use path::{Path, PathDerivatives, chord_parameters, reversed_waypoints};
 pub use workspace::Workspace;

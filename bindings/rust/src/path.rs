@@ -1,6 +1,6 @@
 //! A smoothed path: built, asked, certified, reversed.
 
-use crate::config::{OutOfRangeMode, SmoothingConfig, SmoothingReport};
+use crate::config::{OutOfRangeMode, SmoothingConfig, SmoothingReport, Spacing};
 use crate::curve::Curve;
 use crate::error::PathError;
 use crate::workspace::Workspace;
@@ -28,6 +28,8 @@ pub struct Path {
     curve: Curve,
     /// The build's; none if the path was reversed.
     report: Option<SmoothingReport>,
+    /// The build's rule, for certificates without listed parameters.
+    spacing: Spacing,
 }
 
 /// So many cells, or a refusal where there is no memory for them.
@@ -51,7 +53,8 @@ impl Path {
     /// as far as an audit in f64 can tell ([`SmoothingReport::max_errors`]); [`certify`](Path::certify) tells it with
     /// proof. The other axes pass through every waypoint.
     ///
-    /// Segments, report and refusals are those of copp's `Path::from_waypoints_fitting`, bit for bit.
+    /// Segments, report and refusals are those of copp's `Path::from_waypoints_fitting`, bit for bit; with
+    /// [`Spacing::Chord`] they are those that copp has with [`chord_parameters`] listed.
     ///
     /// # Memory
     ///
@@ -99,16 +102,17 @@ impl Path {
         Ok(Self {
             curve,
             report: Some(report),
+            spacing: config.spacing,
         })
     }
 
     /// The lane driven back: the path that has at start + end - t what this one has at t, but for rounding.
     ///
     /// Breaks are 1 minus the old ones in reverse, segments the old ones in reverse, each as the polynomial of 1 minus
-    /// its local parameter, in both sets. Range, axes and mode remain. Over exact fractions it is this path at 1 minus
-    /// the normalised parameter, which is proved; what rounding does to it is not, so that it is certified anew, like
-    /// any path, against the waypoints in reverse: [`reversed_waypoints`] has them and their parameters. It was not
-    /// built: the build's report, whose errors are of the way out, is not its own, and it has none.
+    /// its local parameter, in both sets. Range, axes, mode and [`spacing`](Path::spacing) remain. Over exact fractions
+    /// it is this path at 1 minus the normalised parameter, which is proved; what rounding does to it is not, so that it
+    /// is certified anew, like any path, against the waypoints in reverse: [`reversed_waypoints`] has them and their
+    /// parameters. It was not built: the build's report, whose errors are of the way out, is not its own, and it has none.
     ///
     /// # Errors
     ///
@@ -148,6 +152,7 @@ impl Path {
         Ok(Self {
             curve,
             report: None,
+            spacing: self.spacing,
         })
     }
 
@@ -174,6 +179,13 @@ impl Path {
     /// What a query outside that range is answered with.
     pub fn out_of_range_mode(&self) -> OutOfRangeMode {
         self.curve.mode()
+    }
+
+    /// The rule that spaces the parameters of waypoints where [`certify`](Path::certify) is given none:
+    /// [`SmoothingConfig::spacing`] of the build, also where the build's own parameters were listed. A reversed path has
+    /// that of the way out.
+    pub fn spacing(&self) -> Spacing {
+        self.spacing
     }
 
     /// Values at these parameters.
@@ -270,8 +282,10 @@ impl Path {
     /// A figure that no point of this smoothed axis exceeds in its distance from the line, where there is one.
     ///
     /// `points` are waypoints as in [`from_waypoints_fitting`](Path::from_waypoints_fitting), with the path's axes, and
-    /// `parameters` theirs, `None` for even ones; as a rule both as the path was built from, or, of a path that was
-    /// reversed, what [`reversed_waypoints`] makes of them.
+    /// `parameters` theirs, `None` for those that the path's rule of [`spacing`](Path::spacing) gives these points; both
+    /// are, in general, what the path was built from or, of a path that was reversed, what [`reversed_waypoints`] makes of
+    /// it. With `None` a reversed path has the rule taken over the points in reverse: by chords the sums then begin at the
+    /// lane's other end, and the line's parameters may differ from that list by what is rounded.
     ///
     /// The promise, which is proved, is the distance rule: at every exact fraction of the parameter, the curve of the
     /// stored coefficients and the straight line between the two neighbouring waypoints, both taken without any
@@ -283,8 +297,8 @@ impl Path {
     ///
     /// # Errors
     ///
-    /// A depth above 6 (23), too many points (18), points that are not whole waypoints (20), points or parameters that a build would refuse
-    /// (1, 5, 6), an axis that is not smoothed (3). `Ok(None)` is no refusal: the end pairs overflowed.
+    /// A depth above 6 (23), too many points (18), points that are not whole waypoints (20), points or parameters that a
+    /// build would refuse (1, 5, 6), an axis that is not smoothed (3). `Ok(None)` is no refusal: the end pairs overflowed.
     ///
     /// ```
     /// # use pamitoye::{Path, PathError, SmoothingConfig};
@@ -302,7 +316,8 @@ impl Path {
         points: &[f64],
         parameters: Option<&[f64]>,
     ) -> Result<Option<f64>, PathError> {
-        self.curve.certify(axis, depth, points, parameters)
+        self.curve
+            .certify(axis, depth, points, parameters, self.spacing)
     }
 
     /// The breaks between the smoothed axes' segments, rising from 0 to 1: the parameter less the first one, over the
@@ -349,11 +364,12 @@ impl Path {
 /// The waypoints of a lane driven back, for [`Path::certify`] of a [reversed](Path::reversed) path: these points, of so
 /// many axes each, in reverse, and parameters listed for them.
 ///
-/// `parameters` are those of the way out, `None` for even ones. Where a waypoint's normalised parameter, less the first
-/// and over the range, is s, the one listed is first + range · (1 - s), each operation rounded. So the list begins and
-/// ends exactly as that of the way out, never falls, and normalised it differs from 1 - s, where the path has its break
-/// if there is one at the waypoint, by no more than these roundings. Even parameters are listed too: 1 - i/(n - 1),
-/// the breaks' own bits, and not (n - 1 - i)/(n - 1), which may lie beside them.
+/// `parameters` are those of the way out, `None` for even ones, [`chord_parameters`] for those by chord length. Where a
+/// waypoint's normalised parameter, less the first and over the range, is s, the one listed is first + range · (1 - s),
+/// each operation rounded. So the list begins and ends exactly as that of the way out, never falls, and normalised it
+/// differs from 1 - s, where the path has its break if there is one at the waypoint, by no more than these roundings.
+/// Even parameters are listed too: 1 - i/(n - 1), the breaks' own bits, and not (n - 1 - i)/(n - 1), which may lie beside
+/// them.
 ///
 /// Two waypoints in the first half that are no further apart than about 2^-53 of the range may get one parameter; the
 /// certificate then refuses the list with 5 or 6, also where no break lies there and the path is reversed. A list that it
@@ -388,4 +404,62 @@ pub fn reversed_waypoints(
         rest => start + range * rest,
     };
     (points_back, list.iter().rev().map(back).collect())
+}
+
+/// The parameters of these waypoints by chord length, of so many axes each: the list that [`Spacing::Chord`] stands for, bit
+/// for bit, to plot, to keep, or to hand to [`reversed_waypoints`].
+///
+/// The first is 0. Each further one is the one before it plus the chord, the root of the sum of the squared differences of all
+/// axes, the lowest axis first, each operation rounded to f64.
+///
+/// The list has one parameter for each whole waypoint: coordinates left over behind them are not read, and with 0 axes there
+/// is no waypoint and the list is empty. It is the list of any coordinates, also of those that a build refuses: where two
+/// neighbours are at the same place it does not rise, from an infinite chord on it is infinite, and behind a NaN all are
+/// NaN.
+///
+/// ```
+/// use pamitoye::{Path, PathError, SmoothingConfig, Spacing, chord_parameters, reversed_waypoints};
+///
+/// // Two axes, four waypoints: 5, 4 and 7 from one to the next.
+/// let points = [0.0, 0.0, 3.0, 4.0, 3.0, 0.0, 10.0, 0.0];
+/// let list = chord_parameters(&points, 2);
+/// assert_eq!(list, [0.0, 5.0, 9.0, 16.0]);
+///
+/// let config = SmoothingConfig {
+///     tolerance: 0.5.into(),
+///     spacing: Spacing::Chord,
+///     ..Default::default()
+/// };
+/// let path = Path::from_waypoints_fitting(&points, (2, 4), config.clone())?;
+/// let listed = SmoothingConfig { parameters: Some(list.clone()), ..config.clone() };
+/// let same = Path::from_waypoints_fitting(&points, (2, 4), listed)?;
+/// assert_eq!(path.s_range(), (0.0, 16.0));
+/// assert_eq!(path.coefficients(), same.coefficients());
+/// assert_eq!(path.certify(0, 0, &points, None)?, path.certify(0, 0, &points, Some(&list))?);
+///
+/// let (points_back, list_back) = reversed_waypoints(&points, 2, Some(&list));
+/// assert_eq!(list_back, [0.0, 7.0, 11.0, 16.0]);
+/// assert!(path.reversed()?.certify(0, 0, &points_back, Some(&list_back))?.is_some());
+///
+/// // Twice at the same place.
+/// let refused = Path::from_waypoints_fitting(&[0.0, 1.0, 1.0, 2.0], (1, 4), config);
+/// assert_eq!(refused.err(), Some(PathError::BadChords));
+/// # Ok::<(), PathError>(())
+/// ```
+pub fn chord_parameters(points: &[f64], axes: usize) -> Vec<f64> {
+    if axes == 0 {
+        return Vec::new();
+    }
+    let waypoints = points.chunks_exact(axes);
+    let pairs = waypoints.clone().zip(waypoints.clone().skip(1));
+    let chords = pairs.map(|(from, to)| {
+        let squares = from.iter().zip(to).map(|(a, b)| (b - a) * (b - a));
+        squares.fold(0., |sum: f64, square| sum + square).sqrt()
+    });
+    let steps = waypoints.take(1).map(|_| 0.).chain(chords);
+    let sums = steps.scan(0., |sum, step| {
+        *sum += step;
+        Some(*sum)
+    });
+    sums.collect()
 }

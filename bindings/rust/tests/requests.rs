@@ -1,25 +1,12 @@
-//! Requests of any kind: none panics, and what is accepted holds together. The oracle's generator draws them; it is
-//! written for copp's types, and these are named as they are.
+//! Requests of any kind: none panics, and what is accepted holds together. The oracle's generator draws them.
 
-use pamitoye::{Path, PathError, SmoothingConfig, SmoothingTolerance};
+use pamitoye::{Path, PathError};
 
-/// Where the generator looks for copp's types.
-mod path {
-    pub use pamitoye::OutOfRangeMode;
-    pub mod smoothing {
-        pub use pamitoye::{SmoothingConfig, SmoothingTolerance};
-    }
-}
+mod drawn;
 
-mod odd;
-#[path = "../../../oracle/src/random.rs"]
-#[allow(dead_code)]
-mod random;
-#[path = "../../../oracle/src/request.rs"]
-#[allow(dead_code)]
-mod request;
-
+use drawn::*;
 use path::OutOfRangeMode;
+use path::smoothing::{SmoothingConfig, SmoothingTolerance};
 use random::Random;
 use request::Request;
 
@@ -104,7 +91,7 @@ fn no_request_panics() {
     for _ in 0..3000 {
         let request = odd::request(&mut r);
         let shape = (request.d, request.n);
-        let config = request.config.clone();
+        let config = request.config.clone().into();
         match Path::from_waypoints_fitting(&request.points, shape, config) {
             Ok(path) => {
                 holds_together(&request, &path);

@@ -3,22 +3,9 @@
 
 use pamitoye::{Path, PathError, SmoothingConfig, reversed_waypoints};
 
-/// Where the generator looks for copp's types.
-mod path {
-    pub use pamitoye::OutOfRangeMode;
-    pub mod smoothing {
-        pub use pamitoye::{SmoothingConfig, SmoothingTolerance};
-    }
-}
+mod drawn;
 
-mod odd;
-#[path = "../../../oracle/src/random.rs"]
-#[allow(dead_code)]
-mod random;
-#[path = "../../../oracle/src/request.rs"]
-#[allow(dead_code)]
-mod request;
-
+use drawn::*;
 use path::OutOfRangeMode;
 use random::{Random, power_of_two};
 use request::Request;
@@ -313,8 +300,8 @@ fn check_figures(r: &mut Random, request: &Request, path: &Path, back: &Path, se
 
 fn check(r: &mut Random, request: &Request, seen: &mut Seen) {
     let shape = (request.d, request.n);
-    let Ok(path) = Path::from_waypoints_fitting(&request.points, shape, request.config.clone())
-    else {
+    let config = request.config.clone().into();
+    let Ok(path) = Path::from_waypoints_fitting(&request.points, shape, config) else {
         return;
     };
     seen.paths += 1;
@@ -379,7 +366,7 @@ fn second_at(x: f64) -> Result<Path, PathError> {
     let request = Request::flat_beside(&[0., 0., 1.]).with_parameters(&[0., x, 1.]);
     let config = SmoothingConfig {
         out_of_range_mode: OutOfRangeMode::Clamp,
-        ..request.config
+        ..request.config.into()
     };
     Path::from_waypoints_fitting(&request.points, (2, 3), config)
 }

@@ -24,6 +24,7 @@ pub fn config(config: &source::SmoothingConfig) -> SmoothingConfig {
         },
         axes: config.axes.clone(),
         parameters: config.parameters.clone(),
+        spacing: Default::default(),
         max_refinements: config.max_refinements,
         max_segments: config.max_segments,
         out_of_range_mode: match config.out_of_range_mode {

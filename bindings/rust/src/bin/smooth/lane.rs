@@ -1,8 +1,23 @@
-//! A lane: the columns of a table that are axes, and the one with the parameters.
+//! A lane: the columns of a table that are axes, and the one with the parameters, or the rule that spaces them.
 
 use crate::csv::Table;
 use crate::options::Options;
-use pamitoye::{Path, PathError, SmoothingConfig, SmoothingTolerance, reversed_waypoints};
+use pamitoye::{
+    Path, PathError, SmoothingConfig, SmoothingTolerance, Spacing, chord_parameters,
+    reversed_waypoints,
+};
+
+/// The rules of spacing, by the words of `--parameters`.
+const RULES: [(&str, Spacing); 2] = [("even", Spacing::Even), ("chord", Spacing::Chord)];
+
+/// Where the parameters of a lane come from.
+#[derive(Clone)]
+pub enum Source {
+    /// A list of this name: a column's, or that of the way back.
+    Listed(String),
+    /// The rule of spacing.
+    Spaced(Spacing),
+}
 
 #[derive(Clone)]
 pub struct Lane {
@@ -14,8 +29,10 @@ pub struct Lane {
     pub axes: Option<Vec<usize>>,
     /// Waypoint after waypoint.
     pub points: Vec<f64>,
-    /// The parameters, and what their column is called; none for even ones.
-    pub listed: Option<(String, Vec<f64>)>,
+    /// The parameter of each waypoint.
+    pub parameters: Vec<f64>,
+    /// Where the parameters come from.
+    pub source: Source,
     /// The line of each waypoint.
     pub lines: Vec<usize>,
     pub tolerance: SmoothingTolerance,
@@ -28,12 +45,12 @@ pub struct Lane {
 impl Lane {
     pub fn new(options: &Options, table: Table) -> Result<Self, String> {
         let columns = Columns::new(&table);
-        let parameter = match &options.parameters {
-            Some(wanted) => Some(columns.find("--parameters", wanted)?),
-            None => None,
+        let named = match &options.parameters {
+            Some(wanted) => columns.parameters(wanted)?,
+            None => Named::Rule(Spacing::default()),
         };
         let axis_columns: Vec<usize> = (0..table.columns)
-            .filter(|c| Some(*c) != parameter)
+            .filter(|c| named != Named::Column(*c))
             .collect();
         let axes = match &options.axes {
             Some(list) => Some(selected(&columns, list, &axis_columns)?),
@@ -48,18 +65,30 @@ impl Lane {
             return Err(format!("--tolerance has {count} numbers for {axes}"));
         }
         let at = |cells: &[f64], c: usize| cells.get(c).copied().unwrap_or(f64::NAN);
-        let points = table.rows.iter();
+        let rows = || table.rows.iter().map(|row| row.cells.as_slice());
+        let points: Vec<f64> = rows()
+            .flat_map(|cells| axis_columns.iter().map(|c| at(cells, *c)))
+            .collect();
+        let (source, parameters) = match named {
+            Named::Column(c) => (
+                Source::Listed(columns.name(c)),
+                rows().map(|cells| at(cells, c)).collect(),
+            ),
+            Named::Rule(rule @ Spacing::Even) => {
+                (Source::Spaced(rule), even_parameters(table.rows.len()))
+            }
+            Named::Rule(rule @ Spacing::Chord) => {
+                let list = chord_parameters(&points, axis_columns.len());
+                (Source::Spaced(rule), list)
+            }
+        };
         Ok(Self {
             name: options.input_name(),
             names: axis_columns.iter().map(|c| columns.name(*c)).collect(),
             axes,
-            points: points
-                .flat_map(|row| axis_columns.iter().map(|c| at(&row.cells, *c)))
-                .collect(),
-            listed: parameter.map(|c| {
-                let list = table.rows.iter().map(|row| at(&row.cells, c));
-                (columns.name(c), list.collect())
-            }),
+            points,
+            parameters,
+            source,
             lines: table.rows.iter().map(|row| row.line).collect(),
             tolerance,
             depth: options.depth,
@@ -69,10 +98,12 @@ impl Lane {
 
     /// The lane driven back: its waypoints in reverse, with parameters listed for them.
     pub fn reversed(&self) -> Self {
-        let (points, list) = reversed_waypoints(&self.points, self.d(), self.parameters());
+        let (points, parameters) =
+            reversed_waypoints(&self.points, self.d(), Some(&self.parameters));
         Self {
             points,
-            listed: Some((format!("{} back", self.parameter_name()), list)),
+            parameters,
+            source: Source::Listed(format!("{} back", self.parameter_name())),
             lines: self.lines.iter().rev().copied().collect(),
             back: true,
             ..self.clone()
@@ -94,17 +125,25 @@ impl Lane {
         self.lines.len()
     }
 
-    /// The listed parameters.
-    pub fn parameters(&self) -> Option<&[f64]> {
-        self.listed.as_ref().map(|(_, list)| list.as_slice())
+    /// The parameters, if they are listed.
+    pub fn listed(&self) -> Option<&[f64]> {
+        match self.source {
+            Source::Listed(_) => Some(&self.parameters),
+            Source::Spaced(_) => None,
+        }
+    }
+
+    /// The rule of spacing, which is not read where the parameters are listed.
+    fn spacing(&self) -> Spacing {
+        match self.source {
+            Source::Listed(_) => Spacing::default(),
+            Source::Spaced(rule) => rule,
+        }
     }
 
     /// The parameter of a waypoint.
     pub fn parameter(&self, i: usize) -> f64 {
-        match self.parameters() {
-            Some(list) => list.get(i).copied().unwrap_or(f64::NAN),
-            None => i as f64 / self.n().saturating_sub(1) as f64,
-        }
+        self.parameters.get(i).copied().unwrap_or(f64::NAN)
     }
 
     /// A coordinate.
@@ -115,7 +154,11 @@ impl Lane {
 
     /// What the parameter is called.
     pub fn parameter_name(&self) -> &str {
-        self.listed.as_ref().map_or("parameter", |(name, _)| name)
+        match &self.source {
+            Source::Listed(name) => name,
+            Source::Spaced(Spacing::Even) => "parameter",
+            Source::Spaced(Spacing::Chord) => "chord length",
+        }
     }
 
     /// An axis's name.
@@ -127,11 +170,26 @@ impl Lane {
     pub fn build(&self, options: &Options) -> Result<Path, PathError> {
         let config = SmoothingConfig {
             axes: self.axes.clone(),
-            parameters: self.parameters().map(<[f64]>::to_vec),
+            parameters: self.listed().map(<[f64]>::to_vec),
+            spacing: self.spacing(),
             ..options.config.clone()
         };
         Path::from_waypoints_fitting(&self.points, (self.d(), self.n()), config)
     }
+}
+
+/// The parameters of so many waypoints, even from 0 to 1.
+fn even_parameters(n: usize) -> Vec<f64> {
+    let last = n.saturating_sub(1) as f64;
+    (0..n).map(|i| i as f64 / last).collect()
+}
+
+/// What `--parameters` names.
+#[derive(PartialEq)]
+enum Named {
+    /// The column with this place from 0.
+    Column(usize),
+    Rule(Spacing),
 }
 
 /// The columns of a table, by header and by number.
@@ -155,10 +213,15 @@ impl<'a> Columns<'a> {
         }
     }
 
+    /// The column with this header.
+    fn headed(&self, wanted: &str) -> Option<usize> {
+        let header = self.header.unwrap_or_default();
+        header.iter().position(|name| name == wanted)
+    }
+
     /// The column with this header or, if there is none, this number from 1.
     fn find(&self, option: &str, wanted: &str) -> Result<usize, String> {
-        let header = self.header.unwrap_or_default();
-        if let Some(column) = header.iter().position(|name| name == wanted) {
+        if let Some(column) = self.headed(wanted) {
             return Ok(column);
         }
         match wanted.parse::<usize>() {
@@ -166,6 +229,23 @@ impl<'a> Columns<'a> {
             _ => Err(format!(
                 "{option}: there is no column \"{wanted}\"; there are {}",
                 self.listed()
+            )),
+        }
+    }
+
+    /// The column with the parameters, or the rule that spaces them. A word that is both is refused.
+    fn parameters(&self, wanted: &str) -> Result<Named, String> {
+        let option = "--parameters";
+        let Some((word, rule)) = RULES.into_iter().find(|(word, _)| *word == wanted) else {
+            let words = RULES.map(|(word, _)| word).join(" and ");
+            let found = self.find(option, wanted).map(Named::Column);
+            return found.map_err(|wrong| format!("{wrong}; the rules are {words}"));
+        };
+        match self.headed(word).map(|column| column + 1) {
+            None => Ok(Named::Rule(rule)),
+            Some(number) => Err(format!(
+                "{option}: \"{word}\" is a rule, and column {number} is called so too; \
+                 write {number} for the column, or rename it for the rule"
             )),
         }
     }

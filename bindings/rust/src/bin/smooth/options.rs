@@ -16,7 +16,11 @@ standard input is read.
   -t, --tolerance X[,Y..]  how far an axis may lie from its line: one for all, or one for each smoothed axis (0.001)
   -a, --axes A[,B..]       the columns to smooth, by header or by number from 1 (all); the others pass through
                            every waypoint
-  -p, --parameters COLUMN  the column with the parameters, strictly rising (even from 0 to 1)
+  -p, --parameters COLUMN  the column with the parameters, strictly rising, by header or by number from 1
+      --parameters even    even parameters from 0 to 1 (so without the option)
+      --parameters chord   parameters by chord length: 0 for the first waypoint, and for each further one the distance
+                           from the one before more; all columns count, also those that are not smoothed.
+                           A column called even or chord is named by its number
       --max-refinements N  rounds of refinement, 200 at most (20)
       --max-segments N     segments of the smoothed axes, 20000 at most (20000)
       --segments FILE      writes the segments as CSV: axis, set, segment, left and right break, p0 to p5
@@ -32,6 +36,7 @@ standard input is read.
 
 Of a segment: u = (parameter - first) / (last - first), v = (u - left) / (right - left), value = p0 + p1 v + .. + p5 v^5.
 On the way back the parameter of a waypoint is first + (last - its parameter), so that it rises from first to last again.
+By chord length it goes from 0 to the length of the lane; --from, --to and the samples are in the same unit.
 
 When a lane is refused, its number tells whether another try with a higher limit may help: 8 and 15 may change with a
 higher --max-segments, 14 with a higher --max-refinements. No other refusal changes with a limit, and a lane that is
@@ -40,6 +45,7 @@ smoothed stays as it is, in every digit.
 examples:
   smooth --tolerance 0.05 lane.csv
   smooth --tolerance 0.05,0.2 --axes x,z --parameters time --picture lane.svg lane.csv
+  smooth --tolerance 0.05 --parameters chord lane.csv
   smooth -t 1 --segments segments.csv --samples samples.csv --count 1001 < lane.csv
 
 status: 0 smoothed; 1 refused, with the reason; 2 wrong input, or a file that cannot be read or written
@@ -57,9 +63,9 @@ pub struct Options {
     pub input: Option<PathBuf>,
     /// Columns by header or number; none for all.
     pub axes: Option<Vec<String>>,
-    /// The column with the parameters, if there is one.
+    /// The column with the parameters, or the rule that spaces them; none for even ones.
     pub parameters: Option<String>,
-    /// Tolerance, limits and mode; axes and parameters come from the table.
+    /// Tolerance, limits and mode; axes, parameters and their spacing come from the lane.
     pub config: SmoothingConfig,
     pub segments: Option<PathBuf>,
     pub samples: Option<PathBuf>,

@@ -1,10 +1,10 @@
 //! The report in words and numbers.
 
-use crate::lane::Lane;
+use crate::lane::{Lane, Source};
 use crate::options::Options;
 use crate::sampled::Sampled;
 use crate::{counted, number, tolerance_at};
-use pamitoye::{MAX_REFINEMENTS, MAX_SEGMENTS, Path, PathError};
+use pamitoye::{MAX_REFINEMENTS, MAX_SEGMENTS, Path, PathError, Spacing, chord_parameters};
 use std::fmt::Write;
 
 /// What is known of a smoothed axis's distance from its line.
@@ -23,7 +23,7 @@ impl Margin {
             Ok(Self {
                 axis: *axis,
                 tolerance: tolerance_at(&lane.tolerance, place),
-                figure: path.certify(*axis, lane.depth, &lane.points, lane.parameters())?,
+                figure: path.certify(*axis, lane.depth, &lane.points, lane.listed())?,
             })
         })
         .collect()
@@ -64,9 +64,10 @@ pub fn at_depth(lane: &Lane) -> String {
 /// The first line: what was read.
 fn input(lane: &Lane) -> String {
     let axes = crate::axes(lane.d());
-    let parameters = match &lane.listed {
-        Some((name, _)) => format!("parameters from {name}"),
-        None => "even parameters".to_string(),
+    let parameters = match &lane.source {
+        Source::Listed(name) => format!("parameters from {name}"),
+        Source::Spaced(Spacing::Even) => "even parameters".to_string(),
+        Source::Spaced(Spacing::Chord) => "parameters by chord length".to_string(),
     };
     let waypoints = counted(lane.n(), "waypoint");
     format!("{}: {waypoints}, {axes}, {parameters}\n", lane.name)
@@ -258,7 +259,9 @@ fn remedy(options: &Options, lane: &Lane, error: &PathError) -> Option<String> {
         PathError::BadPoints => "two lines of numbers or more".to_string(),
         PathError::BadTolerance => "one --tolerance above 0 for all smoothed axes".to_string(),
         PathError::BadParameters => falls(lane).or_else(|| too_close(lane))?,
-        PathError::BadRange => "parameters of about the same distance from each other".to_string(),
+        PathError::BadChords => no_chord(lane)?,
+        PathError::BadRange => lost_chord(lane)
+            .unwrap_or_else(|| "parameters of about the same distance from each other".to_string()),
         PathError::Overflow | PathError::NotFinite | PathError::BadSolution => {
             format!("{LARGER}, or coordinates in a larger unit")
         }
@@ -296,7 +299,7 @@ fn remedy(options: &Options, lane: &Lane, error: &PathError) -> Option<String> {
 
 /// The first line whose parameter is not above the one before.
 fn falls(lane: &Lane) -> Option<String> {
-    let list = lane.parameters()?;
+    let list = lane.listed()?;
     let place = list
         .windows(2)
         .position(|pair| pair.first() >= pair.last())?;
@@ -313,7 +316,7 @@ fn falls(lane: &Lane) -> Option<String> {
 /// The first two lines whose parameters are one number on the way back.
 fn too_close(lane: &Lane) -> Option<String> {
     let back = lane.reversed();
-    let mut pairs = back.parameters()?.windows(2).zip(back.lines.windows(2));
+    let mut pairs = back.parameters.windows(2).zip(back.lines.windows(2));
     let (_, lines) = pairs.rfind(|(pair, _)| pair.first() >= pair.last())?;
     Some(format!(
         "lines {} and {} further apart in {}, or one of them left out; on the way back they are not told apart",
@@ -321,4 +324,58 @@ fn too_close(lane: &Lane) -> Option<String> {
         lines.first()?,
         lane.parameter_name()
     ))
+}
+
+/// What helps where two neighbouring lines have no chord that can be seen, and why.
+fn apart(first: usize, second: usize, why: &str) -> String {
+    format!("one of lines {first} and {second} left out, or a column for --parameters; they {why}")
+}
+
+/// The first two lines between which the parameters by chord length do not rise.
+fn no_chord(lane: &Lane) -> Option<String> {
+    let rises = |pair: &[f64]| pair.first() < pair.last() && pair.iter().all(|p| p.is_finite());
+    let place = lane.parameters.windows(2).position(|pair| !rises(pair))?;
+    let (first, second) = (*lane.lines.get(place)?, *lane.lines.get(place + 1)?);
+    let together = (0..lane.d()).all(|a| lane.point(place, a) == lane.point(place + 1, a));
+    let chord = chord_of(lane, place)?;
+    if !chord.is_finite() {
+        return Some(format!(
+            "coordinates in a larger unit, or a column for --parameters; \
+             the distance of lines {first} and {second} is infinite"
+        ));
+    }
+    let why = if together {
+        "are at the same place".to_string()
+    } else if chord == 0. {
+        "are so close together that their distance is rounded to 0".to_string()
+    } else {
+        lost(chord, "before them", lane.parameter(place))
+    };
+    Some(apart(first, second, &why))
+}
+
+/// If the parameters are by chord length, the first two lines whose are one number once they are divided by the last.
+fn lost_chord(lane: &Lane) -> Option<String> {
+    let Source::Spaced(Spacing::Chord) = lane.source else {
+        return None;
+    };
+    let length = *lane.parameters.last()?;
+    let share = |p: Option<&f64>| p.map(|p| p / length);
+    let mut pairs = lane.parameters.windows(2);
+    let place = pairs.position(|pair| share(pair.first()) >= share(pair.last()))?;
+    let (first, second) = (*lane.lines.get(place)?, *lane.lines.get(place + 1)?);
+    let why = lost(chord_of(lane, place)?, "in all", length);
+    Some(apart(first, second, &why))
+}
+
+/// That a chord is not seen beside a length.
+fn lost(chord: f64, which: &str, length: f64) -> String {
+    let (chord, length) = (number(chord), number(length));
+    format!("are {chord} apart, which is lost beside the length {which}, {length}")
+}
+
+/// The chord from the waypoint at this place to the next.
+fn chord_of(lane: &Lane, place: usize) -> Option<f64> {
+    let both = lane.points.get(place * lane.d()..(place + 2) * lane.d())?;
+    chord_parameters(both, lane.d()).last().copied()
 }
