@@ -17,10 +17,10 @@ standard input is read.
   -a, --axes A[,B..]       the columns to smooth, by header or by number from 1 (all); the others pass through
                            every waypoint
   -p, --parameters COLUMN  the column with the parameters, strictly rising, by header or by number from 1
-      --parameters even    even parameters from 0 to 1 (so without the option)
-      --parameters chord   parameters by chord length: 0 for the first waypoint, and for each further one the distance
-                           from the one before more; all columns count, also those that are not smoothed.
-                           A column called even or chord is named by its number
+      --parameters even    parameters from 0 to 1 at even steps (the default)
+      --parameters chord   parameters by chord length: from 0 on, each the one before plus the distance of the two
+                           waypoints; all columns count, also those that are not smoothed. A column that is called
+                           even or chord is named by its number
       --max-refinements N  rounds of refinement, 200 at most (20)
       --max-segments N     segments of the smoothed axes, 20000 at most (20000)
       --segments FILE      writes the segments as CSV: axis, set, segment, left and right break, p0 to p5
@@ -36,7 +36,7 @@ standard input is read.
 
 Of a segment: u = (parameter - first) / (last - first), v = (u - left) / (right - left), value = p0 + p1 v + .. + p5 v^5.
 On the way back the parameter of a waypoint is first + (last - its parameter), so that it rises from first to last again.
-By chord length it goes from 0 to the length of the lane; --from, --to and the samples are in the same unit.
+By chord length it goes from 0 to the length of the line through the waypoints; --from and --to are in it too.
 
 When a lane is refused, its number tells whether another try with a higher limit may help: 8 and 15 may change with a
 higher --max-segments, 14 with a higher --max-refinements. No other refusal changes with a limit, and a lane that is
