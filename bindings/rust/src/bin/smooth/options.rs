@@ -36,7 +36,7 @@ standard input is read.
 
 Of a segment: u = (parameter - first) / (last - first), v = (u - left) / (right - left), value = p0 + p1 v + .. + p5 v^5.
 On the way back the parameter of a waypoint is first + (last - its parameter), so that it rises from first to last again.
-By chord length it goes from 0 to the length of the line through the waypoints; --from and --to are in it too.
+By chord length the parameter goes from 0 to the length of the line through the waypoints; --from and --to are in it too.
 
 When a lane is refused, its number tells whether another try with a higher limit may help: 8 and 15 may change with a
 higher --max-segments, 14 with a higher --max-refinements. No other refusal changes with a limit, and a lane that is
