@@ -354,7 +354,7 @@ fn no_chord(lane: &Lane) -> Option<String> {
     Some(apart(first, second, &why))
 }
 
-/// If the parameters are by chord length, the first two lines whose are one number once they are divided by the last.
+/// Where the parameters are by chord length, the first two lines for which they are one number once divided by the last.
 fn lost_chord(lane: &Lane) -> Option<String> {
     let Source::Spaced(Spacing::Chord) = lane.source else {
         return None;
