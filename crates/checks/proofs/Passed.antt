@@ -1,5 +1,5 @@
 -- The refusals 1 to 7 and 26 of a lane: 6 and 7 are asked where none of the others holds; and what holds of a lane that those let through.
-use mathlib.Core.Path.{_≡_, refl, sym, ap, _∙_}
+use mathlib.Core.Path.{_≡_, refl}
 use mathlib.Core.Bool.{Bool, true, false, cond}
 use Prim.Native.Nat.{ℕ, _+_, _≤_, _<_}
 use native.Mathlib.Omega.{arith}

@@ -45,7 +45,7 @@ nil-fraction s n c C e = eq/ (record { numerator = signed s n; denominator = c; 
     go true = equal-by-parts (negℤ (pos (n * 1))) (pos (0 * c)) (omega (arith, parts-neg (pos (n * 1)) .0, parts-neg (pos (n * 1)) .1))
 
 -- a zero is worth 0, and only a zero is
-zero-value : (s : Bool) (m : ℕ) (e : ℤ) → m ≡ 0 → value (fin s m e) ≡ 𝟘
+pub zero-value : (s : Bool) (m : ℕ) (e : ℤ) → m ≡ 0 → value (fin s m e) ≡ 𝟘
 zero-value s m e h = nil-fraction s (m * up e) (down e) (down-pos e) (ap (λ (k : ℕ). k * up e) h ∙ none (up e))
   where
     none : (u : ℕ) → 0 * u ≡ 0

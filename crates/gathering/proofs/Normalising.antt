@@ -6,7 +6,7 @@ use native.Mathlib.Omega.{arith}
 use lib.Ieee.{Float, nan, binary64, sub, div}
 use lib.ListN.{length}
 use Rattle.window.specs.Cells.{at}
-use Rattle.window.specs.Rows.{join, listOf, written}
+use Rattle.window.specs.Rows.{listOf, written}
 use Rattle.window.proofs.Joined.{join-ap, list-at, list-length}
 use Rattle.window.proofs.Written.{splice-after}
 use Rattle.request.specs.Parameters.{lengthOf, normalisedOf}

@@ -7,16 +7,18 @@ use native.Mathlib.Omega.{arith}
 use lib.Dec.{T, eqb}
 use lib.IntN.{pos}
 use lib.ListN.{length}
-use lib.Ieee.{Float, nan, inf, fin, binary64, add, fits, sub, mul, le, ofBits, round, sum}
+use lib.Ieee.{Float, nan, inf, fin, binary64, add, fits, sub, mul, le, round, sum}
 use lib.Ieee.Scale.{finite}
-use Rattle.window.specs.Cells.{+0, at}
-use Rattle.fraction.specs.Rational.{ℚ, atMostq, wholeq, _≤q_, _+q_}
+use Rattle.window.specs.Cells.{at}
+use Rattle.fraction.specs.Rational.{ℚ, _≤q_, _+q_}
 use Rattle.fraction.specs.RationalRing.{rationalRing}
 use Rattle.fraction.specs.Ring.{con, solve, var, _⊕_}
 use Rattle.fraction.specs.Value.{value}
+use Rattle.fraction.proofs.DirectedSum.{zero-value}
 use Rattle.fraction.proofs.OwnRounding.{rounds-below}
-use Rattle.fraction.proofs.Rational.{≤q-antisymmetric, ≤q-refl}
+use Rattle.fraction.proofs.Rational.{≤q-refl}
 use Rattle.fraction.proofs.Rounding.{add-rounded}
+use Rattle.fraction.proofs.Value.{plus-zero}
 use Rattle.float.specs.Root.{sqrtOf}
 use Rattle.request.specs.declared.parameters.Spacing.the-variants.{Chord}
 use Rattle.request.specs.Any.{any}
@@ -67,18 +69,10 @@ infinite-chord list points d n i l h =
 abbrev nought : Float
 nought = fin false 0 (pos 0)
 
-zero-is : +0 ≡ nought
-unfolding ofBits
-zero-is = refl
-
-nought-value : value nought ≡ wholeq (pos 0)
-unfolding atMostq
-nought-value = ≤q-antisymmetric _ _ tt tt
-
 -- a sum of zeros
 zeros-sum : (d : ℕ) (x : ℕ → Float) → ((r : ℕ) → r < d → x r ≡ nought) → sumOf d x ≡ nought
 unfolding sumOf add sum round
-zeros-sum zero x h = zero-is
+zeros-sum zero x h = plus-zero binary64
 zeros-sum (suc d) x h = rw (zeros-sum d x (λ r l. h r (omega arith)), h d (omega arith))
 
 module _ (points : List Float) (d i : ℕ) (equal : (r : ℕ) → r < d → at points ((i + 1) * d + r) ≡ at points (i * d + r))
@@ -109,7 +103,7 @@ module _ (points : List Float) (d i : ℕ) (equal : (r : ℕ) → r < d → at p
           (sum-fits i (chordLength points d)) in
           let X : T (finite x) = subst T (sym h) tt in
           let v : value x +q value nought ≡ value x =
-          ap (λ (z : ℚ). value x +q z) nought-value ∙ solve rationalRing (value x ∷ []) (var 0 ⊕ con (pos 0)) (var 0) tt in
+          ap (λ (z : ℚ). value x +q z) (zero-value false 0 (pos 0) refl) ∙ solve rationalRing (value x ∷ []) (var 0 ⊕ con (pos 0)) (var 0) tt in
           let below = rounds-below binary64 x F X (add binary64 x nought) (value x +q value nought) (add-rounded binary64 x nought X tt)
           (subst (λ (z : ℚ). z ≤q value x) (sym v) (≤q-refl (value x))) in
           let fell : le (at p (i + 1)) x ≡ true = ap (λ (y : Float). le y x) e ∙ below in

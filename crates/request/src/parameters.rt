@@ -202,14 +202,7 @@ pub fn placed(spacing: Spacing, list: &[f64], points: &[f64], d: usize, n: usize
 }
 
 // Whether a normalised parameter is at or below the one before it.
-fn falls(
-    spacing: Spacing,
-    list: &[f64],
-    points: &[f64],
-    d: usize,
-    n: usize,
-    range: f64,
-) -> bool
+fn falls(spacing: Spacing, list: &[f64], points: &[f64], d: usize, n: usize, range: f64) -> bool
     requires { ⌜ (2 ≤ n) × (n ≤ 20000) × (n * d ≤ length (now points)) × (spacing ≡ Listed → n ≤ length (now list)) ⌝ }
     requires { ⌜ range ≡ lengthOf (parameterList spacing (now list) (now points) d n) n ⌝ }
     ensures { λ r. ⌜ r ≡ anyFall n (normalisedOf (parameterList spacing (now (list .entry)) (now (points .entry)) d n) n) ⌝ }

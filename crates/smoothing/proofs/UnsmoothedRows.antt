@@ -18,7 +18,7 @@ use Rattle.normal.specs.Solve.{solveOf}
 use Rattle.smoothing.specs.Answer.{Answer}
 use Rattle.smoothing.specs.Answer.Answer.{done}
 use Rattle.smoothing.specs.Request.{Lane, Limits, toleranceList, axisCount}
-use Rattle.smoothing.specs.Rows.{Units, taskOf, laneTask, laneUnits, parametersOf, smoothedRows, otherAxes, otherRows}
+use Rattle.smoothing.specs.Rows.{taskOf, laneTask, laneUnits, parametersOf, smoothedRows, otherAxes, otherRows}
 use Rattle.smoothing.specs.Finish.{Selected}
 use Rattle.smoothing.specs.Interpolate.{waypointKnots, controlCount, interpolationSystem, interpolateOf}
 use Rattle.smoothing.specs.Build.{Result, segmentsOf, selectedOf, otherOf, resultOf, buildOf}

@@ -11,10 +11,9 @@ use lib.Ieee.{Float, binary64}
 use lib.Ieee.Positive.{positive-finite}
 use lib.Ieee.Scale.{finite}
 use Rattle.arith.proofs.Truth.{or-none}
-use Rattle.window.specs.Cells.{Doubles}
+use Rattle.window.specs.Cells.{at, Doubles}
 use Rattle.arith.specs.Operations.{floats}
 use Rattle.fraction.proofs.Comparison.{positive-above}
-use Rattle.window.specs.Cells.{at}
 use Rattle.window.specs.Rows.{join, listOf}
 use Rattle.bspline.specs.Segments.{Polynomial, polynomialOf}
 use Rattle.window.proofs.Joined.{list-at}

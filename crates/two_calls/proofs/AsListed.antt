@@ -12,11 +12,9 @@ use Rattle.curve.specs.declared.Curve.{Curve}
 use Rattle.curve.specs.Form.{Slices}
 use Rattle.figure.proofs.AsListed.{listed-certificate}
 use Rattle.certificate.specs.Outcome as certificates
-use Rattle.smoothing.specs.Answer as answers
 use Rattle.smoothing.specs.Request.{Lane, Limits}
-use Rattle.smoothing.specs.Build.{Result}
 use Rattle.smoothing.proofs.AsListed.{asListed, listed-answer}
-use Rattle.building.specs.Outcome.{outcomeOf, reported, Results, curveAfter, lengthsOf, workAfter, resultsAfter}
+use Rattle.building.specs.Outcome.{outcomeOf, reported, curveAfter, lengthsOf, workAfter, resultsAfter}
 use Rattle.building.specs.Answered.{answerTo}
 use Rattle.two_calls.specs.Building.{BuildCall}
 use Rattle.two_calls.specs.Certifying.{CertifyCall}

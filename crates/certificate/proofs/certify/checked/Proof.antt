@@ -78,14 +78,16 @@ unreliable-requires : tie.Need-unreliable-requires
 unreliable-requires c κs =
     let a = c .before .before .before .before .before .before .before .before .before .before .before .before .before .before .args in
     let count = listed-count (a .spacing) (a .parameters .now) (a .points .now) (a .curve .d) (a .n)
-    (sym (c .before .placed .ensures .0) ∙ c .if6 .left) in
-    ((
-      waypoint-count (a .curve .d) (a .n) (a .points .now) (sym (c .before .before .before .unfit .ensures) ∙ c .before .before .if5
-          .left),
-      c .before .before .before .before .before .if3 .left,
-      omega (arith, c .before .before .before .before .if4 .left),
-      λ e. let l = count e in omega arith,
-    ), c .before .placed .ensures .1 (c .if6 .left))
+    (sym (c .before .placed .ensures .0) ∙ c .if6 .left) in (
+      (
+        waypoint-count (a .curve .d) (a .n) (a .points .now) (sym (c .before .before .before .unfit .ensures) ∙ c .before .before .if5
+            .left),
+        c .before .before .before .before .before .if3 .left,
+        omega (arith, c .before .before .before .before .if4 .left),
+        λ e. let l = count e in omega arith,
+      ),
+      c .before .placed .ensures .1 (c .if6 .left),
+    )
 
 returns-7 : tie.Need-returns-7
 unfolding certifyOf

@@ -1,12 +1,8 @@
 -- `parameters::put_parameters` meets its contract.
 use mathlib.Core.Path.{_∙_}
-use mathlib.Core.List.{List}
 use native.Mathlib.Omega.{arith}
 use borrow.Author.Needs.{needs}
-use lib.Ieee.{Float}
 use lib.ListN.{length}
-use Rattle.window.proofs.Joined.{list-length}
-use Rattle.window.specs.Cells.{at}
 use Rattle.request.specs.Parameters.{parameterList}
 use Rattle.gathering.proofs.Normalising.{first-length, first-normalised}
 use Rattle.gathering.proofs.parameters.put_parameters.Statement.{statement}

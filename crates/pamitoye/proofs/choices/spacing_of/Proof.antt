@@ -1,5 +1,4 @@
 -- `choices::spacing_of` meets its contract: by cases on the number.
-use borrow.Author.Needs.{needs}
 use borrow.Author.Tests.{eq-eqb, ne-eqb}
 use Rattle.pamitoye.proofs.choices.spacing_of.Statement.{statement}
 use Rattle.pamitoye.proofs.choices.spacing_of.Tie as tie

@@ -1,10 +1,9 @@
 -- `parameters::chords` meets its contract. The invariant: the sum so far.
-use mathlib.Core.Path.{_≡_, refl, sym, ap, _∙_}
+use mathlib.Core.Path.{_≡_, refl, sym, _∙_}
 use Prim.Native.Nat.{_+_, _-_, _*_, _≤_}
 use native.Mathlib.Nat.{mul-le-mul-right}
 use native.Mathlib.Omega.{arith}
-use borrow.Author.Needs.{needs}
-use lib.Ieee.{Float, binary64, add}
+use lib.Ieee.{binary64, add}
 use Rattle.request.specs.Parameters.{sumOf, chordLength}
 use Rattle.request.proofs.Spaced.{sum-next}
 use Rattle.request.proofs.parameters.chords.Statement.{statement}

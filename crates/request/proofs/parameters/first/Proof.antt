@@ -1,5 +1,5 @@
 -- `parameters::first` meets its contract: by cases on the spacing.
-use mathlib.Core.Path.{refl, sym, _∙_}
+use mathlib.Core.Path.{sym, _∙_}
 use native.Mathlib.Omega.{arith}
 use borrow.Author.Needs.{needs}
 use Rattle.request.specs.Parameters.{parameterList}

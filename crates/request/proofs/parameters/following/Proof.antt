@@ -1,10 +1,10 @@
 -- `parameters::following` meets its contract: by cases on the spacing.
-use mathlib.Core.Path.{_≡_, refl, sym, ap, _∙_}
+use mathlib.Core.Path.{sym, _∙_}
 use Prim.Native.Nat.{_+_, _*_, _≤_}
 use native.Mathlib.Nat.{mul-le-mul-right}
 use native.Mathlib.Omega.{arith}
 use borrow.Author.Needs.{needs}
-use lib.Ieee.{Float, binary64, add}
+use lib.Ieee.{binary64, add}
 use Rattle.request.specs.Parameters.{parameterList}
 use Rattle.request.proofs.Spaced.{even-at, chord-next}
 use Rattle.request.proofs.parameters.following.Statement.{statement}

@@ -1,8 +1,6 @@
 -- `parameters::unreliable` meets its contract: by cases on the length's test.
-use mathlib.Core.Path.{sym, ap, _∙_}
-use mathlib.Core.Bool.{not}
+use mathlib.Core.Path.{sym, _∙_}
 use borrow.Author.Needs.{needs}
-use lib.Ieee.Scale.{finite}
 use Rattle.request.specs.Parameters.{unreliable}
 use Rattle.request.proofs.parameters.unreliable.Statement.{statement}
 use Rattle.request.proofs.parameters.unreliable.Tie as tie
