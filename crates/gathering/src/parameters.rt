@@ -30,7 +30,8 @@ fn put_list(cells: &mut [f64], spacing: Spacing, list: &[f64], points: &[f64], d
 fn normalise(cells: &mut [f64]) -> f64
     requires { ⌜ 2 ≤ length (now cells) ⌝ }
     ensures { λ r. ⌜ r ≡ lengthOf (now (cells .entry)) (length (now (cells .entry))) ⌝ }
-    ensures { λ _. ⌜ now (cells .exit) ≡ listOf (length (now (cells .entry))) (normalisedOf (now (cells .entry)) (length (now (cells .entry)))) ⌝ }
+    ensures { λ _. ⌜ now (cells .exit) ≡ listOf (length (now (cells .entry)))
+        (normalisedOf (now (cells .entry)) (length (now (cells .entry)))) ⌝ }
 {
     let n = cells.len();
     let start = cells[0];

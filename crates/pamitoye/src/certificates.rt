@@ -77,11 +77,13 @@ pub extern "C" fn pamitoye_certify(
         (now (points .entry)) n (chosenSpacing spacing) (now (parameters .entry)) axis depth .number ⌝ }
     ensures { λ r. ⌜ now (given .exit) ≡ givenAfter r (certifyOf (passedCurve d k (now (axes .entry)) start end clamp segments
         «other_segments») (slices (now (breaks .entry)) (now (coefficients .entry)) (now («other_breaks» .entry))
-        (now («other_coefficients» .entry))) (now (points .entry)) n (chosenSpacing spacing) (now (parameters .entry)) axis depth .certified)
+        (now («other_coefficients» .entry))) (now (points .entry)) n (chosenSpacing spacing) (now (parameters .entry)) axis depth
+        .certified)
         (now (given .entry)) ⌝ }
     ensures { λ _. ⌜ now (figure .exit) ≡ figureAfter (certifyOf (passedCurve d k (now (axes .entry)) start end clamp segments
         «other_segments») (slices (now (breaks .entry)) (now (coefficients .entry)) (now («other_breaks» .entry))
-        (now («other_coefficients» .entry))) (now (points .entry)) n (chosenSpacing spacing) (now (parameters .entry)) axis depth .certified)
+        (now («other_coefficients» .entry))) (now (points .entry)) n (chosenSpacing spacing) (now (parameters .entry)) axis depth
+        .certified)
         (now (figure .entry)) ⌝ }
     ensures { λ r. ⌜ (r ≡ 0 → now (given .exit) ≡ true → Certified (passedCurve d k (now (axes .entry)) start end clamp segments
         «other_segments») (slices (now (breaks .entry)) (now (coefficients .entry)) (now («other_breaks» .entry))

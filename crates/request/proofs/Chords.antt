@@ -103,7 +103,8 @@ module _ (points : List Float) (d i : ℕ) (equal : (r : ℕ) → r < d → at p
           (sum-fits i (chordLength points d)) in
           let X : T (finite x) = subst T (sym h) tt in
           let v : value x +q value nought ≡ value x =
-          ap (λ (z : ℚ). value x +q z) (zero-value false 0 (pos 0) refl) ∙ solve rationalRing (value x ∷ []) (var 0 ⊕ con (pos 0)) (var 0) tt in
+          ap (λ (z : ℚ). value x +q z) (zero-value false 0 (pos 0) refl)
+          ∙ solve rationalRing (value x ∷ []) (var 0 ⊕ con (pos 0)) (var 0) tt in
           let below = rounds-below binary64 x F X (add binary64 x nought) (value x +q value nought) (add-rounded binary64 x nought X tt)
           (subst (λ (z : ℚ). z ≤q value x) (sym v) (≤q-refl (value x))) in
           let fell : le (at p (i + 1)) x ≡ true = ap (λ (y : Float). le y x) e ∙ below in

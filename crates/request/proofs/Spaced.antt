@@ -38,7 +38,8 @@ module _ (list points : List Float) (d n : ℕ) where
 
   -- "and grow by" the chords
   pub chord-next : (i : ℕ) → i + 1 < n
-      → at (parameterList Chord list points d n) (i + 1) ≡ add binary64 (at (parameterList Chord list points d n) i) (chordLength points d i)
+      → at (parameterList Chord list points d n) (i + 1)
+      ≡ add binary64 (at (parameterList Chord list points d n) i) (chordLength points d i)
   chord-next i l = chord-at (i + 1) l ∙ sum-next i (chordLength points d) ∙ rw (chord-at i (omega arith))
 
   -- n of them, where they are not listed

@@ -158,7 +158,8 @@ fn tested(spacing: Spacing, list: &[f64], points: &[f64], d: usize, n: usize) ->
     requires { ⌜ (2 ≤ n) × (n ≤ 20000) × (n * d ≤ length (now points)) × (spacing ≡ Listed → n ≤ length (now list)) ⌝ }
     ensures { λ r. ⌜ r .misplaced ≡ (any n (λ i. not (finite (at (parameterList spacing (now (list .entry)) (now (points .entry)) d n) i)))
         || anyFall n (at (parameterList spacing (now (list .entry)) (now (points .entry)) d n))) ⌝ }
-    ensures { λ r. ⌜ (r .misplaced ≡ false → r .range ≡ lengthOf (parameterList spacing (now (list .entry)) (now (points .entry)) d n) n) ⌝ }
+    ensures { λ r. ⌜ (r .misplaced ≡ false
+        → r .range ≡ lengthOf (parameterList spacing (now (list .entry)) (now (points .entry)) d n) n) ⌝ }
 {
     let start = first(spacing, list, n);
     if !float::is_finite(start) {
@@ -190,7 +191,8 @@ fn tested(spacing: Spacing, list: &[f64], points: &[f64], d: usize, n: usize) ->
 pub fn placed(spacing: Spacing, list: &[f64], points: &[f64], d: usize, n: usize) -> Placement
     requires { ⌜ (2 ≤ n) × (n ≤ 20000) × (n * d ≤ length (now points)) ⌝ }
     ensures { λ r. ⌜ r .misplaced ≡ misplaced (parameterList spacing (now (list .entry)) (now (points .entry)) d n) n ⌝ }
-    ensures { λ r. ⌜ (r .misplaced ≡ false → r .range ≡ lengthOf (parameterList spacing (now (list .entry)) (now (points .entry)) d n) n) ⌝ }
+    ensures { λ r. ⌜ (r .misplaced ≡ false
+        → r .range ≡ lengthOf (parameterList spacing (now (list .entry)) (now (points .entry)) d n) n) ⌝ }
 {
     if miscounted(spacing, list, n) {
         return Placement {
