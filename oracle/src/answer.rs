@@ -9,6 +9,7 @@ use crate::query::{Queries, Told};
 use crate::refusal::Refusal;
 use crate::request::Request;
 use crate::returned::Returning;
+use crate::spacing::Spacing;
 use std::fmt::Write;
 
 /// What a case is answered with: whole numbers, then cells; a figure or none; calls one after the
@@ -407,9 +408,10 @@ fn request(mut input: Input) -> Result<Request, String> {
         _ => return Err("tolerance mode or count".to_string()),
     };
     let points = input.cells(points)?.to_vec();
-    let parameters = match (parameter_mode, input.cells(parameters)?) {
-        (0, []) => None,
-        (1, list) => Some(list.to_vec()),
+    let spacing = Spacing::of_mode(parameter_mode);
+    let parameters = match (spacing, input.cells(parameters)?) {
+        (Some(Spacing::Listed), list) => Some(list.to_vec()),
+        (Some(_), []) => None,
         _ => return Err("parameter mode or count".to_string()),
     };
     input.end()?;
@@ -427,6 +429,7 @@ fn request(mut input: Input) -> Result<Request, String> {
         n,
         points,
         config,
+        chord: spacing == Some(Spacing::Chord),
         more: std::array::from_fn(|i| more[i] as u8 as i8),
     })
 }
@@ -572,13 +575,13 @@ fn certify(mut input: Input) -> Result<Answer, String> {
         word,
     ] = whole;
     let (axis, mode, depth) = (word % 256, word / 256 % 256, word / 65_536);
-    require(mode <= 1, || format!("parameter mode {mode}"))?;
+    let spacing = Spacing::of_mode(mode).ok_or_else(|| format!("parameter mode {mode}"))?;
     let counts = [d, k, segments, others];
     let question = Question {
         curve: handed(&mut input, counts, [w0, w1, w2, w3], [c0, c1, c2, c3])?,
         n,
         points: input.cells(points)?.to_vec(),
-        listed: mode == 1,
+        spacing,
         parameters: input.cells(parameters)?.to_vec(),
         axis,
         depth,

@@ -125,7 +125,7 @@ pub(crate) mod reach {
 
     pub(crate) fn build(request: &Request) -> Result<Built, PathError> {
         let points = DMatrixView::from_slice(&request.points, request.d, request.n);
-        let built = SmoothedSpline::build(points, &request.config)?;
+        let built = SmoothedSpline::build(points, &request.source_config())?;
         let report = built.report;
         Ok(Built {
             counts: [
@@ -188,7 +188,7 @@ pub(crate) mod reach {
         seen: &mut dyn FnMut(Case),
     ) -> Result<([usize; 5], Pieces), PathError> {
         let (d, n, points) = (request.d, request.n, &request.points);
-        let cfg = &request.config;
+        let cfg = &request.source_config();
         let axes = cfg.axes.clone().unwrap_or_else(|| (0..d).collect());
         let k = axes.len();
         let eps = match &cfg.tolerance {

@@ -273,7 +273,7 @@ impl Case {
             axes.map_or(ALL_AXES, <[usize]>::len),
             tolerance_mode,
             tolerances.len(),
-            usize::from(config.parameters.is_some()),
+            request.spacing() as usize,
             parameters.len(),
             config.max_refinements,
             config.max_segments,
@@ -329,7 +329,7 @@ impl Case {
             &pack(&curve.axes),
             &curve.counts(),
             &[question.points.len(), question.parameters.len()],
-            &pack(&[question.axis, usize::from(question.listed), question.depth])[..1],
+            &pack(&[question.axis, question.spacing as usize, question.depth])[..1],
         ];
         let cells = curve.cells();
         let cells = [&cells[..], &question.points, &question.parameters];

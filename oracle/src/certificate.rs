@@ -3,6 +3,7 @@
 //! step. Here every waypoint interval is paired with every segment, in plain loops.
 
 use crate::handed::HandedCurve;
+use crate::spacing::{Spacing, chords};
 use std::array::from_fn;
 use std::ops::{Add, Div, Mul, Sub};
 
@@ -12,8 +13,8 @@ pub struct Question {
     pub curve: HandedCurve,
     pub n: usize,
     pub points: Vec<f64>,
-    /// Whether the parameters are listed; otherwise they are even and the list is not read.
-    pub listed: bool,
+    /// Unless the parameters are listed, the list is not read.
+    pub spacing: Spacing,
     pub parameters: Vec<f64>,
     pub axis: usize,
     pub depth: usize,
@@ -53,10 +54,10 @@ impl Question {
         refuse(20, self.points.len() != d * n)?;
         let finite = self.points.iter().all(|v| v.is_finite());
         refuse(1, d == 0 || n < 2 || !finite)?;
-        let parameters: Vec<f64> = if self.listed {
-            self.parameters.clone()
-        } else {
-            (0..n).map(|i| i as f64 / (n - 1) as f64).collect()
+        let parameters: Vec<f64> = match self.spacing {
+            Spacing::Listed => self.parameters.clone(),
+            Spacing::Even => (0..n).map(|i| i as f64 / (n - 1) as f64).collect(),
+            Spacing::Chord => chords(&self.points, d, n),
         };
         let finite = parameters.iter().all(|v| v.is_finite());
         refuse(5, parameters.len() != n || !finite || !rise(&parameters))?;

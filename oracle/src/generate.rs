@@ -2,6 +2,7 @@
 
 mod builds;
 mod certificates;
+pub mod chords;
 mod curves;
 mod damage;
 pub mod jobs;
@@ -19,9 +20,10 @@ use crate::refusal::Refusal;
 use crate::request::{self, Request};
 
 /// Groups beside those named after a kind: three with lists in any order, certificates with the
-/// curves of `build` alone and with a depth, and requests with little room. For `partition_point` with a list in any order the
-/// answer depends on how the standard library halves it.
-const SPECIAL: [(&str, fn(&mut Random) -> Case); 6] = [
+/// curves of `build` alone, with a depth and by chords, and requests with little room, also by chords.
+/// For `partition_point` with a list in any order the answer depends on how the standard library halves
+/// it.
+const SPECIAL: [(&str, fn(&mut Random) -> Case); 8] = [
     ("partition_point_le_unsorted", |r| {
         leaves::partition_point(r, Kind::PartitionPointLe, false)
     }),
@@ -32,6 +34,8 @@ const SPECIAL: [(&str, fn(&mut Random) -> Case); 6] = [
     ("certify_built", certificates::certify_built),
     ("certify_deep", certificates::certify_deep),
     ("build_small", builds::build_small),
+    ("certify_chord", certificates::certify_chord),
+    ("build_chord", builds::build_chord),
 ];
 
 /// The group of requests with a known end, which no seed changes.

@@ -19,6 +19,7 @@ mod random;
 mod refusal;
 mod request;
 mod returned;
+mod spacing;
 mod standin;
 mod table;
 #[cfg(test)]

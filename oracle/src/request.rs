@@ -3,6 +3,8 @@
 use crate::path::OutOfRangeMode;
 use crate::path::smoothing::{SmoothingConfig, SmoothingTolerance};
 use crate::random::{Random, power_of_two, sine};
+use crate::spacing::{Spacing, chords};
+use std::borrow::Cow;
 
 /// One call of `build`: points waypoint after waypoint, and the configuration.
 #[derive(Clone, Debug)]
@@ -11,6 +13,8 @@ pub struct Request {
     pub n: usize,
     pub points: Vec<f64>,
     pub config: SmoothingConfig,
+    /// Whether parameters that are not listed go by the chords, which the source does not know.
+    pub chord: bool,
     /// By how many cells each lent slice is longer than `room` asks, below 0 where it is shorter.
     pub more: [i8; 6],
 }
@@ -35,6 +39,7 @@ impl Request {
                 max_segments: 20_000,
                 out_of_range_mode: OutOfRangeMode::Error,
             },
+            chord: false,
             more: [0; 6],
         }
     }
@@ -53,6 +58,33 @@ impl Request {
 
     pub fn with_parameters(self, list: &[f64]) -> Self {
         self.with(|q| q.config.parameters = Some(list.to_vec()))
+    }
+
+    pub fn by_chords(self) -> Self {
+        self.with(|q| q.chord = true)
+    }
+
+    /// "Listed parameters override both."
+    pub fn spacing(&self) -> Spacing {
+        match (&self.config.parameters, self.chord) {
+            (Some(_), _) => Spacing::Listed,
+            (None, true) => Spacing::Chord,
+            (None, false) => Spacing::Even,
+        }
+    }
+
+    /// The same request with its chords listed.
+    pub fn listed(&self) -> Self {
+        let list = chords(&self.points, self.d, self.n);
+        self.clone().with_parameters(&list)
+    }
+
+    /// The configuration for the source: "The Rust comparison for version 2 passes it the same parameters as a list."
+    pub fn source_config(&self) -> Cow<'_, SmoothingConfig> {
+        match self.spacing() {
+            Spacing::Chord => Cow::Owned(self.listed().config),
+            _ => Cow::Borrowed(&self.config),
+        }
     }
 
     /// Document 01's room in the lent slices: work, breaks, coefficients, other breaks, other

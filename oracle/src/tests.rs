@@ -4,7 +4,7 @@
 use crate::answer::{Answer, answer, digits};
 use crate::case::{Case, Kind};
 use crate::certificate::{Certificate, Question};
-use crate::generate::{known, returns};
+use crate::generate::{chords, known, returns};
 use crate::handed::HandedCurve;
 use crate::path::smoothing::{SmoothingTolerance, reach};
 use crate::query::{MARK, Queries, Told};
@@ -12,6 +12,7 @@ use crate::random::{Random, power_of_two};
 use crate::refusal::Refusal;
 use crate::request::{Request, draw};
 use crate::returned::Returning;
+use crate::spacing::{self, Spacing};
 use crate::{generate, job, list, recipe, requests, table};
 use std::fs;
 
@@ -260,7 +261,7 @@ fn corner() -> Question {
         },
         n: 3,
         points: vec![0., 0., 0., 0.95, 0., 0.],
-        listed: false,
+        spacing: Spacing::Even,
         parameters: Vec::new(),
         axis: 1,
         depth: 0,
@@ -284,7 +285,7 @@ fn certifying_checks_in_order() {
     assert_eq!(number(&question), 3);
     question.curve.breaks[1] = 2.;
     assert_eq!(number(&question), 24);
-    question.listed = true;
+    question.spacing = Spacing::Listed;
     question.parameters = vec![-1e308, 0., 1e308];
     assert_eq!(number(&question), 6);
     question.parameters[1] = f64::NAN;
@@ -387,6 +388,7 @@ fn certify_cases_reach_every_answer() {
 #[test]
 fn odd_certify_cases_end() {
     odd_cases_end("certify");
+    odd_cases_end("certify_chord");
 }
 
 fn odd_cases_end(name: &str) {
@@ -423,6 +425,197 @@ fn figure_of_a_built_curve_is_its_error() {
         let error = built.max_errors[0];
         assert!((figure - error).abs() < 1e-13, "{figure} {error}");
     }
+}
+
+/// The list by chords in whole numbers: every step exact, then rounded once where it is made an f64. The points are whole
+/// and at most 2^53.
+fn chords_of_whole(points: &[i64], d: usize) -> Vec<f64> {
+    let unit = power_of_two(52);
+    let mut list = vec![0.];
+    for pair in points.windows(2 * d).step_by(d) {
+        let mut sum = 0f64;
+        for row in 0..d {
+            let difference = (pair[d + row] - pair[row]).unsigned_abs() as f64;
+            let square = (difference as u128 * difference as u128) as f64;
+            sum = (sum as u128 + square as u128) as f64;
+        }
+        let last = *list.last().unwrap();
+        list.push(((last * unit) as u128 + (root(sum as u128) * unit) as u128) as f64 / unit);
+    }
+    list
+}
+
+/// The root of a whole number, rounded once: with some 60 bits, and one that says whether more would follow.
+fn root(x: u128) -> f64 {
+    if x == 0 {
+        return 0.;
+    }
+    let shift = x.leading_zeros() / 2;
+    let shifted = x << (2 * shift);
+    let floor = shifted.isqrt();
+    let more = u128::from(floor * floor != shifted);
+    (2 * floor + more) as f64 * power_of_two(-1 - shift as i32)
+}
+
+/// The list of points of whole numbers up to 2^53 is that of whole-number steps, at any scale. Rows in another order, or
+/// products that are not rounded, would be seen.
+#[test]
+fn chord_list_is_that_of_whole_numbers() {
+    let mut r = Random::new(31);
+    let (mut from_the_last, mut fused, mut equal) = (0, 0, 0);
+    for _ in 0..20_000 {
+        let (d, n) = (r.between(1, 16), r.between(2, 6));
+        let bits = r.between(11, 63);
+        let mut whole: Vec<i64> = (0..d * n)
+            .map(|_| (r.next() >> bits) as i64 * r.sign() as i64)
+            .collect();
+        if r.chance(10) {
+            whole.copy_within(..d, d);
+        }
+        let scale = power_of_two(r.between(0, 400) as i32 - 200);
+        let points: Vec<f64> = whole.iter().map(|v| *v as f64 * scale).collect();
+        let list = spacing::chords(&points, d, n);
+        let wanted = chords_of_whole(&whole, d);
+        let wanted: Vec<f64> = wanted.iter().map(|v| v * scale).collect();
+        assert!(same(&list, &wanted), "{d} {points:?}");
+        equal += usize::from(list.windows(2).any(|v| v[0] == v[1]));
+        let chord = |rows: &mut dyn Iterator<Item = usize>, add: fn(f64, f64) -> f64| {
+            rows.fold(0., |sum, row| add(sum, points[d + row] - points[row]))
+                .sqrt()
+        };
+        let rounded = |sum: f64, v: f64| sum + v * v;
+        from_the_last += usize::from(chord(&mut (0..d).rev(), rounded) != list[1]);
+        fused += usize::from(chord(&mut (0..d), |sum, v| v.mul_add(v, sum)) != list[1]);
+    }
+    assert!(from_the_last > 1000 && fused > 1000 && equal > 1000);
+}
+
+/// The points (0, 0), (3, 4), (3, 0), and what is known of the ends of the range.
+#[test]
+fn known_chord_lists() {
+    let list = |rows: &[&[f64]]| {
+        let rows: Vec<_> = rows.iter().map(|row| row.to_vec()).collect();
+        let request = Request::of_rows(&rows).by_chords();
+        spacing::chords(&request.points, request.d, request.n)
+    };
+    assert!(same(&list(&[&[0., 3., 3.], &[0., 4., 0.]]), &[0., 5., 9.]));
+    assert!(same(&list(&[&[-0., 0., -0.]]), &[0., 0., 0.]));
+    assert!(same(&list(&[&[0., power_of_two(-600)]]), &[0., 0.]));
+    let least = power_of_two(-537);
+    assert!(same(&list(&[&[0., 1.2 * least]]), &[0., least]));
+    let inf = f64::INFINITY;
+    assert!(same(&list(&[&[0., 1e200, 0.]]), &[0., inf, inf]));
+    assert!(same(&list(&[&[1., 2.], &[0., f64::NAN]]), &[0., f64::NAN]));
+    let mut known = known::requests().into_iter().filter(|(_, q)| q.chord);
+    let built = reach::build(&known.next().unwrap().1).unwrap();
+    assert_eq!((built.curve.start, built.curve.end), (0., 9.));
+}
+
+/// A request by chords has the answer of the same list; its start, end and other breaks are the list's.
+#[test]
+fn requests_by_chords_are_answered_as_listed() {
+    let mut r = Random::new(32);
+    let (mut accepted, mut refused, mut others) = (0, 0, 0);
+    for _ in 0..3000 {
+        let request = chords::request(&mut r);
+        let given = request.listed();
+        assert_eq!(Case::build(&request).whole[5..7], [2, 0]);
+        assert_eq!(Case::build(&given).whole[5..7], [1, request.n as u32]);
+        assert_eq!(line(&request, usize::MAX), line(&given, usize::MAX));
+        let list = given.config.parameters.unwrap();
+        match request.answer() {
+            Ok(built) => {
+                accepted += 1;
+                let (start, end) = (list[0], list[request.n - 1]);
+                assert!(same(&[built.curve.start, built.curve.end], &[start, end]));
+                if let Some(other) = built.curve.other {
+                    others += 1;
+                    let normalised = list.iter().map(|v| (v - start) / (end - start));
+                    assert!(same(&other.breaks, &normalised.collect::<Vec<_>>()));
+                }
+            }
+            Err(refusal) => refused += usize::from(refusal.number == 5),
+        }
+    }
+    assert!(accepted > 1000 && refused > 300 && others > 300);
+}
+
+/// The corner's two chords are equal, so that its figure is that of even parameters; the checks come in their order.
+#[test]
+fn certificates_by_chords() {
+    let mut question = corner();
+    let even = question.certify();
+    question.spacing = Spacing::Chord;
+    // A list that is there is not read.
+    question.parameters = vec![1., 0.];
+    match (even, question.certify()) {
+        (Certificate::Figure(x), Certificate::Figure(y)) => assert_eq!(x.to_bits(), y.to_bits()),
+        other => panic!("{other:?}"),
+    }
+    question.axis = 0;
+    assert_eq!(number(&question), 3);
+    question.curve.breaks[1] = 2.;
+    assert_eq!(number(&question), 24);
+    question.points[4..].copy_from_slice(&[0., 0.95]);
+    assert_eq!(number(&question), 5);
+    question.points[4] = f64::INFINITY;
+    assert_eq!(number(&question), 1);
+    for case in generate::group("certify_chord", 33, 500).unwrap() {
+        let (d, n) = (case.whole[0] as usize, case.whole[4] as usize);
+        let (points, parameters) = (case.whole[13] as usize, case.whole[14] as usize);
+        assert_eq!(case.whole[15] >> 8 & 255, 2);
+        if points != d * n || points == 0 {
+            continue;
+        }
+        let at = case.cells.len() - parameters;
+        let mut given = case.clone();
+        given.whole[15] -= 1 << 8;
+        given.whole[14] = n as u32;
+        given.cells.truncate(at);
+        given
+            .cells
+            .extend(spacing::chords(&case.cells[at - points..at], d, n));
+        let told = |case: &Case| answer(case).unwrap().line(case.kind);
+        assert_eq!(told(&case), told(&given));
+    }
+}
+
+/// What the stored lists have by chords: accepted requests with and without other axes, 5 and others; figures with and
+/// without a depth, none, and 5.
+#[test]
+fn stored_cases_by_chords_reach_every_answer() {
+    let (mut accepted, mut others, mut refused) = (0, 0, [0; 27]);
+    for case in recipe("builds.txt").unwrap() {
+        match answer(&case).unwrap() {
+            _ if case.whole[5] != 2 => {}
+            Answer::Given(whole, _) => {
+                accepted += 1;
+                others += usize::from(whole[1] > 0);
+            }
+            Answer::Refused(refusal) => refused[refusal.number] += 1,
+            _ => panic!("no answer of this kind"),
+        }
+    }
+    let alone = accepted - others;
+    assert!(others > 15 && alone > 5, "{others}, {alone}");
+    for number in [1, 3, 4, 6, 8, 9, 10, 14, 15, 17, 19, 20, 26] {
+        assert!(refused[number] > 0, "refused {number}: {refused:?}");
+    }
+    assert!(refused[5] > 20, "{refused:?}");
+    let (mut figures, mut none, mut refused) = ([0; 2], 0, [0; 25]);
+    for case in stored(&["certify_chord"]) {
+        match answer(&case).unwrap() {
+            Answer::Figure(Some(_)) => figures[usize::from(case.whole[15] >> 16 > 0)] += 1,
+            Answer::Figure(None) => none += 1,
+            Answer::Refused(refusal) => refused[refusal.number] += 1,
+            _ => panic!("no answer of this kind"),
+        }
+    }
+    assert!(figures[0] > 10 && figures[1] > 10, "{figures:?}");
+    for number in [1, 3, 6, 18, 20, 23, 24] {
+        assert!(refused[number] > 0, "refused {number}: {refused:?}");
+    }
+    assert!(none > 0 && refused[5] > 5, "{none}, {refused:?}");
 }
 
 /// One query of a line from 0 to 3 beside a constant 7, over -1 to 2, with marked cells behind.
@@ -861,7 +1054,7 @@ fn seed_cases_are_finite() {
 
 /// Recorded; a change of a generator changes them, and the stored list with them.
 const REQUESTS_1_200: u64 = 0x1D20_11BE_0FC4_2712;
-const GROUPS_1_20: u64 = 0xBE5D_41D8_88F8_648C;
+const GROUPS_1_20: u64 = 0xBF95_24D8_341F_2A81;
 
 #[test]
 fn refusal_14_prints_its_ratio() {

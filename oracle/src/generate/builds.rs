@@ -1,5 +1,6 @@
 //! Requests as cases of `build`.
 
+use super::chords;
 use super::known;
 use super::most_cells;
 use super::systems::window_of;
@@ -31,6 +32,9 @@ enum Wanted {
 
 /// The refusals that requests of the domain reach.
 const REACHED: [usize; 17] = [1, 2, 3, 4, 5, 6, 7, 8, 9, 10, 11, 13, 14, 15, 16, 17, 26];
+
+/// Those that requests by chords often reach.
+const REACHED_BY_CHORDS: [usize; 11] = [1, 2, 3, 4, 6, 8, 9, 10, 14, 15, 26];
 
 /// A request that is small and, if accepted, has a small curve. What it ends in is drawn
 /// beforehand, so that a short list has some of each.
@@ -76,21 +80,48 @@ pub fn build_small(r: &mut Random) -> Case {
             Wanted::Rounds => request::small_lane(r),
             _ => request::draw(r),
         };
-        let segments = &mut request.config.max_segments;
         // The lanes known to end in 16 have more than 100 segments then.
-        *segments = (*segments).min(match wanted {
-            Wanted::Refused(16) => 300,
-            _ => r.pick(&[20, 40, 60, 100]),
-        });
-        if r.chance(20) {
-            request.more = std::array::from_fn(|_| r.below(10) as i8);
-        }
+        make_small(r, &mut request, wanted == Wanted::Refused(16));
         if let Wanted::Refused(number @ 18..=20) = wanted {
             request::put_outside(r, &mut request, number);
         }
         // Windows stand apart only among many controls.
         let most_of_curve = if wanted == Wanted::Regions { 600 } else { most };
         if let Some(case) = wanted.case(&request, most, most_of_curve) {
+            return case;
+        }
+    }
+}
+
+/// At most 100 segments, or 300; in some slices are longer than they need be.
+fn make_small(r: &mut Random, request: &mut Request, with_300: bool) {
+    let most = if with_300 {
+        300
+    } else {
+        r.pick(&[20, 40, 60, 100])
+    };
+    let segments = &mut request.config.max_segments;
+    *segments = (*segments).min(most);
+    if r.chance(20) {
+        request.more = std::array::from_fn(|_| r.below(10) as i8);
+    }
+}
+
+/// Requests by chords, as small as those.
+pub fn build_chord(r: &mut Random) -> Case {
+    let wanted = match r.below(10) {
+        0 | 1 => Wanted::Refused(5),
+        2 => Wanted::Refused(r.pick(&REACHED_BY_CHORDS)),
+        3 => Wanted::Rounds,
+        4 => Wanted::Refined,
+        5 | 6 => Wanted::WithOther,
+        _ => Wanted::Any,
+    };
+    loop {
+        let most = r.pick(&[100, 200, 300, 400]);
+        let mut request = chords::request(r);
+        make_small(r, &mut request, false);
+        if let Some(case) = wanted.case(&request, most, most) {
             return case;
         }
     }

@@ -1,5 +1,6 @@
 //! Cases of `certify`: curves with waypoints, and input that is turned away.
 
+use super::chords;
 use super::curves::{any_coefficients, breaks};
 use super::damage::{HUGE, damage_curve};
 use super::most_cells;
@@ -9,7 +10,8 @@ use crate::certificate::Question;
 use crate::handed::HandedCurve;
 use crate::path::smoothing::reach;
 use crate::random::{Random, power_of_two};
-use crate::request;
+use crate::request::{self, Request};
+use crate::spacing::Spacing;
 
 /// Curves that `build` returns with their own waypoints or others, and curves of any pieces; one in
 /// three is turned away.
@@ -24,7 +26,32 @@ pub fn certify_deep(r: &mut Random) -> Case {
     Case::certify(&question)
 }
 
+/// The same with parameters that go by the chords, half with a depth; a list that is there is not read.
+pub fn certify_chord(r: &mut Random) -> Case {
+    let mut question = question_of(r, |r| {
+        let request = chords::request(r);
+        built_of(r, request)
+    });
+    question.spacing = Spacing::Chord;
+    if question.curve.d == 2 && r.chance(10) {
+        let lane = chords::halves(r);
+        (question.n, question.points) = (lane.n, lane.points);
+    }
+    if r.chance(20) {
+        chords::move_waypoint(r, &mut question.points, question.curve.d);
+    }
+    if r.chance(50) {
+        question.depth = r.pick(&[1, 1, 2, 2, 3, 4, 5, 6, 7]);
+    }
+    Case::certify(&question)
+}
+
 fn question(r: &mut Random) -> Question {
+    question_of(r, built)
+}
+
+/// A question on a curve that is built so, or on one of any pieces.
+fn question_of(r: &mut Random, built: fn(&mut Random) -> Option<Question>) -> Question {
     let most = 2 * most_cells(r);
     loop {
         let Some(mut question) = (if r.chance(60) {
@@ -70,13 +97,18 @@ fn built(r: &mut Random) -> Option<Question> {
     } else {
         request::draw(r)
     };
+    built_of(r, request)
+}
+
+/// The same of this request.
+fn built_of(r: &mut Random, request: Request) -> Option<Question> {
     let curve = reach::build(&request).ok()?.curve;
     Some(Question {
         axis: r.pick(&curve.axes),
         curve: curve.into(),
         n: request.n,
+        spacing: request.spacing(),
         points: request.points,
-        listed: request.config.parameters.is_some(),
         parameters: request.config.parameters.unwrap_or_default(),
         depth: 0,
     })
@@ -136,7 +168,11 @@ fn made(r: &mut Random) -> Question {
         curve,
         n,
         points: coordinates(r, d, n),
-        listed: r.chance(75),
+        spacing: if r.chance(75) {
+            Spacing::Listed
+        } else {
+            Spacing::Even
+        },
         parameters: s.iter().map(|v| start + v * length).collect(),
         axis,
         depth: 0,
@@ -180,7 +216,7 @@ fn straighten(r: &mut Random, question: &mut Question, s: &[f64]) {
     let scale = r.pick(&[1., 1., 1., 1., 0., 1e-320, 1e300]);
     let (first, rise) = (r.plain() * scale, r.plain() * scale);
     let noise = scale * r.pick(&[0., 0., power_of_two(-50), 1e-6]);
-    question.listed = true;
+    question.spacing = Spacing::Listed;
     for v in &mut question.points {
         *v = first;
     }
@@ -212,9 +248,9 @@ fn change(r: &mut Random, question: &mut Question) {
         3 => question.points[point] += r.plain(),
         4 => question.points[point] = question.points[point].next_up(),
         5 => question.points = coordinates(r, d, n),
-        6 => question.listed = false,
+        6 => question.spacing = Spacing::Even,
         7 => {
-            question.listed = true;
+            question.spacing = Spacing::Listed;
             question.parameters = request::parameters(r, n);
         }
         8 => {
@@ -249,7 +285,7 @@ fn damage(r: &mut Random, question: &mut Question, number: usize) {
         },
         1 => damage_points(r, question),
         5 | 6 => {
-            question.listed = true;
+            question.spacing = Spacing::Listed;
             question.parameters = request::faulty_parameters(r, question.n.clamp(2, 40));
         }
         24 => damage_curve(r, &mut question.curve),

@@ -1,5 +1,5 @@
 //! Requests with known ends: document 01's lanes, the smallest inputs known for each refusal, every
-//! check and their order.
+//! check and their order, and parameters by chords.
 
 use crate::path::smoothing::SmoothingTolerance::{PerAxis, Uniform};
 use crate::random::{power_of_two, sine};
@@ -70,6 +70,7 @@ pub fn requests() -> Vec<(usize, Request)> {
         courses(),
         too_fine(),
         outside(),
+        by_chords(),
     ];
     groups.into_iter().flatten().collect()
 }
@@ -275,4 +276,55 @@ fn outside() -> Vec<(usize, Request)> {
     }
     list.push((19, more(two(), [0, 0, 0, 0, 0, -128])));
     list
+}
+
+/// Document 02's chords: equal neighbours, chords that are 0, lost in the sum or infinite, in the place of 5; rows that
+/// are not smoothed count too.
+fn by_chords() -> Vec<(usize, Request)> {
+    // The least number whose square is above half of the least number, 2^-1075.
+    let least = std::f64::consts::SQRT_2 * power_of_two(-538);
+    let ulp = power_of_two(-52);
+    let beside = |v: &[f64]| axes(rows(&[&vec![0.; v.len()], v]), &[0]);
+    let lost = |x: f64| rows(&[&[0., 1., 1.], &[0., 0., x]]);
+    let collapsed = [0., 1.9, 1.9, 1.9, 1.9, 3.6];
+    let list = vec![
+        (0, rows(&[&[0., 3., 3.], &[0., 4., 0.]])),
+        (0, uniform(waves(1, 9), 0.05)),
+        (0, axes(uniform(waves(16, 3), 0.05), &[15, 3, 8, 0, 11])),
+        (0, each(axes(waves(3, 9), &[2, 0]), &[0.05, 0.3])),
+        // Equal neighbours.
+        (5, flat()),
+        (5, row(&[-0., 0.])),
+        (5, rows(&[&[1., 2., 2., 3.], &[5., 5., 5., 7.]])),
+        (0, rows(&[&[-0., 0.], &[0., 1.]])),
+        // Rows that are not smoothed.
+        (0, beside(&[0., 1., 3.])),
+        (5, beside(&[0., 1., 1.])),
+        (5, beside(&[0., 1e200])),
+        (9, beside(&[0., 1e-100, 1.])),
+        // A square that is 0, and the least that is not.
+        (5, row(&[0., power_of_two(-600)])),
+        (5, row(&[0., least.next_down()])),
+        (0, row(&[0., least])),
+        (0, row(&[least, 3. * least, -least])),
+        // Lost in the sum, at the tie, and not lost.
+        (5, lost(power_of_two(-60))),
+        (5, lost(ulp / 2.)),
+        (0, lost((ulp / 2.).next_up())),
+        (6, rows(&[&collapsed, &[0., 0., ulp, 0., ulp, ulp]])),
+        // A difference, a square or a sum of squares that is infinite.
+        (5, uniform(row(&[-1.7e308, 1.7e308]), 1e300)),
+        (5, uniform(row(&[0., 1.4e154]), 1e150)),
+        (0, uniform(row(&[0., 1.3e154]), 1e150)),
+        (5, uniform(rows(&[&[0., 1.3e154], &[0., 1.3e154]]), 1e150)),
+        // What comes before 5 and after it.
+        (1, row(&[0., f64::INFINITY])),
+        (4, uniform(flat(), 0.)),
+        (26, row(&[power_of_two(49); 2])),
+        (14, limits(uniform(waves(2, 7), 1e-4), 0, 40)),
+        (20, flat().with(|q| q.points.push(0.))),
+        (19, flat().with(|q| q.more[0] = -1)),
+    ];
+    let list = list.into_iter();
+    list.map(|(number, q)| (number, q.by_chords())).collect()
 }

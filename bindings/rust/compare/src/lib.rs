@@ -45,6 +45,9 @@ mod request;
 #[path = "../../../../oracle/src/returned.rs"]
 #[allow(dead_code)]
 mod returned;
+#[path = "../../../../oracle/src/spacing.rs"]
+#[allow(dead_code)]
+mod spacing;
 #[path = "../../../../oracle/src/standin.rs"]
 #[allow(dead_code)]
 mod standin;

@@ -37,11 +37,12 @@ pub fn config(config: &source::SmoothingConfig) -> SmoothingConfig {
 /// The crate's answer to a request.
 pub fn build(request: &Request) -> Result<Path, PathError> {
     let shape = (request.d, request.n);
-    Path::from_waypoints_fitting(&request.points, shape, config(&request.config))
+    let config = config(&request.source_config());
+    Path::from_waypoints_fitting(&request.points, shape, config)
 }
 
 /// The same with memory that is kept.
 pub fn build_in(workspace: &mut Workspace, request: &Request) -> Result<Path, PathError> {
-    let (shape, config) = ((request.d, request.n), config(&request.config));
+    let (shape, config) = ((request.d, request.n), config(&request.source_config()));
     Path::from_waypoints_fitting_in(workspace, &request.points, shape, &config)
 }

@@ -211,12 +211,13 @@ fn outside(error: PathError, range: (f64, f64), at: usize, x: f64) -> bool {
 
 /// The figure of each axis, at one depth after the other, against the oracle's computation from documents 01 and 02.
 fn certificates(request: &Request, path: &Path, curve: &Curve, seen: &mut Seen) {
-    let parameters = request.config.parameters.as_deref();
+    let config = request.source_config();
+    let parameters = config.parameters.as_deref();
     let mut question = Question {
         curve: curve.clone().into(),
         n: request.n,
         points: request.points.clone(),
-        listed: parameters.is_some(),
+        spacing: request.spacing(),
         parameters: parameters.unwrap_or_default().to_vec(),
         axis: 0,
         depth: 0,
