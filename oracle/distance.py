@@ -2,8 +2,9 @@
 """distance.py LIST ANSWERS ..: checks answers of kind 90, `certify`, without the Rust and without the port.
 
 For each case of a list, and the line that answers it:
-- the answer is computed again from document 01 ("The certified figure") with Python's floats, its sums and differences
-  from document 02 (request 7) with exact fractions, halved to the case's depth (request 8), and must be the same;
+- the answer is computed again from document 01 ("The certified figure") with Python's floats, parameters by chords from
+  document 02 (request 3), its sums and differences (request 7) with exact fractions, halved to the case's depth
+  (request 8), and must be the same;
 - where it is a figure, the distance between curve and line is computed in exact fractions at many parameters, and must
   never be above the figure.
 A table tells how far the figure lies above the largest distance found. The exit status is 1 if an answer is wrong.
@@ -15,6 +16,8 @@ import sys
 from fractions import Fraction
 
 CERTIFY = 90
+# Parameter modes; 0 is even.
+LISTED, CHORD = 1, 2
 # Where a distance is computed, as parts of an intersection of a segment with a waypoint interval.
 INSIDE = [Fraction(*f) for f in [(1, 7), (1, 3), (1, 2), (5, 8), (2, 3), (6, 7)]]
 # The same for the intersection with the largest distance so far, and for every one of a small case.
@@ -95,9 +98,26 @@ def well_formed(q):
     return finite([q.start, q.end, q.end - q.start]) and q.end - q.start > 0
 
 
+def chords(q):
+    """Document 02, request 3: parameters start at 0 and grow by the root of the sum of squared differences, rows summed
+    lowest first. Every step is rounded once; Python's own `sum` would not do."""
+    waypoints = [q.points[i * q.d:(i + 1) * q.d] for i in range(q.n)]
+    parameters = [0.0]
+    for here, there in zip(waypoints, waypoints[1:]):
+        squares = 0.0
+        for x, y in zip(here, there):
+            squares += (y - x) * (y - x)
+        parameters.append(parameters[-1] + math.sqrt(squares))
+    return parameters
+
+
 def given(q):
-    """The parameters, listed or even."""
-    return list(q.parameters) if q.mode else [float(i) / float(q.n - 1) for i in range(q.n)]
+    """The parameters, listed, by chords or even."""
+    if q.mode == LISTED:
+        return list(q.parameters)
+    if q.mode == CHORD:
+        return chords(q)
+    return [float(i) / float(q.n - 1) for i in range(q.n)]
 
 
 def normalised(parameters):
@@ -378,14 +398,18 @@ def check(list_file, answers_file):
     with open(answers_file, encoding="ascii") as file:
         lines = file.read().splitlines()
     assert len(lines) >= len(cases), "fewer answers than cases"
-    wrong, points, answers = 0, 0, {}
+    wrong, points, answers, by_chords = 0, 0, {}, {}
     classes = {name: [] for name in [name for name, _ in CLASSES] + [TINY]}
     for number, ((kind, whole_numbers, cells), line) in enumerate(zip(cases, lines)):
         if kind != CERTIFY:
             continue
-        wanted, axis = certify(Question(whole_numbers, cells))
+        question = Question(whole_numbers, cells)
+        wanted, axis = certify(question)
         word = line.split()[1]
         answers[word] = answers.get(word, 0) + 1
+        if question.mode == CHORD:
+            told = line.removeprefix("certify ") if word == "refused" else word
+            by_chords[told] = by_chords.get(told, 0) + 1
         if line != wanted:
             wrong += 1
             print(f"{list_file}, case {number}: {line}, and by the second computation {wanted}", file=sys.stderr)
@@ -403,6 +427,8 @@ def check(list_file, answers_file):
         classes[class_of(largest, exact)].append(found)
     print(f"{list_file}: " + ", ".join(f"{answers[word]} {word}" for word in sorted(answers))
           + f"; {points} distances; {wrong} wrong")
+    print(f"by chords: {sum(by_chords.values())} cases; "
+          + ", ".join(f"{by_chords[word]} {word}" for word in sorted(by_chords)))
     print("size: the largest absolute coefficient or waypoint; distance: the largest found; the last class: size or a width")
     print(f"{'distance / size':18}{'cases':>7}{'figure / distance':>44}{'(figure-distance)/size':>22}")
     print(f"{'':25}{'least':>11}{'median':>11}{'of 90 %':>11}{'most':>11}{'median':>11}{'most':>11}")
