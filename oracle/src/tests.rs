@@ -611,7 +611,7 @@ fn stored_cases_by_chords_reach_every_answer() {
             _ => panic!("no answer of this kind"),
         }
     }
-    assert!(figures[0] > 10 && figures[1] > 10, "{figures:?}");
+    assert!(figures.iter().all(|n| *n > 5), "{figures:?}");
     for number in [1, 3, 6, 18, 20, 23, 24] {
         assert!(refused[number] > 0, "refused {number}: {refused:?}");
     }
