@@ -2,6 +2,8 @@
 //! lent cells that are to stay as they were or to be cleared; then both sides are measured in turn, and the least time
 //! of each counts.
 use crate::case::{Case, Kind};
+use crate::chords;
+use crate::declared::spacing_number;
 use crate::known;
 use crate::numbers::same;
 use crate::path::smoothing::SmoothingTolerance::{PerAxis, Uniform};
@@ -27,7 +29,7 @@ unsafe extern "C" {
         tolerance: f64,
         tolerance_list: *const f64,
         tolerance_list_len: usize,
-        even: bool,
+        spacing: u64,
         parameters: *const f64,
         parameters_len: usize,
         max_refinements: usize,
@@ -94,15 +96,19 @@ pub struct Told {
 
 /// The port's `build`.
 pub fn build(request: &Request, lent: &mut Lent) -> Told {
+    build_as(request, spacing_number(request.spacing()), lent)
+}
+
+/// The same with this number for the spacing.
+fn build_as(request: &Request, spacing: u64, lent: &mut Lent) -> Told {
     let config = &request.config;
     let axes = config.axes.as_deref();
     let (uniform, tolerance, tolerances) = match &config.tolerance {
         Uniform(x) => (true, *x, &[][..]),
         PerAxis(list) => (false, MARK, &list[..]),
     };
-    let parameters = config.parameters.as_deref();
     let list = axes.unwrap_or(&[]);
-    let given = parameters.unwrap_or(&[]);
+    let given = config.parameters.as_deref().unwrap_or(&[]);
     let [
         work,
         breaks,
@@ -136,7 +142,7 @@ pub fn build(request: &Request, lent: &mut Lent) -> Told {
             tolerance,
             tolerances.as_ptr(),
             tolerances.len(),
-            parameters.is_none(),
+            spacing,
             given.as_ptr(),
             given.len(),
             config.max_refinements,
@@ -183,7 +189,7 @@ fn begins(slice: &[f64], wanted: &[f64]) -> bool {
 }
 
 /// Whether the port's answer is the source's, with the lent cells as they should be.
-fn agrees(wanted: &Result<Built, Refusal>, told: &Told, lent: &Lent) -> bool {
+pub fn agrees(wanted: &Result<Built, Refusal>, told: &Told, lent: &Lent) -> bool {
     let (number, results) = match wanted {
         Ok(built) => {
             let curve = &built.curve;
@@ -278,9 +284,14 @@ struct Tally {
 
 impl Tally {
     fn add(&mut self, request: &Request, lent: &mut Lent) {
+        self.add_as(request, spacing_number(request.spacing()), lent);
+    }
+
+    /// The same with this number for the spacing.
+    fn add_as(&mut self, request: &Request, spacing: u64, lent: &mut Lent) {
         let wanted = request.answer();
         lent.mark(request);
-        let told = build(request, lent);
+        let told = build_as(request, spacing, lent);
         self.requests += 1;
         self.cells += lent
             .0
@@ -348,12 +359,36 @@ fn compare(count: usize) {
     let mut r = Random::new(3);
     let mut lent = Lent::default();
     let mut tally = Tally::default();
-    for (_, request) in known::requests() {
-        tally.add(&request, &mut lent);
+    for (_, request) in known::requests().iter().filter(|(_, q)| !q.chord) {
+        tally.add(request, &mut lent);
     }
     for _ in 0..count {
         tally.add(&draw(&mut r), &mut lent);
     }
+    tally.print();
+}
+
+/// The known requests by chords, and `count` drawn ones; each also with its chords listed, where any number but those of
+/// the other spacings says that they are.
+fn compare_chords(count: usize) {
+    let mut r = Random::new(7);
+    let mut lent = Lent::default();
+    let (mut tally, mut listed) = (Tally::default(), Tally::default());
+    let known = known::requests().into_iter().map(|(_, request)| request);
+    let known: Vec<_> = known.filter(|request| request.chord).collect();
+    for i in 0..known.len() + count {
+        let request = known.get(i).cloned();
+        let request = request.unwrap_or_else(|| chords::request(&mut r));
+        tally.add(&request, &mut lent);
+        if request.refused_before_source().is_none() {
+            let number = r.pick(&[0, 0, 3, 255, u64::MAX]);
+            listed.add_as(&request.listed(), number, &mut lent);
+        }
+    }
+    println!(
+        "by chords  {} requests, {} of them refused with 5; the same listed: {} requests {} differences",
+        tally.requests, tally.numbers[5], listed.requests, listed.differences
+    );
     tally.print();
 }
 
@@ -452,7 +487,9 @@ fn restless(r: &mut Random) -> Request {
 /// nothing is measured.
 pub fn run() {
     let argument = |i: usize| std::env::args().nth(i).and_then(|v| v.parse().ok());
-    compare(argument(2).unwrap_or(20_000.) as usize);
+    let count = argument(2).unwrap_or(20_000.) as usize;
+    compare(count);
+    compare_chords(count);
     let seconds = argument(3).unwrap_or(1.);
     if seconds <= 0. {
         return;

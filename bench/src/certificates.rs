@@ -3,18 +3,20 @@
 //! against the port's `build` of the same curve.
 use crate::builds::{self, Lent, Shape};
 use crate::certificate::{Certificate, Question};
-use crate::declared::declared;
+use crate::chords;
+use crate::declared::{declared, spacing_number};
 use crate::handed::HandedCurve;
 use crate::numbers::{number, same};
 use crate::path::smoothing::reach;
 use crate::random::Random;
 use crate::request::Request;
+use crate::spacing;
 use std::hint::black_box;
 use std::time::Duration;
 
 declared! {
     pamitoye_certify(
-        points: *const f64, points_len: usize, n: usize, even: bool,
+        points: *const f64, points_len: usize, n: usize, spacing: u64,
         parameters: *const f64, parameters_len: usize, axis: usize, depth: usize,
         given: *mut bool, figure: *mut f64,
     ) -> u64;
@@ -61,7 +63,12 @@ fn boost(_: &Question) -> Option<(f64, usize)> {
 const MARK: f64 = -6.0221407623e-123;
 
 /// The port's `certify`. A refusal must leave both results as they were.
-fn certify(question: &Question) -> Certificate {
+pub fn certify(question: &Question) -> Certificate {
+    certify_as(question, spacing_number(question.spacing))
+}
+
+/// The same with this number for the spacing.
+fn certify_as(question: &Question, spacing: u64) -> Certificate {
     let curve = &question.curve;
     let mut axes = [0; 16];
     for (to, from) in axes.iter_mut().zip(&curve.axes) {
@@ -89,7 +96,7 @@ fn certify(question: &Question) -> Certificate {
             question.points.as_ptr(),
             question.points.len(),
             question.n,
-            !question.listed,
+            spacing,
             question.parameters.as_ptr(),
             question.parameters.len(),
             question.axis,
@@ -105,7 +112,7 @@ fn certify(question: &Question) -> Certificate {
     }
 }
 
-fn alike(a: Certificate, b: Certificate) -> bool {
+pub fn alike(a: Certificate, b: Certificate) -> bool {
     match (a, b) {
         (Certificate::Figure(a), Certificate::Figure(b)) => same(a, b),
         (Certificate::None, Certificate::None) => true,
@@ -115,14 +122,14 @@ fn alike(a: Certificate, b: Certificate) -> bool {
 }
 
 /// A curve that the source builds, with its own waypoints.
-fn built(request: &Request, axis: usize) -> Option<Question> {
+pub fn built(request: &Request, axis: usize) -> Option<Question> {
     let curve: HandedCurve = reach::build(request).ok()?.curve.into();
     let parameters = request.config.parameters.clone();
     Some(Question {
         curve,
         n: request.n,
         points: request.points.clone(),
-        listed: parameters.is_some(),
+        spacing: request.spacing(),
         parameters: parameters.unwrap_or_default(),
         axis,
         depth: 0,
@@ -130,12 +137,18 @@ fn built(request: &Request, axis: usize) -> Option<Question> {
 }
 
 /// Curves of drawn requests with their own waypoints or changed ones: zeros, small and large numbers, any bits; some
-/// with a depth.
-fn compare(count: usize) {
-    let mut r = Random::new(5);
+/// with a depth. With `by_chords` the parameters go by the chords, some waypoints are moved, and each question is also
+/// asked with its chords listed, where any number but those of the other spacings says that they are.
+fn compare(count: usize, by_chords: bool) {
+    let mut r = Random::new(if by_chords { 8 } else { 5 });
     let (mut asked, mut figures, mut none, mut differences) = (0, 0, 0, 0);
+    let (mut fives, mut listed_differ) = (0, 0);
     while asked < count {
-        let request = builds::draw(&mut r);
+        let request = if by_chords {
+            chords::request(&mut r)
+        } else {
+            builds::draw(&mut r)
+        };
         if request.d == 0 || request.refused_before_source().is_some() {
             continue;
         }
@@ -164,10 +177,20 @@ fn compare(count: usize) {
                 }
             }
         }
+        if by_chords && r.chance(30) {
+            chords::move_waypoint(&mut r, &mut question.points, request.d);
+        }
         let (wanted, told) = (question.certify(), certify(&question));
         asked += 1;
+        fives += usize::from(matches!(wanted, Certificate::Refused(5)));
         figures += usize::from(matches!(wanted, Certificate::Figure(_)));
         none += usize::from(matches!(wanted, Certificate::None));
+        if by_chords {
+            let mut listed = question.clone();
+            listed.parameters = spacing::chords(&question.points, request.d, request.n);
+            let number = r.pick(&[0, 0, 3, 255, u64::MAX]);
+            listed_differ += usize::from(!alike(wanted, certify_as(&listed, number)));
+        }
         if !alike(wanted, told) {
             differences += 1;
             if differences <= 5 {
@@ -175,8 +198,13 @@ fn compare(count: usize) {
             }
         }
     }
+    let by_chords = if by_chords {
+        format!(" by chords, {fives} refused with 5; the same listed: {listed_differ} differences")
+    } else {
+        String::new()
+    };
     println!(
-        "certified  {asked} questions, {figures} figures, {none} without, {differences} differences"
+        "certified  {asked} questions, {figures} figures, {none} without, {differences} differences{by_chords}"
     );
 }
 
@@ -264,7 +292,9 @@ fn measure(r: &mut Random, n: usize, d: usize, moved: Moved, time: Duration) {
 /// All: `certificates QUESTIONS SECONDS`, how many are compared, and for how long each row is measured.
 pub fn run() {
     let argument = |i: usize| std::env::args().nth(i).and_then(|v| v.parse().ok());
-    compare(argument(2).unwrap_or(20_000.) as usize);
+    let count = argument(2).unwrap_or(20_000.) as usize;
+    compare(count, false);
+    compare(count, true);
     let seconds = argument(3).unwrap_or(1.);
     if seconds <= 0. {
         return;

@@ -1,4 +1,14 @@
 //! How the library's functions are declared here: those that take a curve have the same first parameters.
+use crate::spacing::Spacing;
+
+/// The number of a spacing in the header, `enum pamitoye_spacing`.
+pub fn spacing_number(spacing: Spacing) -> u64 {
+    match spacing {
+        Spacing::Listed => 0,
+        Spacing::Even => 1,
+        Spacing::Chord => 2,
+    }
+}
 
 /// Functions whose first parameters are the curve's numbers and slices, with the others and the answer.
 macro_rules! declared {

@@ -10,6 +10,7 @@ mod declared;
 mod leaves;
 mod numbers;
 mod queries;
+mod spacings;
 mod ways_back;
 
 // The oracle's: what the source takes from elsewhere, requests with their generator, and what its appendix hands out.
@@ -19,6 +20,8 @@ mod case;
 #[path = "../../oracle/src/certificate.rs"]
 #[allow(dead_code)]
 mod certificate;
+#[path = "../../oracle/src/generate/chords.rs"]
+mod chords;
 #[path = "../../oracle/src/generate/damage.rs"]
 #[allow(dead_code)]
 mod damage;
@@ -47,6 +50,9 @@ mod returned;
 #[path = "../../oracle/src/generate/returns.rs"]
 #[allow(dead_code)]
 mod returns;
+#[path = "../../oracle/src/spacing.rs"]
+#[allow(dead_code)]
+mod spacing;
 #[path = "../../oracle/src/standin.rs"]
 #[allow(dead_code)]
 mod standin;
@@ -79,5 +85,8 @@ fn main() {
     }
     if asked("certificates") {
         certificates::run();
+    }
+    if asked("spacings") {
+        spacings::run();
     }
 }
