@@ -3,7 +3,9 @@
 use crate::path;
 use crate::path::smoothing as source;
 use crate::request::Request;
-use pamitoye::{OutOfRangeMode, Path, PathError, SmoothingConfig, SmoothingTolerance, Workspace};
+use pamitoye::{
+    OutOfRangeMode, Path, PathError, SmoothingConfig, SmoothingTolerance, Spacing, Workspace,
+};
 
 /// The same bits, or both a NaN.
 pub fn same(a: f64, b: f64) -> bool {
@@ -34,15 +36,26 @@ pub fn config(config: &source::SmoothingConfig) -> SmoothingConfig {
     }
 }
 
+/// The request's configuration as the crate's, by chords where the request is.
+fn config_of(request: &Request) -> SmoothingConfig {
+    let spacing = match request.chord {
+        true => Spacing::Chord,
+        false => Spacing::Even,
+    };
+    SmoothingConfig {
+        spacing,
+        ..config(&request.config)
+    }
+}
+
 /// The crate's answer to a request.
 pub fn build(request: &Request) -> Result<Path, PathError> {
     let shape = (request.d, request.n);
-    let config = config(&request.source_config());
-    Path::from_waypoints_fitting(&request.points, shape, config)
+    Path::from_waypoints_fitting(&request.points, shape, config_of(request))
 }
 
 /// The same with memory that is kept.
 pub fn build_in(workspace: &mut Workspace, request: &Request) -> Result<Path, PathError> {
-    let (shape, config) = ((request.d, request.n), config(&request.source_config()));
+    let (shape, config) = ((request.d, request.n), config_of(request));
     Path::from_waypoints_fitting_in(workspace, &request.points, shape, &config)
 }

@@ -211,8 +211,8 @@ fn outside(error: PathError, range: (f64, f64), at: usize, x: f64) -> bool {
 
 /// The figure of each axis, at one depth after the other, against the oracle's computation from documents 01 and 02.
 fn certificates(request: &Request, path: &Path, curve: &Curve, seen: &mut Seen) {
-    let config = request.source_config();
-    let parameters = config.parameters.as_deref();
+    // Without a list the path's rule is taken.
+    let parameters = request.config.parameters.as_deref();
     let mut question = Question {
         curve: curve.clone().into(),
         n: request.n,
@@ -291,6 +291,18 @@ fn drawn_requests_1() {
 #[test]
 fn drawn_requests_2() {
     drawn(2, 1500);
+}
+
+/// By chords: the source has the same parameters as a list.
+#[test]
+fn drawn_chords() {
+    let (mut r, mut seen) = (Random::new(5), Seen::default());
+    for _ in 0..2000 {
+        let request = odd::request(&mut r).with(|q| q.config.parameters = None);
+        compare(&mut r, &request.by_chords(), &mut seen);
+    }
+    seen.print();
+    assert!(seen.accepted > 500 && seen.figures > 500 && seen.refused[5] > 200);
 }
 
 /// Many more, for a run by hand: `cargo test --release --offline -- --ignored`.

@@ -10,7 +10,6 @@ pub mod random;
 #[path = "../../../../oracle/src/request.rs"]
 #[allow(dead_code)]
 pub mod request;
-
 #[path = "../../../../oracle/src/spacing.rs"]
 #[allow(dead_code)]
 pub mod spacing;
