@@ -18,11 +18,12 @@ fn put_list(cells: &mut [f64], spacing: Spacing, list: &[f64], points: &[f64], d
 {
     let n = cells.len();
     let mut current = parameters::first(spacing, list, n);
+    cells[0] = current;
     let mut i = 0;
-    while i < n {
-        cells[i] = current;
-        current = parameters::next(spacing, list, points, d, n, i, current);
+    while i < n - 1 {
+        current = parameters::following(spacing, list, points, d, n, i, current);
         i += 1;
+        cells[i] = current;
     }
 }
 

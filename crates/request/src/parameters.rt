@@ -74,7 +74,7 @@ pub fn first(spacing: Spacing, list: &[f64], n: usize) -> f64
 }
 
 // The parameter after parameter i, which is `current`.
-fn following(
+pub fn following(
     spacing: Spacing,
     list: &[f64],
     points: &[f64],
