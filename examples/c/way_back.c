@@ -8,30 +8,13 @@
 #include <stdlib.h>
 #include <string.h>
 
+#include "expect.h"
 #include "pamitoye.h"
 
 enum { D = 2, N = 9, HEIGHT = 0, MAX_REFINEMENTS = 20, MAX_SEGMENTS = 100 };
 
 /* What a lent cell holds before a call. */
 #define MARK (-7.0)
-
-static int failures = 0;
-
-/* Prints the number of an answer, and compares it. */
-static void expect(const char *call, uint64_t number, uint64_t wanted) {
-    printf("%s: %" PRIu64 "\n", call, number);
-    if (number != wanted) {
-        printf("  wanted %" PRIu64 "\n", wanted);
-        failures++;
-    }
-}
-
-static void check(const char *what, bool holds) {
-    if (!holds) {
-        printf("  not so: %s\n", what);
-        failures++;
-    }
-}
 
 static double *marked(size_t n) {
     double *made = malloc((n ? n : 1) * sizeof(double));
