@@ -1,5 +1,5 @@
-/* Pamitoye: smooths waypoints into a curve, answers queries of it, and certifies how far it strays;
- * and orders lanes that are to be cut.
+/* Pamitoye: smooths waypoints into a curve, answers queries of it, certifies how far it strays, and
+ * writes and reads it as a lane file; and orders lanes that are to be cut.
  *
  * The functions are proved: each ends, and does what its comment says, for every input that keeps
  * to what is asked of a caller below. Their code is crates/pamitoye, whose contracts say the same
@@ -11,7 +11,7 @@
  *
  * Memory. The library allocates nothing, frees nothing and keeps no pointer: the caller owns every
  * slice, lends it for the call, and has it back when the call returns. A slice is a pointer and a
- * length in cells (double, size_t or a pair of size_t), in this order.
+ * length in cells (double, uint64_t, size_t, a pair of size_t, or bytes), in this order.
  *
  * What the caller must keep to. Nothing tests it; a call that breaks it is undefined.
  * - A pointer is not null, also where its length is 0, and is aligned for its type.
@@ -116,6 +116,9 @@ enum pamitoye_number {
     /* a smoothed coordinate, without its sign, exceeds its tolerance times 2^48: subtract an offset
      * from the coordinates, or take a larger tolerance */
     PAMITOYE_TOLERANCE_TOO_FINE = 26,
+    /* the bytes are no lane file: cut off, too long, damaged, or something else; copy or write the
+     * file anew */
+    PAMITOYE_DOES_NOT_READ = 27,
     /* the breaks of a return lane do not rise strictly: 1 minus two old ones is one number, since
      * they are no further apart than 2^-53 in the lane's first half; take parameters that are
      * further apart there, or leave out one waypoint of the two */
@@ -314,6 +317,54 @@ uint64_t pamitoye_return_lane(
     double *lent_coefficients, size_t lent_coefficients_len,
     double *lent_other_breaks, size_t lent_other_breaks_len,
     double *lent_other_coefficients, size_t lent_other_coefficients_len);
+
+/* Lane files. A lane file is one curve as bytes. First come whole numbers: d, k, the k axes, the mode
+ * (0 Error, 1 Clamp), segments, other_segments, each in groups of seven bits, low group first, the top
+ * bit set on all but the last, at most three groups (so below 2097152) and none that is 0 behind
+ * another. Then come numbers of eight bytes, low byte first: start, end, breaks, coefficients,
+ * other_breaks, other_coefficients. A count of 0 has no breaks. Widths are not in it: reading makes
+ * them from the breaks.
+ *
+ * Coefficients and widths are passed as bit patterns, uint64_t, since they may be NaNs, whose bits
+ * travel unchanged. Where they are kept as doubles the same memory is passed, and nothing is copied:
+ *     (const uint64_t *)coefficients        (uint64_t *)coefficients
+ * The doubles there then have the bits that the file has, also where they are NaNs, as long as they
+ * are moved as memory (memcpy, fwrite); a double that went through arithmetic, or on some machines
+ * through a register, is still a NaN, but its bits may be others.
+ *
+ * Equal curves, bit by bit, have equal files, and unequal ones unequal files; cells of axes from k on
+ * do not count. */
+
+/* Writes the lane file of a curve. On 0 it is the first *count bytes of file; the bytes behind are
+ * unchanged. pamitoye_read_lane gives the same curve back from it, bit by bit, with 0 in the cells of
+ * axes from k on. A file of 41 + 8 * (breaks_len + coefficients_len + other_breaks_len +
+ * other_coefficients_len) bytes is never too short. A refusal writes nothing.
+ * Numbers: 24, 19 (file is too short), in this order. */
+uint64_t pamitoye_write_lane(
+    size_t d, size_t k, const size_t axes[16], double start, double end, bool clamp,
+    size_t segments, size_t other_segments,
+    const double *breaks, size_t breaks_len,
+    const uint64_t *coefficients, size_t coefficients_len,
+    const double *other_breaks, size_t other_breaks_len,
+    const uint64_t *other_coefficients, size_t other_coefficients_len,
+    uint8_t *file, size_t file_len, size_t *count);
+
+/* Reads a lane file: all of the bytes. On 0 the eight numbers are the curve's, with 0 in the cells of
+ * axes from k on, and so are the first cells of the slices, as many as it has (see "Curves"); the
+ * cells behind are unchanged. The curve is well formed in slices of exactly these lengths, and
+ * pamitoye_write_lane gives the same file back from them. Slices of file_len / 8 cells each are never
+ * too short. A refusal writes nothing.
+ * Numbers: 27 (a number in groups is too long, has an empty last group or is cut off, the mode is
+ * above 1, k is above d, bytes are missing or left over; all else reads, however large its counts),
+ * 24, 19 (a lent slice is too short), in this order. */
+uint64_t pamitoye_read_lane(
+    const uint8_t *file, size_t file_len,
+    size_t *d, size_t *k, size_t axes[16], double *start, double *end, bool *clamp,
+    size_t *segments, size_t *other_segments,
+    double *breaks, size_t breaks_len,
+    uint64_t *coefficients, size_t coefficients_len,
+    double *other_breaks, size_t other_breaks_len,
+    uint64_t *other_coefficients, size_t other_coefficients_len);
 
 /* Which lane is cut first. Lanes are numbered from 0, and pairs[i] says that lane pairs[i][0] is cut
  * before lane pairs[i][1]; pairs_len counts pairs. On 0 the first cells of order, one for each lane,

@@ -19,7 +19,8 @@ use Rattle.smoothing.specs.Build.{Result, checkedOf, answerOf, buildIn}
 use Rattle.checks.specs.Checks.{refusalFirst}
 use Rattle.checks.proofs.Domain.{sized}
 use Rattle.building.specs.declared.Report.{Report}
-use Rattle.building.specs.Outcome.{noCurve, reported, curveAfter, Results, lengthsOf, resultsAfter, workAfter}
+use Rattle.curve.specs.Form.{noCurve}
+use Rattle.building.specs.Outcome.{reported, curveAfter, Results, lengthsOf, resultsAfter, workAfter}
 use Rattle.building.specs.Answered.{answerTo}
 
 -- 18, 20 or 19

@@ -15,9 +15,9 @@ use Rattle.smoothing.specs.Request.{Lane, Limits, axisCount, smoothedAxes, lane
 use Rattle.smoothing.specs.Checks.{overflows, refusalOf}
 use Rattle.smoothing.specs.Rows.{Task, Units, taskOf, laneTask, laneUnits, parametersOf, smoothedRows, otherRows, gathered, leftOver, otherAxes}
 use Rattle.smoothing.specs.Build.{otherOf}
-use Rattle.checks.specs.Request.{padded}
+use Rattle.curve.specs.Places.{padded}
 use Rattle.checks.specs.Checks.{refusalBefore, refusalAfter}
-use Rattle.checks.proofs.Padded.{padded-at, padded-front}
+use Rattle.curve.proofs.Padded.{padded-at, padded-front}
 use Rattle.checks.proofs.Selected.{left-below}
 use Rattle.checks.proofs.Passed.{refusal-after, axes-below, axes-count}
 use Rattle.work_slice.specs.Rows.{sOf, unitsFrom, taskFrom, otherWith, otherFrom}

@@ -24,7 +24,7 @@ use Rattle.selected_axes.specs.declared.course.Ending.the-variants.{Done}
 use Rattle.building.specs.declared.Report.{Report}
 use Rattle.building.specs.declared.compute.Computed.{Computed}
 use Rattle.building.specs.declared.entry.Run.{Run}
-use Rattle.work_slice.specs.Rows.{onto}
+use Rattle.window.specs.Cells.{onto}
 use Rattle.building.specs.Outcome.{Results, results, lengthsOf}
 use Rattle.building.specs.Computed.{Both, bothFrom, computedIn, otherAt}
 

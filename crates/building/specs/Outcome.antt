@@ -3,18 +3,17 @@ use Prim.Native.Nat.{ℕ}
 use mathlib.Core.Bool.{Bool, cond, _||_}
 use mathlib.Core.List.{List}
 use lib.Dec.{eqb}
-use lib.ListN.{length, replicate}
+use lib.ListN.{length}
 use lib.Ieee.{Float}
-use Rattle.window.specs.Cells.{+0, zeros}
+use Rattle.window.specs.Cells.{onto, zeros}
 use Rattle.curve.specs.declared.Curve.{Curve}
 use Rattle.curve.specs.declared.Mode.{Mode}
-use Rattle.curve.specs.Form.{withWidths}
+use Rattle.curve.specs.Form.{withWidths, noCurve}
 use Rattle.smoothing.specs.Answer as answers
 use Rattle.smoothing.specs.Answer.Answer.{done, refused, exhausted}
 use Rattle.smoothing.specs.Request.{Request}
 use Rattle.smoothing.specs.Checks.{Room}
 use Rattle.smoothing.specs.Build.{Result, curveOf, buildIn}
-use Rattle.work_slice.specs.Rows.{onto}
 use Rattle.building.specs.declared.Report.{Report}
 use Rattle.checks.specs.Checks.{roomOf}
 use Rattle.building.specs.declared.Answer.{Answer}
@@ -61,11 +60,6 @@ unfoldable pub reported : answers.Answer Result → answers.Answer Report
 reported (done x) = done (reportOf x)
 reported (refused n) = refused n
 reported (exhausted x) = exhausted x
-
--- the curve of a refused request: without axes, so that it is not well formed
-unfoldable pub noCurve : Mode → Curve
-noCurve mode =
-    record { d = 0; k = 0; axes = replicate 16 0; start = +0; end = +0; mode = mode; segments = 0; «other_segments» = 0 }
 
 unfoldable pub curveAfter : Mode → ℕ → answers.Answer Result → Curve
 curveAfter mode d (done x) = curveOf mode d x

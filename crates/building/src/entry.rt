@@ -12,7 +12,8 @@ ghost use Rattle.request.specs.Parameters.{parameterList};
 ghost use Rattle.window.specs.Cells.{at};
 ghost use Rattle.smoothing.specs.Answer.Answer.{done, refused};
 ghost use Rattle.smoothing.specs.Build.{checkedOf};
-ghost use Rattle.building.specs.Outcome.{outcomeOf, reported, noCurve, curveAfter, results, resultsAfter, workAfter};
+ghost use Rattle.curve.specs.Form.{noCurve};
+ghost use Rattle.building.specs.Outcome.{outcomeOf, reported, curveAfter, results, resultsAfter, workAfter};
 ghost use Rattle.building.specs.Answered.{answerTo, Domain, Fitting, Ran, Writable, resultsFrom, reportIn, curveIn};
 use crate::Answer;
 use crate::Report;
@@ -26,6 +27,7 @@ use checks::choices;
 use checks::refusals;
 use curve::Curve;
 use curve::Mode;
+use curve::form::no_curve;
 use refinement::plan::Plan;
 use request::parameters::Spacing;
 use selected_axes::course::Ending;
@@ -169,22 +171,6 @@ fn checked(
 pub struct Built {
     pub answer: Answer,
     pub curve: Curve,
-}
-
-// The curve of a refused request.
-fn no_curve(mode: Mode) -> Curve
-    ensures { λ r. ⌜ r ≡ noCurve mode ⌝ }
-{
-    Curve {
-        d: 0,
-        k: 0,
-        axes: [0; 16],
-        start: 0.0,
-        end: 0.0,
-        mode,
-        segments: 0,
-        other_segments: 0,
-    }
 }
 
 fn refuse(number: usize, mode: Mode) -> Built

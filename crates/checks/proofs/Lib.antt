@@ -1,4 +1,3 @@
-pub mod Padded
 pub mod Selected
 pub mod Passed
 pub mod Domain

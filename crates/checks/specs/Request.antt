@@ -1,9 +1,7 @@
 -- A request as the code takes it, with its lists beside it, as `smoothing` has it.
 use Prim.Native.Nat.{ℕ}
 use mathlib.Core.List.{List}
-use lib.ListN.{getD}
 use lib.Ieee.{Float}
-use Rattle.window.specs.Rows.{listOf}
 use Rattle.request.specs.declared.parameters.Spacing.{Spacing}
 use Rattle.smoothing.specs.Request as smoothing
 use Rattle.smoothing.specs.Request.{Lane}
@@ -47,7 +45,3 @@ axesIn axes list d = smoothing.axesOf (axesOf axes list) d
 -- the tolerances of k axes
 abbrev pub tolerancesIn : Tolerance → List Float → ℕ → List Float
 tolerancesIn tolerance list k = smoothing.tolerancesOf (toleranceOf tolerance list) k
-
--- an array that holds a list in front, and then 0
-abbrev pub padded : List ℕ → List ℕ
-padded l = listOf 16 (λ i. getD l i 0)

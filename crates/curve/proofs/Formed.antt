@@ -42,11 +42,10 @@ set-parts m n b c h =
     let t1 = leb 1 n && leb n 20000 in
     let t2 = t1 && eqb (length b) (n + 1) in
     let t3 = t2 && eqb (length c) (6 * (n * m) + n) in
-    let t4 = t3 && zero in
-    let t5 = t4 && breaksRise b n in
-    let p6 = and-parts (t5 && one) (widthsKept (6 * (n * m)) n b c) h in
-    let p5 = and-parts t5 one (p6 .0) in
-    let p4 = and-parts t4 (breaksRise b n) (p5 .0) in
+    let segments = breaksRise b n && widthsKept (6 * (n * m)) n b c in
+    let p6 = and-parts (t3 && zero && one) segments h in
+    let p5 = and-parts (breaksRise b n) (widthsKept (6 * (n * m)) n b c) (p6 .1) in
+    let p4 = and-parts (t3 && zero) one (p6 .0) in
     let p3 = and-parts t3 zero (p4 .0) in
     let p2 = and-parts t2 (eqb (length c) (6 * (n * m) + n)) (p3 .0) in
     let p1 = and-parts t1 (eqb (length b) (n + 1)) (p2 .0) in
@@ -57,9 +56,9 @@ set-parts m n b c h =
       breaks-length = eqb-true (length b) (n + 1) (p1 .1);
       coefficients-length = eqb-true (length c) (6 * (n * m) + n) (p2 .1);
       from-zero = p3 .1;
-      rising = p4 .1;
-      to-one = p5 .1;
-      kept = p6 .1;
+      rising = p5 .0;
+      to-one = p4 .1;
+      kept = p5 .1;
     }
 
 pub set-formed : (m n : ℕ) (breaks coefficients : List Float) → SetParts m n breaks coefficients

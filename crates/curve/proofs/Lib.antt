@@ -6,3 +6,5 @@ pub mod Placing
 pub mod SameBits
 pub mod Formed
 pub mod Putting
+pub mod Padded
+pub mod Shaped

@@ -1,9 +1,10 @@
--- Where an axis stands among the axes of its set.
+-- Axes of a curve: where one stands among those of its set, and the array that holds a list of them.
 use mathlib.Core.Bool.{cond}
 use mathlib.Core.List.{List}
 use Prim.Native.Nat.{ℕ, zero, suc, _+_}
 use lib.Dec.{ltb, eqb}
 use lib.ListN.{getD}
+use Rattle.window.specs.Rows.{listOf}
 use Rattle.arith.specs.First.{firstOf}
 
 -- the place of axis a among the first n listed axes; n where it is not there
@@ -19,3 +20,7 @@ othersBelow axes k (suc a) = othersBelow axes k a + cond (ltb (positionOf axes k
 -- `(0..d).filter(|a| !seen[*a])`).
 unfoldable pub axisPlace : List ℕ → ℕ → ℕ → ℕ
 axisPlace axes k a = cond (ltb (positionOf axes k a) k) (positionOf axes k a) (k + othersBelow axes k a)
+
+-- the array of sixteen cells that begins with the axes; 0 behind them
+abbrev pub padded : List ℕ → List ℕ
+padded axes = listOf 16 (λ i. getD axes i 0)

@@ -3,7 +3,7 @@
 // Coefficients lie segment after segment, within it axis after axis, six each, from power 0 up; behind
 // them lie the widths of the segments.
 pub mod count; // count.rt: counts without a branch
-pub mod form; // form.rt: whether a curve is well formed
+pub mod form; // form.rt: whether a curve is well formed, and one that is not
 pub mod place; // place.rt: where an axis stands in a list of axes
 pub mod widths; // widths.rt: the widths of segments
 

@@ -5,17 +5,18 @@ use mathlib.Core.List.{List, [], _∷_, _++_}
 use Prim.Native.Nat.{ℕ, zero, suc, _+_, _*_, _%_, _^_, _≤_, _<_}
 use native.Mathlib.Omega.{arith}
 use native.Mathlib.Nat.{le-of-suc-le-suc, not-suc-le-zero, lt-of-lt-of-le}
-use lib.ListN.{length, drop, getD, set, length-append}
+use lib.ListN.{length, drop, getD, set, length-append, List·getD-append}
 use lib.Pow.{pow-add, pow-mono}
 use native.Mathlib.Numerals.{add-one}
-use lib.Seq.{drop-cons}
+use lib.Seq.{drop-cons, getD-at}
+use native.Mathlib.Decide.{decLt}
 use Rattle.window.specs.Window.{window}
 use lib.Dec.{T}
 use lib.Ieee.{nan, binary64, ofBits, nanBits}
 use lib.Ieee.Bits.{nanBits-is, nanBits-above}
 use borrow.Author.Tests.{lt-ltb, le-ltb}
 use Rattle.arith.proofs.Nan.{is-nan}
-use Rattle.encoding.specs.Bytes.{lowFirst, floatOf, floatsOf}
+use Rattle.encoding.specs.Bytes.{lowFirst, eachOf}
 
 -- one byte more, in front of the others
 pub lowFirst-more : (l : List ℕ) (i : ℕ) → i < length l → lowFirst (drop i l) ≡ 256 * lowFirst (drop (i + 1) l) + getD l i 0
@@ -44,16 +45,32 @@ drop-set l i v h =
     go (x ∷ xs) zero h = refl
     go (x ∷ xs) (suc i) h = go xs i (le-of-suc-le-suc h)
 
--- as many numbers as asked
-pub length-floats : (n : ℕ) (bytes : List ℕ) → length (floatsOf n bytes) ≡ n
-unfolding floatsOf
-length-floats zero bytes = refl
-length-floats (suc n) bytes = length-append (floatsOf n bytes) _ ∙ omega (arith, length-floats n bytes)
+module _ {A : Type 0} (value : List ℕ → A) where
+  -- as many values as asked
+  pub length-each : (n : ℕ) (bytes : List ℕ) → length (eachOf value n bytes) ≡ n
+  unfolding eachOf
+  length-each zero bytes = refl
+  length-each (suc n) bytes = length-append (eachOf value n bytes) _ ∙ omega (arith, length-each n bytes)
 
--- one number more
-pub floats-more : (i : ℕ) (bytes : List ℕ) → floatsOf (i + 1) bytes ≡ floatsOf i bytes ++ (floatOf (window (8 * i) (8 * i + 8) bytes) ∷ [])
-unfolding floatsOf
-floats-more i bytes = rw add-one
+  -- one more
+  pub each-more : (i : ℕ) (bytes : List ℕ) → eachOf value (i + 1) bytes
+      ≡ eachOf value i bytes ++ (value (window (8 * i) (8 * i + 8) bytes) ∷ [])
+  unfolding eachOf
+  each-more i bytes = rw add-one
+
+  -- value i
+  pub each-at : (n : ℕ) (bytes : List ℕ) (z : A) (i : ℕ) → i < n → getD (eachOf value n bytes) i z ≡ value (window (8 * i) (8 * i + 8) bytes)
+  unfolding eachOf
+  each-at zero bytes z i h = absurd (not-suc-le-zero h)
+  each-at (suc n) bytes z i h =
+      let x = value (window (8 * n) (8 * n + 8) bytes) in
+      let m = length-each n bytes in
+      elim (decLt i n) [
+        | yes l ↦ List·getD-append (eachOf value n bytes) (x ∷ []) z i (omega arith) ∙ each-at n bytes z i l
+        | no l ↦
+            let e : i ≡ n = omega arith in
+            rw e (getD-at (eachOf value n bytes) x [] z n m)
+      ]
 
 -- a pattern whose low 63 bits are above those of infinity is a NaN's
 pub nan-pattern : (n : ℕ) → 0x7ff0_0000_0000_0000 < n % 0x8000_0000_0000_0000 → ofBits binary64 n ≡ nan

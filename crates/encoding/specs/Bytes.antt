@@ -13,7 +13,14 @@ lowFirst (b ∷ bs) = b + 256 * lowFirst bs
 abbrev pub floatOf : List ℕ → Float
 floatOf bytes = ofBits binary64 (lowFirst bytes)
 
--- n numbers of eight bytes each, one after the other: number i is that of the bytes from 8 * i up to 8 * i + 8
-unfoldable pub floatsOf : ℕ → List ℕ → List Float
-floatsOf zero bytes = []
-floatsOf (suc i) bytes = floatsOf i bytes ++ (floatOf (window (8 * i) (8 * i + 8) bytes) ∷ [])
+-- n values of eight bytes each, one after the other: value i is that of the bytes from 8 * i up to 8 * i + 8
+unfoldable pub eachOf : {A : Type 0} → (List ℕ → A) → ℕ → List ℕ → List A
+eachOf value zero bytes = []
+eachOf value (suc i) bytes = eachOf value i bytes ++ (value (window (8 * i) (8 * i + 8) bytes) ∷ [])
+
+-- whole numbers, and f64s
+abbrev pub wholesOf : ℕ → List ℕ → List ℕ
+wholesOf n bytes = eachOf lowFirst n bytes
+
+abbrev pub floatsOf : ℕ → List ℕ → List Float
+floatsOf n bytes = eachOf floatOf n bytes

@@ -4,7 +4,8 @@ ghost use mathlib.Core.Path.{_≡_};
 ghost use Prim.Native.Nat.{_*_, _≤_, _<_};
 ghost use mathlib.Core.List.{[]};
 ghost use lib.ListN.{length, take};
-ghost use Rattle.encoding.specs.Bytes.{lowFirst, floatOf, floatsOf};
+ghost use lib.Ieee.{binary64, ofBits, toBits};
+ghost use Rattle.encoding.specs.Bytes.{lowFirst, wholesOf, floatOf, floatsOf};
 ghost use Rattle.encoding.specs.Text.{digitOf, hexDigits, floatText};
 
 // The whole number of at most eight bytes, low byte first.
@@ -21,16 +22,47 @@ pub fn whole(bytes: &[u8]) -> u64
     value
 }
 
+// As many whole numbers as `cells` has places, from eight bytes each.
+pub fn wholes(bytes: &[u8], cells: &mut [u64])
+    requires { ⌜ 8 * length (now cells) ≤ length (now bytes) ⌝ }
+    ensures { λ _. ⌜ now (cells .exit) ≡ wholesOf (length (now (cells .entry))) (now (bytes .entry)) ⌝ }
+{
+    let mut i = 0;
+    while i < cells.len() {
+        let from = 8 * i;
+        let to = from + 8;
+        cells[i] = whole(&bytes[from..to]);
+        i += 1;
+    }
+}
+
+// The f64 of a bit pattern; any NaN's pattern gives a NaN.
+pub fn number(bits: u64) -> f64
+    ensures { λ r. ⌜ r ≡ ofBits binary64 bits ⌝ }
+{
+    if bits % 0x8000_0000_0000_0000 > 0x7ff0_0000_0000_0000 {
+        return 0.0 / 0.0;
+    }
+    f64::from_bits(bits)
+}
+
+// The bit pattern of x; of a NaN, whose own pattern the language does not see, the one with the sign
+// clear and only the highest of the digits set.
+pub fn pattern(x: f64) -> u64
+    ensures { λ r. ⌜ r ≡ toBits binary64 x ⌝ }
+{
+    if x != x {
+        return 0x7ff8_0000_0000_0000;
+    }
+    f64::to_bits(x)
+}
+
 // The f64 of eight bytes, low byte first; any NaN's pattern gives a NaN.
 pub fn float(bytes: &[u8]) -> f64
     requires { ⌜ length (now bytes) ≤ 8 ⌝ }
     ensures { λ r. ⌜ r ≡ floatOf (now (bytes .entry)) ⌝ }
 {
-    let bits = whole(bytes);
-    if bits % 0x8000_0000_0000_0000 > 0x7ff0_0000_0000_0000 {
-        return 0.0 / 0.0;
-    }
-    f64::from_bits(bits)
+    number(whole(bytes))
 }
 
 // As many f64 as `cells` has places, from eight bytes each.

@@ -7,12 +7,12 @@ use Prim.Native.Nat.{ℕ, zero, suc, _+_, _*_, _/_, _%_, _^_, _≤_, _<_}
 use native.Mathlib.Omega.{arith}
 use native.Mathlib.Nat.{pow-zero, pow-succ'}
 use lib.Dec.{ltb}
-use lib.ListN.{length, take, drop, length-append, take-append-drop}
+use lib.ListN.{length, take, drop, getD, length-append, take-append-drop}
 use lib.Seq.{take-at, drop-at}
 use borrow.Author.Tests.{le-ltb, ltb-false}
 use Rattle.encoding.specs.Bytes.{lowFirst}
 use Rattle.forms.specs.Read.{Read, got, bad, after, Bytes}
-use Rattle.forms.specs.Form.{Form, Both, groups, lowBytes, readBytes, bytes, then, allGood, writeAll, readAll, many, through, noRest, readWhole}
+use Rattle.forms.specs.Form.{Form, Both, groups, lowBytes, readBytes, bytes, then, allGood, writeAll, readAll, many, through, suchThat, noRest, readWhole}
 use Rattle.forms.proofs.OneSpelling.{back, only}
 
 -- the bytes are those of a, before the rest
@@ -91,7 +91,8 @@ module _ where
               let u : drop k l ≡ rest = cc in
               let i = value-low k l N (ltb-false (length l) k t) in
               subst (λ (m : ℕ). (l ≡ lowBytes k m ++ rest) × (m < 256 ^ k)) v (
-                sym (take-append-drop k l) ∙ ap (λ (t : List ℕ). t ++ drop k l) (i .0) ∙ ap (λ (t : List ℕ). lowBytes k (lowFirst (take k l))
+                sym (take-append-drop k l) ∙ ap (λ (t : List ℕ). t ++ drop k l) (i .0) ∙ ap
+                    (λ (t : List ℕ). lowBytes k (lowFirst (take k l))
                     ++ t) u,
                 i .1,
               )
@@ -167,6 +168,27 @@ many-exact {A} F X n = record { back = forth n; only = λ vs l rest N e. sole n 
         next n vs l rest N (λ r bs s M. sole n bs r s M) (step (F .read l) (λ a r. after (readAll F n r) (λ bs s. got (a ∷ bs) s)) vs rest
         e)
 
+-- many values that have bytes: as many as asked, and each of them
+pub all-good : {A : Type 0} (F : Form A) (z : A) (n : ℕ) (l : List A) → length l ≡ n
+    → ((i : ℕ) → i < length l → F .Good (getD l i z)) → allGood F n l
+all-good F z zero [] e h = tt
+all-good F z zero (x ∷ l) e h = absurd (omega arith)
+all-good F z (suc n) [] e h = absurd (omega arith)
+all-good F z (suc n) (x ∷ l) e h = (h 0 (omega arith), all-good F z n l (omega arith) (λ i m. h (suc i) (omega arith)))
+
+pub all-length : {A : Type 0} (F : Form A) (n : ℕ) (l : List A) → allGood F n l → length l ≡ n
+all-length F zero [] g = refl
+all-length F zero (x ∷ l) g = absurd g
+all-length F (suc n) [] g = absurd g
+all-length F (suc n) (x ∷ l) g = ap suc (all-length F n l (g .1))
+
+pub all-at : {A : Type 0} (F : Form A) (z : A) (n : ℕ) (l : List A) → allGood F n l → (i : ℕ) → i < length l → F .Good (getD l i z)
+all-at F z zero [] g i h = absurd (omega arith)
+all-at F z zero (x ∷ l) g i h = absurd g
+all-at F z (suc n) [] g i h = absurd g
+all-at F z (suc n) (x ∷ l) g zero h = g .0
+all-at F z (suc n) (x ∷ l) g (suc i) h = all-at F z n l (g .1) i (omega arith)
+
 -- as many values as asked
 pub many-count : {A : Type 0} (F : Form A) (n : ℕ) (l : List ℕ) (vs : List A) (rest : List ℕ) → readAll F n l ≡ got vs rest → length vs ≡ n
 many-count {A} F zero l vs rest e = let q : _≡_ {A = List A} [] vs = cc in sym (ap length q)
@@ -197,6 +219,28 @@ through-exact {A} {B} to from there back F X = record {
         let w : a ≡ from b = sym (back a) ∙ ap from v in
         let i = X .only a l r N e in
         subst (λ (a : A). (l ≡ F .write a ++ rest) × F .Good a) w (i .0 ∙ ap (λ (z : List ℕ). F .write a ++ z) u, i .1)
+
+pub such-that-exact : {A : Type 0} (F : Form A) (test : A → Bool) → Exact F → Exact (suchThat F test)
+such-that-exact {A} F test X = record {
+  back = λ a rest g. rw (X .back a rest (g .0), g .1);
+  only = λ a l rest N e. go a l rest N (step (F .read l) (λ b r. cond (test b) (got b r) bad) a rest e);
+}
+  where
+    passed : (t : Bool) (b a : A) (r s : List ℕ) → cond t (got b r) bad ≡ got a s → (t ≡ true) × (b ≡ a) × (r ≡ s)
+    passed true b a r s e = (refl, (cc), (cc))
+    passed false b a r s e = absurd (not-got e)
+
+    go : (a : A) (l rest : List ℕ) → Bytes l → Stepped (F .read l) (λ b r. cond (test b) (got b r) bad) a rest
+        → Spelled (suchThat F test) a l rest
+    go a l rest N (stepped b r e f) =
+        let p = passed (test b) b a r rest f in
+        let i = X .only b l r N e in
+        subst (λ (a : A). Spelled (suchThat F test) a l rest) (p .1) (i .0 ∙ ap (λ (z : List ℕ). F .write b ++ z) (p .2), (i .1, p .0))
+
+-- unequal values have unequal bytes
+pub injective : {A : Type 0} (F : Form A) → Exact F → (a b : A) → F .Good a → F .Good b → F .write a ≡ F .write b → a ≡ b
+injective F X a b g h e =
+    let p = sym (X .back a [] g) ∙ ap (λ (l : List ℕ). F .read (l ++ [])) e ∙ X .back b [] h in cc
 
 -- ---- all of the bytes: what is written reads back, and what reads as a value is what is written for it
 pub whole-back : {A : Type 0} (F : Form A) → Exact F → (a : A) → F .Good a → readWhole F (F .write a) ≡ got a []

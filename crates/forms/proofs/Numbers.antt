@@ -1,16 +1,17 @@
 -- Many numbers of eight bytes: as `encoding` reads them, and as the form does.
 use mathlib.Core.Path.{_≡_, refl, sym, ap, _∙_}
-use mathlib.Core.Bool.{Bool, true, false, cond}
-use mathlib.Core.List.{List, [], _∷_, _++_, map}
+use mathlib.Core.Bool.{Bool, true, false}
+use mathlib.Core.List.{List, [], _∷_, map}
 use Prim.Native.Nat.{ℕ, zero, suc, _+_, _*_, _-_, _≤_, _<_}
 use native.Mathlib.Omega.{arith}
 use lib.Dec.{ltb}
 use lib.ListN.{length, take, drop, length-drop}
-use lib.Seq.{drop-drop}
+use lib.Seq.{drop-drop, take-take}
+use Rattle.window.proofs.Seams.{drop-take}
 use lib.Ieee.{Float, binary64, ofBits}
-use borrow.Author.Tests.{lt-ltb, le-ltb, ltb-true, ltb-false}
-use Rattle.encoding.specs.Bytes.{lowFirst, floatOf, floatsOf}
-use Rattle.forms.specs.Read.{Read, got, bad, after}
+use borrow.Author.Tests.{ltb-false}
+use Rattle.encoding.specs.Bytes.{lowFirst, floatOf, eachOf, wholesOf, floatsOf}
+use Rattle.forms.specs.Read.{got, bad}
 use Rattle.forms.specs.Form.{readBytes, bytes, readAll}
 use Rattle.forms.proofs.Exact.{read-bytes}
 
@@ -40,17 +41,33 @@ patterns-short (suc m) l h = go (ltb (length l) 8) refl (patterns-short m (drop 
     go true e ih = rw e
     go false e ih = rw (e, ih (rw (length-drop 8 l) (omega (arith, ltb-false (length l) 8 e))))
 
--- the first of the floats, and the others
-pub floats-front : (m : ℕ) (l : List ℕ) → floatsOf (suc m) l ≡ floatOf (take 8 l) ∷ floatsOf m (drop 8 l)
-unfolding floatsOf
-floats-front zero l = refl
-floats-front (suc m) l =
-    let e : 8 * suc m ≡ 8 + 8 * m = omega arith in
-    let f : 8 * suc m + 8 - 8 * suc m ≡ 8 * m + 8 - 8 * m = omega arith in
-    rw (floats-front m l, f, e, ← drop-drop (8 * m) 8 l)
+-- ---- values of eight bytes each, one after the other
+module _ {A : Type 0} (value : List ℕ → A) where
+  -- the first, and the others
+  pub each-front : (m : ℕ) (l : List ℕ) → eachOf value (suc m) l ≡ value (take 8 l) ∷ eachOf value m (drop 8 l)
+  unfolding eachOf
+  each-front zero l = refl
+  each-front (suc m) l =
+      let e : 8 * suc m ≡ 8 + 8 * m = omega arith in
+      let f : 8 * suc m + 8 - 8 * suc m ≡ 8 * m + 8 - 8 * m = omega arith in
+      rw (each-front m l, f, e, ← drop-drop (8 * m) 8 l)
+
+  -- only their own bytes matter
+  pub each-part : (m n : ℕ) (l : List ℕ) → 8 * m ≤ n → eachOf value m (take n l) ≡ eachOf value m l
+  unfolding eachOf
+  each-part zero n l h = refl
+  each-part (suc m) n l h =
+      each-front m (take n l) ∙ (λ i. value (take-take 8 n l (omega arith) i) ∷ eachOf value m (drop-take 8 n l i))
+      ∙ ap (λ (t : List A). value (take 8 l) ∷ t) (each-part m (n - 8) (drop 8 l) (omega arith)) ∙ sym (each-front m l)
+
+pub patterns-wholes : (m : ℕ) (l : List ℕ) → patterns m l ≡ wholesOf m l
+unfolding eachOf
+patterns-wholes zero l = refl
+patterns-wholes (suc m) l =
+    ap (λ (t : List ℕ). lowFirst (take 8 l) ∷ t) (patterns-wholes m (drop 8 l)) ∙ sym (each-front lowFirst m l)
 
 pub patterns-floats : (m : ℕ) (l : List ℕ) → map (λ n. ofBits binary64 n) (patterns m l) ≡ floatsOf m l
-unfolding floatsOf
+unfolding eachOf
 patterns-floats zero l = refl
 patterns-floats (suc m) l =
-    ap (λ (t : List Float). floatOf (take 8 l) ∷ t) (patterns-floats m (drop 8 l)) ∙ sym (floats-front m l)
+    ap (λ (t : List Float). floatOf (take 8 l) ∷ t) (patterns-floats m (drop 8 l)) ∙ sym (each-front floatOf m l)

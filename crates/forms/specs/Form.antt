@@ -2,7 +2,7 @@
 -- says which values have bytes. Forms are put together from smaller ones.
 use mathlib.Core.Path.{_≡_}
 use mathlib.Core.List.{List, [], _∷_, _++_}
-use mathlib.Core.Bool.{Bool, true, false, cond}
+use mathlib.Core.Bool.{Bool, true, cond}
 use Prim.Native.Nat.{ℕ, zero, suc, _/_, _%_, _^_, _<_}
 use lib.Dec.{ltb}
 use lib.ListN.{length, take, drop}
@@ -59,6 +59,14 @@ readAll F (suc n) l = after (F .read l) (λ a r. after (readAll F n r) (λ vs s.
 
 abbrev pub many : {A : Type 0} → Form A → ℕ → Form (List A)
 many F n = record { Good = allGood F n; write = writeAll F; read = readAll F n }
+
+-- only the values that pass a test
+abbrev pub suchThat : {A : Type 0} → Form A → (A → Bool) → Form A
+suchThat F test = record {
+  Good = λ a. F .Good a × (test a ≡ true);
+  write = F .write;
+  read = λ l. after (F .read l) (λ a r. cond (test a) (got a r) bad);
+}
 
 -- the same bytes for the values of another type, one for each
 abbrev pub through : {A B : Type 0} → (A → B) → (B → A) → Form A → Form B

@@ -1,12 +1,11 @@
 -- What `jobOf` gives at each place of the code.
 use mathlib.Core.Path.{_≡_, refl, sym, ap, _∙_, subst}
-use mathlib.Core.Bool.{Bool, true, false, cond}
-use mathlib.Core.List.{List, [], _∷_, _++_, map}
-use Prim.Native.Nat.{ℕ, zero, suc, _+_, _*_, _-_, _≤_, _<_}
+use mathlib.Core.Bool.{true, false}
+use mathlib.Core.List.{List, [], _∷_, _++_}
+use Prim.Native.Nat.{ℕ, suc, _+_, _*_, _-_, _≤_}
 use native.Mathlib.Omega.{arith}
 use native.Mathlib.Nat.{mul-le-mul}
-use borrow.Author.Tests.{ltb-true, ltb-false}
-use lib.Dec.{ltb}
+use borrow.Author.Tests.{ltb-false}
 use lib.ListN.{length, take, drop, length-drop, length-map}
 use lib.Seq.{take-all, length-take-le}
 use lib.Ieee.{Float}
@@ -19,9 +18,10 @@ use Rattle.forms.specs.Read.{Read, got, bad, after}
 use Rattle.forms.specs.Groups.{numberAt}
 use Rattle.forms.specs.declared.Found.the-variants.{Number, Nothing}
 use Rattle.forms.specs.Form.{bytes, readBytes, readAll, noRest, readWhole}
-use Rattle.forms.proofs.Exact.{Stepped, stepped, step, not-got, pair, read-bytes, many-count}
+use Rattle.forms.proofs.Exact.{Stepped, stepped, step, not-got, pair, many-count}
 use Rattle.forms.proofs.Places.{number-read, number-bad}
-use Rattle.forms.proofs.Numbers.{patterns, patterns-count, patterns-read, patterns-short, patterns-floats, floats-front}
+use Rattle.forms.proofs.Words.{Words, one-word, many-words, then-words, words-whole, words-bad}
+use Rattle.forms.proofs.Numbers.{patterns, patterns-count, patterns-floats, each-front}
 use Rattle.job.specs.declared.Counts.{Counts}
 use Rattle.job.specs.Job.{Job, countsForm, Numbers, numbersForm, jobWith, aboveLimits, numbered, counted, jobOf}
 use Rattle.job.specs.Reading.{numberOf, cellsOf, cellsAfter}
@@ -40,48 +40,20 @@ few-points c e =
     let w = within-limits c e in
     let h : c .d * c .n ≤ 2 * 100 = mul-le-mul (w .0) (w .1) in h
 
-empty : (l : List ℕ) → length l ≡ 0 → l ≡ []
-empty [] e = refl
-empty (x ∷ l) e = absurd (omega arith)
-
-left-over : {A : Type 0} (a : A) (r : List ℕ) → 0 < length r → noRest a r ≡ bad
-left-over a [] h = absurd (omega arith)
-left-over a (x ∷ r) h = refl
-
 module _ (c : Counts) (l : List ℕ) where
   abbrev pub numbersIn : Numbers
   numbersIn = record { first = lowFirst (take 8 l); second = patterns (c .d * c .n) (drop 8 l) }
 
+  abbrev numbers : Words (1 + c .d * c .n) (numbersForm c) _
+  numbers = then-words one-word (many-words (c .d * c .n))
+
   -- as many bytes as the numbers have
   pub numbers-whole : length l ≡ 8 * (1 + c .d * c .n) → readWhole (numbersForm c) l ≡ got numbersIn []
-  numbers-whole e =
-      let m = c .d * c .n in
-      let f : length (drop (8 * m) (drop 8 l)) ≡ 0 = rw (length-drop (8 * m) (drop 8 l), length-drop 8 l) (omega arith) in
-      rw (read-bytes 8 l (omega arith), patterns-read m (drop 8 l) (rw (length-drop 8 l) (omega arith)), empty (drop (8 * m) (drop 8 l)) f)
+  numbers-whole e = words-whole numbers l e
 
   -- fewer or more
   pub numbers-bad : (length l ≡ 8 * (1 + c .d * c .n) → ⊥) → readWhole (numbersForm c) l ≡ bad
-  unfolding readBytes
-  numbers-bad ne = short (ltb (length l) 8) refl
-    where
-      over : 8 + 8 * (c .d * c .n) ≤ length l → readWhole (numbersForm c) l ≡ bad
-      over h =
-          let m = c .d * c .n in
-          rw (read-bytes 8 l (omega arith), patterns-read m (drop 8 l) (rw (length-drop 8 l) (omega arith)))
-          (left-over _ (drop (8 * m) (drop 8 l)) (rw (length-drop (8 * m) (drop 8 l), length-drop 8 l) (omega (arith, ne))))
-
-      fewer : (b : Bool) → ltb (length l) (8 + 8 * (c .d * c .n)) ≡ b → 8 ≤ length l → readWhole (numbersForm c) l ≡ bad
-      fewer true e h =
-          rw (
-            read-bytes 8 l h,
-            patterns-short (c .d * c .n) (drop 8 l)
-                (rw (length-drop 8 l) (omega (arith, ltb-true (length l) (8 + 8 * (c .d * c .n)) e))),
-          )
-      fewer false e h = over (ltb-false (length l) (8 + 8 * (c .d * c .n)) e)
-
-      short : (b : Bool) → ltb (length l) 8 ≡ b → readWhole (numbersForm c) l ≡ bad
-      short true e = rw e
-      short false e = fewer (ltb (length l) (8 + 8 * (c .d * c .n))) refl (ltb-false (length l) 8 e)
+  numbers-bad ne = words-bad numbers l ne
 
 module _ (l : List ℕ) where
   pub job-unread : countsForm .read l ≡ bad → jobOf l ≡ refused 25
@@ -106,7 +78,7 @@ module _ (l : List ℕ) where
 pub cells-are : (c : Counts) (l : List ℕ) → cellsOf (jobWith c (numbersIn c l)) ≡ floatsOf (1 + c .d * c .n) l
 cells-are c l =
     let e : 1 + c .d * c .n ≡ suc (c .d * c .n) = omega arith in
-    rw (e, floats-front (c .d * c .n) l) (ap (λ (t : List Float). floatOf (take 8 l) ∷ t) (patterns-floats (c .d * c .n) (drop 8 l)))
+    rw (e, each-front floatOf (c .d * c .n) l) (ap (λ (t : List Float). floatOf (take 8 l) ∷ t) (patterns-floats (c .d * c .n) (drop 8 l)))
 
 -- ---- the four counts, as the code reads them
 module _ (l : List ℕ) where

@@ -5,3 +5,4 @@ mod UsedCells
 -- Slices of the lengths told are never too short.
 pub mod EnoughRoom
 mod GivenFigure
+mod Told

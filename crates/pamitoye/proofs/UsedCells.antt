@@ -9,7 +9,7 @@ use lib.Dec.{eqb, ltb}
 use lib.ListN.{length, take, drop}
 use lib.Seq.{take-at}
 use lib.Ieee.{Float}
-use Rattle.window.specs.Cells.{Doubles}
+use Rattle.window.specs.Cells.{Doubles, onto}
 use Rattle.arith.proofs.Truth.{and-parts}
 use Rattle.curve.specs.Form.{Slices, slices, setFormed, othersFormed, wellFormed}
 use Rattle.curve.proofs.Formed.{set-parts, formed}
@@ -21,7 +21,6 @@ use Rattle.smoothing.specs.Build.{Result, curveOf, slicesOf, answerOf, buildOf,
 use Rattle.smoothing.proofs.Accepted.{refused-done, not-refused}
 use Rattle.smoothing.proofs.Refusals.{build-in-refused}
 use Rattle.smoothing.proofs.WellFormed.{accepted-well-formed}
-use Rattle.work_slice.specs.Rows.{onto}
 use Rattle.building.specs.Outcome.{reported, Results, resultsAfter, curveAfter}
 use Rattle.pamitoye.specs.Choices.{chosenMode}
 use Rattle.pamitoye.specs.Builds.{BuildOutputs, buildOutputsAfter, usedCells, FormedCurve}

@@ -5,3 +5,4 @@ pub mod Rooms
 pub mod Builds
 pub mod Queries
 pub mod Certificates
+pub mod LaneFiles

@@ -48,3 +48,13 @@ pub(crate) fn mode_of(clamp: bool) -> Mode
     }
     Mode::Error
 }
+
+// Whether it is the mode Clamp.
+pub(crate) fn is_clamp(mode: Mode) -> bool
+    ensures { λ r. ⌜ chosenMode r ≡ mode ⌝ }
+{
+    match mode {
+        Mode::Error => false,
+        Mode::Clamp => true,
+    }
+}

@@ -5,7 +5,7 @@ use mathlib.Core.List.{List}
 use Prim.Native.Nat.{ℕ, _+_, _*_}
 use lib.ListN.{length, getD}
 use lib.Ieee.{Float}
-use Rattle.window.specs.Cells.{at}
+use Rattle.window.specs.Cells.{at, onto}
 use Rattle.window.proofs.Joined.{table-ap}
 use Rattle.bspline.specs.Segments.{Polynomial}
 use Rattle.curve.specs.Form.{withWidths}
@@ -17,7 +17,6 @@ use Rattle.smoothing.specs.Rows.{gathered, smoothedRows}
 use Rattle.smoothing.specs.Build as building
 use Rattle.smoothing.specs.Build.{Result}
 use Rattle.smoothing.proofs.UnsmoothedRows.{withPoints, unsmoothed-rows}
-use Rattle.work_slice.specs.Rows.{onto}
 use Rattle.building.specs.declared.Report.{Report}
 use Rattle.building.specs.Outcome.{outcomeOf, reportOf, Results, resultsAfter}
 use Rattle.two_calls.specs.Building.{BuildCall, Gave, SelectedRowsSame, SelectedAgree}

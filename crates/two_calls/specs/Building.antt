@@ -7,7 +7,7 @@ use mathlib.Core.List.{List}
 use Prim.Native.Nat.{ℕ, _+_, _*_, _≤_, _<_}
 use lib.ListN.{getD}
 use lib.Ieee.{Float}
-use Rattle.window.specs.Cells.{at}
+use Rattle.window.specs.Cells.{at, onto}
 use Rattle.request.specs.declared.parameters.Spacing.the-variants.{Listed, Chord}
 use Rattle.curve.specs.declared.Curve.{Curve}
 use Rattle.curve.specs.declared.Mode.{Mode}
@@ -16,7 +16,6 @@ use Rattle.smoothing.specs.Answer.Answer.{done}
 use Rattle.smoothing.specs.Request.{Lane, Limits, smoothedAxes, axisCount}
 use Rattle.smoothing.specs.Checks.{shortRoom}
 use Rattle.smoothing.specs.Build.{Result, curveOf}
-use Rattle.work_slice.specs.Rows.{onto}
 use Rattle.building.specs.declared.Report.{Report}
 use Rattle.building.specs.declared.Answer.{Answer}
 use Rattle.building.specs.Outcome.{outcomeOf, reported, reportOf, Results, lengthsOf, curveAfter, workAfter, resultsAfter}

@@ -1,6 +1,6 @@
--- The laws of `join` and `table`: their lengths and their elements.
+-- The laws of `join`, `table` and `map`: their lengths and their elements.
 use mathlib.Core.Path.{_≡_, refl, ap, _∙_}
-use mathlib.Core.List.{List, [], _∷_}
+use mathlib.Core.List.{List, [], _∷_, map}
 use Prim.Native.Nat.{ℕ, zero, suc, _+_, _*_, _/_, _%_, _≤_, _<_}
 use native.Mathlib.Omega.{arith}
 use native.Mathlib.Nat.{suc-mul, div-add-mod', mod-lt, div-lt-iff-lt-mul, zero-lt-suc}
@@ -70,6 +70,12 @@ module _ {A : Type 0} where
   unfolding table
   table-ap n d f g h = join-ap n (λ i. listOf d (f i)) (λ i. listOf d (g i)) (λ i l. join-ap d (λ j. f i j ∷ []) (λ j. g i j ∷ [])
       (λ j m. ap (λ (a : A). a ∷ []) (h i j l m)))
+
+-- an element of a list whose elements were all replaced
+pub map-at : {A B : Type 0} (f : A → B) (l : List A) (i : ℕ) (d : A) (e : B) → i < length l → getD (map f l) i e ≡ f (getD l i d)
+map-at f [] i d e h = absurd (omega arith)
+map-at f (x ∷ l) zero d e h = refl
+map-at f (x ∷ l) (suc i) d e h = map-at f l i d e (omega arith)
 
 -- what holds of every place by row and column holds of every place
 pub by-row : (P : ℕ → Type 0) (n d : ℕ) → ((i j : ℕ) → i < n → j < d → P (i * d + j)) → (p : ℕ) → p < n * d → P p

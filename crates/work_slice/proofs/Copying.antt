@@ -12,7 +12,7 @@ use Rattle.window.specs.Rows.{listOf, written}
 use Rattle.window.proofs.Windows.{length-window}
 use Rattle.window.proofs.Written.{written-plain, written-next}
 use Rattle.curve.specs.Form.{widthOf, withWidths}
-use Rattle.work_slice.specs.Rows.{onto}
+use Rattle.window.specs.Cells.{onto}
 
 pub copied-onto : (v l : List Float) → length v ≤ length l → copied v l ≡ onto v l
 copied-onto v l h =

@@ -1,9 +1,9 @@
 -- What the work slice is given, and what is taken from it.
 use Prim.Native.Nat.{ℕ}
 use mathlib.Core.Bool.{cond}
-use mathlib.Core.List.{List, [], _++_}
+use mathlib.Core.List.{List, []}
 use lib.Dec.{eqb}
-use lib.ListN.{length, drop, take}
+use lib.ListN.{take}
 use lib.Ieee.{Float}
 use Rattle.window.specs.Rows.{listOf}
 use Rattle.bspline.specs.Segments.{Polynomial}
@@ -41,7 +41,3 @@ otherWith n j s rows =
 -- with the rows of the first j of `axes`
 abbrev pub otherFrom : ℕ → ℕ → List Float → List Float → ℕ → List ℕ → Answer (Polynomial Float)
 otherFrom n j parameters points d axes = otherWith n j (sOf parameters n) (gathered points d n (take j axes))
-
--- l with v in its first cells, its "used cells"; the others are unchanged
-abbrev pub onto : List Float → List Float → List Float
-onto v l = v ++ drop (length v) l

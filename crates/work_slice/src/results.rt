@@ -5,7 +5,8 @@ ghost use lib.ListN.{length, take};
 ghost use Rattle.window.specs.Window.{window};
 ghost use Rattle.refinement.specs.Memory.{Roomy, memoryAt};
 ghost use Rattle.curve.specs.Form.{withWidths};
-ghost use Rattle.work_slice.specs.Rows.{onto, otherIn};
+ghost use Rattle.window.specs.Cells.{onto};
+ghost use Rattle.work_slice.specs.Rows.{otherIn};
 use curve::widths;
 use refinement::plan::Plan;
 

@@ -7,8 +7,8 @@ use borrow.Author.Needs.{needs}
 use lib.ListN.{length, drop, length-set, length-take}
 use lib.Seq.{drop-length}
 use Rattle.window.proofs.Filling.{write-more}
-use Rattle.encoding.specs.Bytes.{floatsOf}
-use Rattle.encoding.proofs.Laws.{length-floats, floats-more}
+use Rattle.encoding.specs.Bytes.{floatOf, eachOf, floatsOf}
+use Rattle.encoding.proofs.Laws.{length-each, each-more}
 use Rattle.encoding.proofs.floats.Statement.{statement}
 use Rattle.encoding.proofs.floats.Tie as tie
 
@@ -19,7 +19,7 @@ abbrev μ-loop : tie.MeasureT-loop
 μ-loop bytes cells₀ i₀ cells i = length cells₀ - i
 
 loop-holds : tie.Need-loop-holds Inv-loop μ-loop
-unfolding floatsOf
+unfolding eachOf
 loop-holds c = search needs
 
 float-requires : tie.Need-float-requires Inv-loop μ-loop
@@ -31,8 +31,8 @@ loop-again c =
     let a = c .before .before .before .before .before .before .args in (
       omega arith,
       (
-        rw (l .inv .1 .0, floats-more (l .i) (a .bytes .now), c .float .ensures) (write-more (floatsOf (l .i) (a .bytes .now))
-            (a .cells .now) (l .i) _ (length-floats _ _) (omega arith)),
+        rw (l .inv .1 .0, each-more floatOf (l .i) (a .bytes .now), c .float .ensures) (write-more (floatsOf (l .i) (a .bytes .now))
+            (a .cells .now) (l .i) _ (length-each floatOf _ _) (omega arith)),
         simp length-set (omega arith),
       ),
     )

@@ -11,7 +11,7 @@ use Rattle.window.proofs.Windows.{length-window}
 use Rattle.bspline.specs.Segments.{Polynomial}
 use Rattle.curve.specs.Form.{withWidths}
 use Rattle.refinement.specs.Memory.{cellsOf}
-use Rattle.work_slice.specs.Rows.{onto}
+use Rattle.window.specs.Cells.{onto}
 use Rattle.building.specs.Outcome.{results}
 use Rattle.work_slice.specs.Rows.{otherIn}
 use Rattle.building.specs.Computed.{otherAt}

@@ -7,8 +7,9 @@ use borrow.Author.Needs.{needs}
 use lib.ListN.{length, take, set}
 use lib.Seq.{take-length}
 use Rattle.window.specs.Rows.{join}
-use Rattle.checks.specs.Request.{axesIn, padded}
-use Rattle.checks.proofs.Padded.{padded-length, padded-more}
+use Rattle.checks.specs.Request.{axesIn}
+use Rattle.curve.specs.Places.{padded}
+use Rattle.curve.proofs.Padded.{padded-length, padded-more}
 use Rattle.checks.proofs.Selected.{count-within, listed-count}
 use Rattle.checks.proofs.choices.chosen.Statement.{statement}
 use Rattle.checks.proofs.choices.chosen.Tie as tie

@@ -8,8 +8,8 @@ use borrow.Author.Needs.{needs}
 use lib.ListN.{length, take, length-append}
 use Rattle.window.specs.Rows.{join}
 use Rattle.smoothing.specs.Rows.{leftOver}
-use Rattle.checks.specs.Request.{padded}
-use Rattle.checks.proofs.Padded.{padded-length, padded-next}
+use Rattle.curve.specs.Places.{padded}
+use Rattle.curve.proofs.Padded.{padded-length, padded-next}
 use Rattle.checks.proofs.Selected.{left-listed, left-other}
 use Rattle.checks.proofs.choices.left_over.Statement.{statement}
 use Rattle.checks.proofs.choices.left_over.Tie as tie

@@ -5,8 +5,9 @@ use native.Mathlib.Omega.{arith}
 use borrow.Author.Needs.{needs}
 use lib.ListN.{length}
 use Rattle.smoothing.specs.Checks.{badAxes}
-use Rattle.checks.specs.Request.{axesIn, padded}
-use Rattle.checks.proofs.Padded.{padded-at}
+use Rattle.checks.specs.Request.{axesIn}
+use Rattle.curve.specs.Places.{padded}
+use Rattle.curve.proofs.Padded.{padded-at}
 use Rattle.checks.proofs.Selected.{listed-count, formed-same, too-many}
 use Rattle.checks.proofs.refusals.bad_axes.Statement.{statement}
 use Rattle.checks.proofs.refusals.bad_axes.Tie as tie

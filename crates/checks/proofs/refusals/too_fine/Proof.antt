@@ -13,7 +13,7 @@ use Rattle.request.specs.Any.{any}
 use Rattle.request.proofs.Anys.{any-next, any-found}
 use Rattle.smoothing.specs.Checks.{mostOf, exceeds, anyExceeds}
 use Rattle.checks.specs.Request.{axesIn, tolerancesIn}
-use Rattle.checks.proofs.Padded.{padded-at}
+use Rattle.curve.proofs.Padded.{padded-at}
 use Rattle.checks.proofs.Selected.{listed-count, any-agree}
 use Rattle.checks.proofs.refusals.too_fine.Statement.{statement}
 use Rattle.checks.proofs.refusals.too_fine.Tie as tie
