@@ -1,6 +1,6 @@
 -- "Equal curves, bit by bit, give equal files, unequal ones unequal files, and a written file reads back to its curve, bit by bit."
 use mathlib.Core.Path.{_≡_, refl, sym, ap, _∙_}
-use mathlib.Core.Bool.{true}
+use mathlib.Core.Bool.{Bool, true, false, not, cond}
 use mathlib.Core.List.{List, [], _∷_, map}
 use Prim.Native.Nat.{ℕ, suc, _-_, _≤_}
 use native.Mathlib.Omega.{arith}
@@ -10,19 +10,19 @@ use lib.Seq.{length-take-le, getD-take}
 use lib.Ieee.{Float, binary64, fits}
 use lib.Ieee.Bits.{ofBits-toBits}
 use Rattle.window.specs.Cells.{at}
-use Rattle.forms.specs.Read.{Read, got, Bytes}
+use Rattle.forms.specs.Read.{Read, got, bad, Bytes}
 use Rattle.forms.specs.Form.{readWhole}
 use Rattle.forms.proofs.Exact.{whole-back, whole-only, injective}
 use Rattle.curve.specs.declared.Curve.{Curve}
 use Rattle.curve.specs.declared.Mode.{Mode}
 use Rattle.curve.specs.declared.Mode.the-variants.{Error, Clamp}
 use Rattle.curve.specs.Places.{padded}
-use Rattle.curve.specs.Form.{Slices, axesFormed, wellFormed}
+use Rattle.curve.specs.Form.{Slices, axesFormed, wellFormed, noCurve}
 use Rattle.curve.proofs.Formed.{formed, axes-same}
 use Rattle.curve.proofs.Padded.{padded-at, padded-front}
 use Rattle.lane_file.specs.File.{Contents, contents, fileForm}
 use Rattle.lane_file.specs.Curves.{Cells, cells, Storable, numberOf, patternOf, slicesOf, withoutWidths, widened, modeNumber, modeOf, headOf, patternsOf, fileOf, cleared, curveOf, cellsOf}
-use Rattle.lane_file.specs.Outcome.{readInto, readAs, ReadsBack}
+use Rattle.lane_file.specs.Outcome.{readOutcome, tooShort, ontoCells, readInto, readAs, readOf, ReadsBack}
 use Rattle.lane_file.proofs.Spelling.{file-exact}
 use Rattle.lane_file.proofs.Widths.{set-back, others-back}
 use Rattle.lane_file.proofs.FormedCurves.{formed-small, contents-good}
@@ -33,6 +33,41 @@ reads-only x l rest B e = whole-only fileForm file-exact x l rest B e
 
 pub spelling-reads : (x : Contents) → fileForm .Good x → readWhole fileForm (fileForm .write x) ≡ got x []
 spelling-reads x g = whole-back fileForm file-exact x g
+
+-- the bytes are the spelling of something
+pub record Spelled (l : List ℕ) : Type 0 where
+  pub contents : Contents
+  pub good : fileForm .Good contents
+  pub spelled : l ≡ fileForm .write contents
+
+-- a file that reads is refused with 24 or 19 alone
+into-number : (c : Curve) (s lent : Cells) → readInto c s lent .number ≡ 27 → ⊥
+unfolding readInto
+into-number c s lent = go (wellFormed c (slicesOf s)) (tooShort s lent)
+  where
+    go : (w t : Bool) → cond (not w) (readOutcome 24 (noCurve Error) lent) (cond t (readOutcome 19 (noCurve Error) lent)
+        (readOutcome 0 c (ontoCells s lent))) .number ≡ 27 → ⊥
+    go false t e = absurd (omega (arith, e))
+    go true false e = absurd (omega (arith, e))
+    go true true e = absurd (omega (arith, e))
+
+-- 27 exactly where they are not
+module _ (l : List ℕ) (lent : Cells) where
+  pub not-spelled : readOf l lent .number ≡ 27 → Spelled l → ⊥
+  unfolding readAs
+  not-spelled e x =
+      let r : readWhole fileForm l ≡ got (x .contents) [] = ap (readWhole fileForm) (x .spelled) ∙ spelling-reads (x .contents) (x .good) in
+      into-number (curveOf (x .contents)) (cellsOf (x .contents .patterns)) lent
+      (ap (λ (o : Read Contents). readAs o lent .number) (sym r) ∙ e)
+
+  pub spelled : Bytes l → (readOf l lent .number ≡ 27 → ⊥) → Spelled l
+  unfolding readAs
+  spelled B other = go (readWhole fileForm l) refl other
+    where
+      go : (o : Read Contents) → readWhole fileForm l ≡ o → (readAs o lent .number ≡ 27 → ⊥) → Spelled l
+      go bad e other = absurd (other refl)
+      go (got x rest) e other =
+          let s = reads-only x l rest B e in record { contents = x; good = s .1; spelled = s .0 }
 
 -- ---- a curve's numbers come back
 numbers-back : (l : List Float) → ((i : ℕ) → T (fits binary64 (at l i))) → map numberOf (map patternOf l) ≡ l

@@ -8,7 +8,7 @@ use Prim.Native.Nat.{ℕ, _-_, _^_, _<_}
 use lib.Dec.{T, eqb}
 use lib.ListN.{length, getD, take}
 use lib.Ieee.{Float, binary64, fits, ofBits, toBits}
-use Rattle.window.specs.Cells.{at}
+use Rattle.window.specs.Cells.{Doubles}
 use Rattle.window.specs.Rows.{listOf}
 use Rattle.curve.specs.declared.Curve.{Curve}
 use Rattle.curve.specs.declared.Mode.{Mode}
@@ -38,14 +38,14 @@ patternOf x = toBits binary64 x
 abbrev pub slicesOf : Cells → Slices
 slicesOf s = slices (s .breaks) (map numberOf (s .coefficients)) (s .otherBreaks) (map numberOf (s .otherCoefficients))
 
--- what cells can hold: f64s, patterns of 64 bits, sixteen axes
+-- what a curve in memory is: f64s, patterns of 64 bits, sixteen axes
 pub record Storable (c : Curve) (s : Cells) : Type 0 where
   pub axes : length (c .axes) ≡ 16
   pub start : T (fits binary64 (c .start))
   pub end : T (fits binary64 (c .end))
-  pub breaks : (i : ℕ) → T (fits binary64 (at (s .breaks) i))
+  pub breaks : Doubles (s .breaks)
   pub coefficients : (i : ℕ) → getD (s .coefficients) i 0 < 2 ^ 64
-  pub otherBreaks : (i : ℕ) → T (fits binary64 (at (s .otherBreaks) i))
+  pub otherBreaks : Doubles (s .otherBreaks)
   pub otherCoefficients : (i : ℕ) → getD (s .otherCoefficients) i 0 < 2 ^ 64
 
 -- "mode (0 Error, 1 Clamp)"
