@@ -59,7 +59,8 @@ module _ {A : Type 0} (value : List ℕ → A) where
   each-more i bytes = rw add-one
 
   -- value i
-  pub each-at : (n : ℕ) (bytes : List ℕ) (z : A) (i : ℕ) → i < n → getD (eachOf value n bytes) i z ≡ value (window (8 * i) (8 * i + 8) bytes)
+  pub each-at : (n : ℕ) (bytes : List ℕ) (z : A) (i : ℕ) → i < n
+      → getD (eachOf value n bytes) i z ≡ value (window (8 * i) (8 * i + 8) bytes)
   unfolding eachOf
   each-at zero bytes z i h = absurd (not-suc-le-zero h)
   each-at (suc n) bytes z i h =

@@ -12,7 +12,7 @@ use Rattle.forms.proofs.Putting.{groups-most}
 use Rattle.curve.specs.declared.Curve.{Curve}
 use Rattle.curve.specs.Form.{wellFormed}
 use Rattle.lane_file.specs.File.{headForm, patternsForm, Contents, fileForm}
-use Rattle.lane_file.specs.Curves.{Cells, Storable, numberOf, widthPatterns, slicesOf, headOf, fileOf, curveOf, cellsOf}
+use Rattle.lane_file.specs.Curves.{Cells, Storable, numberOf, widthPatterns, slicesOf, fileOf, curveOf, cellsOf}
 use Rattle.lane_file.specs.Outcome.{writeOf, tooShort, readInto, readAs, readOf}
 use Rattle.lane_file.proofs.FormedCurves.{formed-small, rows-lengths}
 use Rattle.lane_file.proofs.Parts.{head-length, file-length, patterns-length}

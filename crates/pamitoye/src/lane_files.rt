@@ -118,7 +118,8 @@ pub extern "C" fn pamitoye_read_lane(
         ≡ readTold (readOf (now (file .entry)) (cells (now (breaks .entry)) (now (coefficients .entry)) (now («other_breaks» .entry))
         (now («other_coefficients» .entry)))) (passedCurve (now (d .entry)) (now (k .entry)) (now (axes .entry)) (now (start .entry))
         (now (end .entry)) (now (clamp .entry)) (now (segments .entry)) (now («other_segments» .entry))) ⌝ }
-    ensures { λ r. ⌜ (r ≡ 0 → ReadPromised (now (file .entry)) (passedCurve (now (d .exit)) (now (k .exit)) (now (axes .exit)) (now (start .exit))
+    ensures { λ r. ⌜ (r ≡ 0 → ReadPromised (now (file .entry)) (passedCurve (now (d .exit)) (now (k .exit)) (now (axes .exit))
+        (now (start .exit))
         (now (end .exit)) (now (clamp .exit)) (now (segments .exit)) (now («other_segments» .exit))) (cells (now (breaks .exit))
         (now (coefficients .exit)) (now («other_breaks» .exit)) (now («other_coefficients» .exit)))) ⌝ }
 {

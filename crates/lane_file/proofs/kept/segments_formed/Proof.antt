@@ -48,7 +48,8 @@ loop-again c =
     let a = s .args in
     let e = asked (a .breaks .now) (a .cells .now) (a .from) (l .loop .i) (n .number .result)
     (omega (arith, s .pre .1, t .loop-test .taken)) (n .number .ensures) in
-    let k = counted-next (formedAt (a .breaks .now) (map numberOf (a .cells .now)) (a .from)) (l .loop .i) (l .loop .kept) (l .loop .inv .1) in
+    let k = counted-next (formedAt (a .breaks .now) (map numberOf (a .cells .now)) (a .from)) (l .loop .i) (l .loop .kept)
+    (l .loop .inv .1) in
     (omega arith, rw (c .one-if .ensures .0, w .is-width .ensures ∙ e) k)
 
 returns : tie.Need-returns Inv-loop μ-loop
