@@ -1,4 +1,5 @@
-//! A curve that the library built or drove back, and the calls of the library. Every `unsafe` block of the crate is here.
+//! A curve that the library built, drove back or read, and the calls of the library. Every `unsafe` block of the crate is
+//! here.
 
 use crate::config::{
     MAX_AXES, MAX_REFINEMENTS, OutOfRangeMode, SmoothingConfig, SmoothingReport,
@@ -6,14 +7,14 @@ use crate::config::{
 };
 use crate::error::PathError;
 use crate::ffi;
-use crate::workspace::Workspace;
+use crate::workspace::{Workspace, cells};
 
 /// The limit on segments that is tried first, or the count of waypoints where that is higher.
 const FIRST_SEGMENTS: usize = 1024;
 
-/// The curve of an accepted request, or such a curve driven back. Its fields are private to this module, `build` and
-/// `reversed` alone make one, and nothing changes one: so it is what the library's `build` and its return lane promise, a
-/// well-formed curve.
+/// The curve of an accepted request or of a lane file, or such a curve driven back. Its fields are private to this module,
+/// `build`, `from_lane_file` and `reversed` alone make one, and nothing changes one: so it is what the library's `build`,
+/// `read_lane` and `return_lane` promise, a well-formed curve.
 #[derive(Clone, Debug)]
 pub(crate) struct Curve {
     d: usize,
@@ -36,9 +37,16 @@ struct Set {
     coefficients: Vec<f64>,
 }
 
-/// A call of a library's function whose first arguments are the curve's numbers and slices.
+/// A call of a library's function whose first arguments are the curve's numbers and slices. Its coefficients are cells of
+/// f64 or, where the function's name is followed by `by_bits`, the same memory as cells of u64.
 macro_rules! of_curve {
-    ($function:ident, $curve:expr, $($rest:expr),* $(,)?) => {
+    ($function:ident, $($rest:expr),* $(,)?) => {
+        of_curve!($function as f64, $($rest),*)
+    };
+    ($function:ident by_bits, $($rest:expr),* $(,)?) => {
+        of_curve!($function as u64, $($rest),*)
+    };
+    ($function:ident as $cell:ty, $curve:expr, $($rest:expr),*) => {
         ffi::$function(
             $curve.d,
             $curve.k,
@@ -50,11 +58,11 @@ macro_rules! of_curve {
             $curve.other.segments(),
             $curve.smoothed.breaks.as_ptr(),
             $curve.smoothed.breaks.len(),
-            $curve.smoothed.coefficients.as_ptr(),
+            $curve.smoothed.coefficients.as_ptr().cast::<$cell>(),
             $curve.smoothed.coefficients.len(),
             $curve.other.breaks.as_ptr(),
             $curve.other.breaks.len(),
-            $curve.other.coefficients.as_ptr(),
+            $curve.other.coefficients.as_ptr().cast::<$cell>(),
             $curve.other.coefficients.len(),
             $($rest),*
         )
@@ -321,6 +329,118 @@ impl Curve {
         }
     }
 
+    /// The curve's lane file.
+    pub(crate) fn to_lane_file(&self) -> Result<Vec<u8>, PathError> {
+        let sets = [&self.smoothed, &self.other].into_iter();
+        let slices = sets.flat_map(|set| [set.breaks.len(), set.coefficients.len()]);
+        let room = slices.fold(41, |room: usize, len| {
+            room.saturating_add(len.saturating_mul(8))
+        });
+        let mut file = cells(room)?;
+        match self.write_lane(&mut file) {
+            (0, count) => {
+                file.truncate(count);
+                file.shrink_to_fit();
+                Ok(file)
+            }
+            (number, _) => Err(PathError::of_request(number, f64::NAN)),
+        }
+    }
+
+    /// The library's `write_lane` into the first bytes of this slice: the answer's number, and how many bytes.
+    fn write_lane(&self, file: &mut [u8]) -> (u64, usize) {
+        let mut count = 0;
+        // SAFETY: the function has no precondition: it refuses what it cannot take. Each pointer with its count is a slice
+        // that is borrowed for the call, the one that is written alone, and the count is a cell of the type that the
+        // function names. f64 and u64 have one size and one alignment, and all bits of an f64 are a u64.
+        let number = unsafe {
+            of_curve!(
+                pamitoye_write_lane by_bits,
+                self,
+                file.as_mut_ptr(),
+                file.len(),
+                &mut count,
+            )
+        };
+        (number, count)
+    }
+
+    /// The curve of a lane file. It is asked for without any cell first, and memory is taken only where that is what is
+    /// missing (19): 27 and 24 come before it.
+    pub(crate) fn from_lane_file(file: &[u8]) -> Result<Self, PathError> {
+        match Self::read_lane(file, Default::default()) {
+            Err(PathError::ShortSlice) => {}
+            answer => return answer,
+        }
+        // A segment has one break and at least six coefficients in the file, and one width behind them in memory, and each
+        // set has one break more: so a set has no more than this.
+        let numbers = file.len() / 8;
+        let ends = (numbers / 7).saturating_add(1);
+        let (mut breaks, mut coefficients) = (cells(ends)?, cells(numbers)?);
+        let (mut other_breaks, mut other_coefficients) = (cells(ends)?, cells(numbers)?);
+        let lent = [
+            &mut breaks[..],
+            &mut coefficients,
+            &mut other_breaks,
+            &mut other_coefficients,
+        ];
+        Self::read_lane(file, lent)
+    }
+
+    /// The library's `read_lane` into these slices, of which the used cells are kept.
+    fn read_lane(file: &[u8], lent: [&mut [f64]; 4]) -> Result<Self, PathError> {
+        let [breaks, coefficients, other_breaks, other_coefficients] = lent;
+        let (mut d, mut k, mut axes) = (0, 0, [0; MAX_AXES]);
+        let (mut start, mut end, mut clamp) = (f64::NAN, f64::NAN, false);
+        let (mut segments, mut others) = (0, 0);
+        // SAFETY: the function has no precondition: it refuses what it cannot take. Each pointer with its count is a slice
+        // that is borrowed for the call, those to be written are borrowed alone, and the single cells are those of the types
+        // that the function names. f64 and u64 have one size and one alignment, and all bits of a u64 are an f64.
+        let number = unsafe {
+            ffi::pamitoye_read_lane(
+                file.as_ptr(),
+                file.len(),
+                &mut d,
+                &mut k,
+                &mut axes,
+                &mut start,
+                &mut end,
+                &mut clamp,
+                &mut segments,
+                &mut others,
+                breaks.as_mut_ptr(),
+                breaks.len(),
+                coefficients.as_mut_ptr().cast::<u64>(),
+                coefficients.len(),
+                other_breaks.as_mut_ptr(),
+                other_breaks.len(),
+                other_coefficients.as_mut_ptr().cast::<u64>(),
+                other_coefficients.len(),
+            )
+        };
+        if number != 0 {
+            return Err(PathError::of_request(number, f64::NAN));
+        }
+        let mode = match clamp {
+            true => OutOfRangeMode::Clamp,
+            false => OutOfRangeMode::Error,
+        };
+        // What `read_lane` promises lets neither fail.
+        let kept = || {
+            Some(Self {
+                d,
+                k,
+                axes,
+                start,
+                end,
+                mode,
+                smoothed: Set::used(breaks, coefficients, segments, k)?,
+                other: Set::used(other_breaks, other_coefficients, others, d.checked_sub(k)?)?,
+            })
+        };
+        kept().ok_or(PathError::Malformed)
+    }
+
     fn outside(&self, index: usize, value: f64) -> PathError {
         PathError::OutOfRangeS {
             s_min: self.start,
@@ -503,5 +623,70 @@ mod tests {
         }
         assert_eq!(close.reversed().err(), Some(PathError::NotRising));
         assert_eq!(width.reversed().err(), Some(PathError::Malformed));
+    }
+
+    /// How many bytes the lane file of two segments has: six whole numbers, then two, three and twelve of eight bytes.
+    const TWO_SEGMENTS: usize = 6 + 8 * (2 + 3 + 12);
+
+    /// Writing tests 24, then 19, and neither writes. Bytes behind the file are unchanged.
+    #[test]
+    fn numbers_of_a_written_file() {
+        let formed = two_segments(0.25, [0.25, 0.75]);
+        let width = two_segments(0.25, [0.25, 0.75f64.next_up()]);
+        for (curve, room, wanted) in [
+            (&width, 0, 24),
+            (&width, TWO_SEGMENTS, 24),
+            (&formed, 0, 19),
+            (&formed, TWO_SEGMENTS - 1, 19),
+            (&formed, TWO_SEGMENTS, 0),
+            (&formed, TWO_SEGMENTS + 9, 0),
+        ] {
+            let mut file = vec![0xa5; room];
+            let (number, count) = curve.write_lane(&mut file);
+            assert_eq!(number, wanted);
+            assert_eq!(count, if wanted == 0 { TWO_SEGMENTS } else { 0 });
+            assert!(file.iter().skip(count).all(|byte| *byte == 0xa5));
+            if wanted == 0 {
+                assert!(file.starts_with(&[1, 1, 0, 1, 2, 0]));
+                assert_eq!(curve.to_lane_file().ok().as_deref(), file.get(..count));
+            }
+        }
+        assert_eq!(width.to_lane_file().err(), Some(PathError::Malformed));
+    }
+
+    /// Reading tests 27, then 24, then 19, and none of them writes. Cells behind the used ones are unchanged.
+    #[test]
+    fn numbers_of_a_read_file() {
+        let formed = two_segments(0.25, [0.25, 0.75]);
+        let file = formed.to_lane_file().unwrap_or_default();
+        let cut = file.split_last().map_or(&[][..], |parts| parts.1);
+        // The number of segments is the fifth byte: with none of them the file has no breaks, which is 24.
+        let none = [[1, 1, 0, 1, 0, 0].as_slice(), &[0; 16]].concat();
+        let (file, none) = (file.as_slice(), none.as_slice());
+        for (file, breaks, coefficients, wanted) in [
+            (cut, 2, 13, 27),
+            (cut, 3, 14, 27),
+            (none, 0, 0, 24),
+            (none, 3, 14, 24),
+            (file, 2, 14, 19),
+            (file, 3, 13, 19),
+            (file, 3, 14, 0),
+            (file, 5, 20, 0),
+        ] {
+            let (mut a, mut b) = (vec![-7.; breaks], vec![-7.; coefficients]);
+            let (mut c, mut d) = ([-7.; 2], [-7.; 2]);
+            let read = Curve::read_lane(file, [&mut a, &mut b, &mut c, &mut d]);
+            assert_eq!(read.as_ref().err().map_or(0, PathError::number), wanted);
+            let used = if wanted == 0 { (3, 14) } else { (0, 0) };
+            let behind = a.iter().skip(used.0).chain(b.iter().skip(used.1));
+            assert!(behind.chain(&c).chain(&d).all(|x| *x == -7.));
+            if let Ok(read) = read {
+                assert_eq!(read.smoothed.breaks, formed.smoothed.breaks);
+                assert_eq!(read.smoothed.coefficients, formed.smoothed.coefficients);
+                assert_eq!((read.d, read.k, read.axes), (1, 1, [0; MAX_AXES]));
+                assert_eq!((read.range(), read.mode), ((0., 1.), formed.mode));
+                assert!(read.other.breaks.is_empty() && read.other.coefficients.is_empty());
+            }
+        }
     }
 }

@@ -3,7 +3,7 @@
 use crate::ffi;
 use std::fmt;
 
-/// Why a request or a query was turned away. Each case has the number that the library gives it, see
+/// Why a request, a query or a lane file was turned away. Each case has the number that the library gives it, see
 /// [`number`](PathError::number).
 ///
 /// copp has one case for every failed construction, with a text. Here each reason is a case of its own;
@@ -78,8 +78,12 @@ pub enum PathError {
     OrderAboveThree,
     /// 23, when certifying: the depth is above 6.
     DepthAboveSix,
-    /// 24: the curve is not well formed. An accepted request's curve always is, and so is that curve driven back.
+    /// 24: the curve is not well formed. A path's curve always is: this is met where a lane file is read that is whole, but
+    /// whose counts, axes, breaks or range are not those of a curve. The library writes no such file; one written anew helps.
     Malformed,
+    /// 27, when a lane file is read: the bytes are none. They are cut off, too long, damaged, or something else; the file
+    /// copied again helps, or written anew.
+    DoesNotRead,
     /// 29, when a path is reversed: its breaks do not rise strictly once each is taken from 1, since two of them in the
     /// first half are no further apart than 2^-53 of the range. Parameters that are further apart there help, or one
     /// waypoint of the two left out.
@@ -116,6 +120,7 @@ impl PathError {
             Self::OutOfRangeS { .. } => 22,
             Self::OrderAboveThree | Self::DepthAboveSix => 23,
             Self::Malformed => 24,
+            Self::DoesNotRead => 27,
             Self::NotRising => 29,
             Self::Unknown(number) => number,
         }
@@ -155,6 +160,7 @@ impl PathError {
             20 => Self::PointCells,
             24 => Self::Malformed,
             26 => Self::ToleranceTooFine,
+            27 => Self::DoesNotRead,
             29 => Self::NotRising,
             other => Self::Unknown(other),
         }
@@ -238,7 +244,12 @@ impl fmt::Display for PathError {
             }
             Self::DepthAboveSix => "the depth of a certificate is 6 at most",
             Self::OrderAboveThree => "only a value and three derivatives can be asked for",
-            Self::Malformed => "the curve is not well formed",
+            Self::Malformed => {
+                "the curve is not well formed: its counts, axes, breaks or range can't be those of a lane"
+            }
+            Self::DoesNotRead => {
+                "the bytes are no lane file: they are cut off, too long, damaged, or something else"
+            }
             Self::NotRising => "two breaks are too close together to be told apart on the way back",
             Self::Unknown(number) => {
                 return write!(f, "the library refused with the unknown number {number}");
@@ -256,9 +267,13 @@ mod tests {
 
     #[test]
     fn a_number_names_its_case() {
-        for number in (1..=20).chain([24, 26, 29, 77]) {
+        for number in (1..=20).chain([24, 26, 27, 29, 77]) {
             assert_eq!(PathError::of_request(number, 2.5).number(), number);
             assert_eq!(PathError::of_certificate(number).number(), number);
+            assert_eq!(
+                matches!(PathError::of_request(number, 2.5), PathError::Unknown(_)),
+                number == 77
+            );
         }
         let helped = (0..100).filter(|n| PathError::of_request(*n, 2.5).higher_limit_may_help());
         assert_eq!(helped.collect::<Vec<_>>(), [8, 14, 15]);
@@ -267,13 +282,14 @@ mod tests {
         assert_eq!(PathError::of_certificate(3), PathError::NotSelected);
         assert_eq!(PathError::of_certificate(23), PathError::DepthAboveSix);
         assert!(used_up.to_string().ends_with("2.5"));
+        assert_eq!(PathError::of_request(27, 2.5), PathError::DoesNotRead);
         assert_eq!(PathError::of_request(29, 2.5), PathError::NotRising);
     }
 
     /// 5 has words of its own where the parameters are by chord length, and no other number has.
     #[test]
     fn chords_have_their_words() {
-        for number in (1..=20).chain([24, 26, 29, 77]) {
+        for number in (1..=20).chain([24, 26, 27, 29, 77]) {
             let error = PathError::of_request(number, 2.5);
             for spacing in [ffi::LISTED, ffi::EVEN] {
                 assert_eq!(error.of_spacing(spacing), error);

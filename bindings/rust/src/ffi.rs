@@ -171,6 +171,49 @@ unsafe extern "C" {
         lent_other_coefficients_len: usize,
     ) -> u64;
 
+    pub(crate) fn pamitoye_write_lane(
+        d: usize,
+        k: usize,
+        axes: *const [usize; 16],
+        start: f64,
+        end: f64,
+        clamp: bool,
+        segments: usize,
+        other_segments: usize,
+        breaks: *const f64,
+        breaks_len: usize,
+        coefficients: *const u64,
+        coefficients_len: usize,
+        other_breaks: *const f64,
+        other_breaks_len: usize,
+        other_coefficients: *const u64,
+        other_coefficients_len: usize,
+        file: *mut u8,
+        file_len: usize,
+        count: *mut usize,
+    ) -> u64;
+
+    pub(crate) fn pamitoye_read_lane(
+        file: *const u8,
+        file_len: usize,
+        d: *mut usize,
+        k: *mut usize,
+        axes: *mut [usize; 16],
+        start: *mut f64,
+        end: *mut f64,
+        clamp: *mut bool,
+        segments: *mut usize,
+        other_segments: *mut usize,
+        breaks: *mut f64,
+        breaks_len: usize,
+        coefficients: *mut u64,
+        coefficients_len: usize,
+        other_breaks: *mut f64,
+        other_breaks_len: usize,
+        other_coefficients: *mut u64,
+        other_coefficients_len: usize,
+    ) -> u64;
+
     pub(crate) fn pamitoye_cutting_order(
         lanes: usize,
         pairs: *const [usize; 2],

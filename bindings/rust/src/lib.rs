@@ -31,14 +31,15 @@
 //! - Sizes above [`MAX_AXES`], [`MAX_WAYPOINTS`], [`MAX_SEGMENTS`] and [`MAX_REFINEMENTS`] are refused.
 //! - New: [`Path::certify`], [`Path::evaluate_into`] and [`Path::evaluate_at`], the breaks, the coefficients and the
 //!   widths, [`Workspace`]; [`Spacing::Chord`], parameters by chord length, with [`chord_parameters`];
-//!   [`Path::reversed`], the lane driven back, with [`reversed_waypoints`]; and [`cutting_order`], which lane is cut
-//!   first.
+//!   [`Path::reversed`], the lane driven back, with [`reversed_waypoints`]; [`Path::to_lane_file`] and
+//!   [`Path::from_lane_file`], the curve as bytes; and [`cutting_order`], which lane is cut first.
 //!
 //! # What is relied on
 //!
-//! No function panics, on any input. A [`Path`] is made by an accepted build or by [`Path::reversed`] alone and never
-//! changes, so queries need not test its curve again. The proofs cover the library; this crate, which lends it memory,
-//! is not proved. Its `unsafe` blocks stand in one module, each with its reason.
+//! No function panics, on any input. A [`Path`] is made by an accepted build, by [`Path::from_lane_file`], which tests what
+//! it reads, or by [`Path::reversed`] alone and never changes, so queries need not test its curve again. The proofs cover
+//! the library; this crate, which lends it memory, is not proved. Its `unsafe` blocks stand in one module, each with its
+//! reason.
 
 #![deny(missing_docs)]
 #![deny(unsafe_code)]

@@ -1,9 +1,9 @@
-//! A smoothed path: built, asked, certified, reversed.
+//! A smoothed path: built, asked, certified, reversed, written and read.
 
 use crate::config::{OutOfRangeMode, SmoothingConfig, SmoothingReport, Spacing};
 use crate::curve::Curve;
 use crate::error::PathError;
-use crate::workspace::Workspace;
+use crate::workspace::{Workspace, cells};
 
 /// Values of a path and the derivatives that were asked for, all with respect to the parameter.
 ///
@@ -21,25 +21,15 @@ pub struct PathDerivatives {
     pub dddq: Option<Vec<f64>>,
 }
 
-/// Waypoints smoothed into quintic segments. Only an accepted build makes one, or [`reversed`](Path::reversed) of
-/// another, and nothing changes it.
+/// Waypoints smoothed into quintic segments. An accepted build makes one, a lane file that is read
+/// ([`from_lane_file`](Path::from_lane_file)), or [`reversed`](Path::reversed) of another; nothing changes it.
 #[derive(Clone, Debug)]
 pub struct Path {
     curve: Curve,
-    /// The build's; none if the path was reversed.
+    /// The build's; none if the path was reversed or read.
     report: Option<SmoothingReport>,
-    /// The build's rule, for certificates without listed parameters.
+    /// The rule for certificates without listed parameters: the build's, or even for a path that was read.
     spacing: Spacing,
-}
-
-/// So many cells, or a refusal where there is no memory for them.
-fn cells(count: usize) -> Result<Vec<f64>, PathError> {
-    let mut cells = Vec::new();
-    cells
-        .try_reserve_exact(count)
-        .map_err(|_| PathError::ShortSlice)?;
-    cells.resize(count, 0.);
-    Ok(cells)
 }
 
 impl Path {
@@ -117,7 +107,7 @@ impl Path {
     /// # Errors
     ///
     /// [`PathError::NotRising`] (29) alone: two breaks are one number once they are taken from 1, as 0 and 10^-17 are.
-    /// Breaks come from the waypoints' parameters: see there for what helps.
+    /// Breaks come from the waypoints' parameters, also those of a path that was read: see there for what helps.
     ///
     /// ```
     /// use pamitoye::{Path, PathError, SmoothingConfig, reversed_waypoints};
@@ -156,12 +146,97 @@ impl Path {
         })
     }
 
-    /// What the build did; none if the path was [reversed](Path::reversed) and not built.
+    /// The path's lane file: its curve as bytes, as the second harvester loads it from a card.
+    ///
+    /// A lane file is, in this order: the number of axes, the number of smoothed axes, these axes, the mode (0 for
+    /// [`OutOfRangeMode::Error`], 1 for [`OutOfRangeMode::Clamp`]), the number of segments of the smoothed axes and that of
+    /// the others, each in groups of seven bits, low group first, the top bit set on all but the last; then, eight bytes each,
+    /// low byte first, the first and the last parameter, [`breaks`](Path::breaks), [`coefficients`](Path::coefficients),
+    /// [`other_breaks`](Path::other_breaks) and [`other_coefficients`](Path::other_coefficients). Widths, waypoints,
+    /// tolerances, report and [`spacing`](Path::spacing) are not in it.
+    ///
+    /// [`from_lane_file`](Path::from_lane_file) gives the same curve back, bit by bit, NaNs too. Equal curves, bit by bit, have
+    /// equal files, and unequal ones unequal files. All of it is proved of the library.
+    ///
+    /// # Errors
+    ///
+    /// [`PathError::ShortSlice`] (19) alone, where there is no memory for the file.
+    ///
+    /// ```
+    /// use pamitoye::{Path, PathError, SmoothingConfig};
+    ///
+    /// let config = SmoothingConfig { tolerance: 1.0.into(), ..Default::default() };
+    /// let path = Path::from_waypoints_fitting(&[0.0, 0.95, 0.0], (1, 3), config)?;
+    /// let file = path.to_lane_file()?;
+    ///
+    /// // One axis, one of it smoothed, axis 0, mode Error, one segment, none of other axes.
+    /// assert_eq!(file[..6], [1, 1, 0, 0, 1, 0]);
+    /// // From 0 to 1, breaks 0 and 1, and six coefficients.
+    /// assert_eq!(file.len(), 6 + 8 * (2 + 2 + 6));
+    /// assert_eq!(file[14..22], 1f64.to_le_bytes());
+    /// # Ok::<(), PathError>(())
+    /// ```
+    pub fn to_lane_file(&self) -> Result<Vec<u8>, PathError> {
+        self.curve.to_lane_file()
+    }
+
+    /// The path of a lane file, all of whose bytes are given: the one that [`to_lane_file`](Path::to_lane_file) wrote, bit by
+    /// bit, and [`to_lane_file`](Path::to_lane_file) of it gives the same bytes back.
+    ///
+    /// It was not built: it has no [report](Path::smoothing_report). A file does not tell how the waypoints' parameters were
+    /// spaced, so that its [`spacing`](Path::spacing) is [`Spacing::Even`]: who has the waypoints and certifies it lists the
+    /// parameters for [`certify`](Path::certify), those by chord length with [`chord_parameters`]. Coefficients may be any
+    /// numbers, NaNs and infinities too; then so are values, and there is no certified figure.
+    ///
+    /// # Memory
+    ///
+    /// The path keeps what it uses, about as much as the file; while the file is read, some 2.3 times as much more is
+    /// allocated. A file that is refused with 27 or 24 takes no memory, however long it is.
+    ///
+    /// # Errors
+    ///
+    /// - [`PathError::DoesNotRead`] (27): a whole number in more than three groups, or with an empty last group behind
+    ///   another; a mode above 1; more smoothed axes than axes; bytes missing or left over.
+    /// - [`PathError::Malformed`] (24): it reads, but not 1 to [`MAX_AXES`](crate::MAX_AXES) axes; no smoothed axis, one that
+    ///   is repeated or that does not exist; not 1 to [`MAX_SEGMENTS`](crate::MAX_SEGMENTS) segments of a set, or segments of
+    ///   other axes where there are none; breaks that do not rise strictly from 0 to 1; a range that is not finite or does
+    ///   not rise.
+    /// - [`PathError::ShortSlice`] (19): there is no memory for it.
+    ///
+    /// ```
+    /// use pamitoye::{Path, PathError, SmoothingConfig};
+    ///
+    /// let points = [0.0, 2.0, 2.0, 5.0, 4.0];
+    /// let config = SmoothingConfig { tolerance: 0.1.into(), ..Default::default() };
+    /// let path = Path::from_waypoints_fitting(&points, (1, 5), config)?;
+    /// let file = path.to_lane_file()?;
+    ///
+    /// let read = Path::from_lane_file(&file)?;
+    /// assert_eq!(read.evaluate_up_to_3rd(&[0.0, 0.3, 1.0]), path.evaluate_up_to_3rd(&[0.0, 0.3, 1.0]));
+    /// assert_eq!(read.certify(0, 0, &points, None), path.certify(0, 0, &points, None));
+    /// assert_eq!(read.to_lane_file()?, file);
+    /// assert!(read.smoothing_report().is_none());
+    ///
+    /// let cut = Path::from_lane_file(&file[..file.len() - 1]);
+    /// assert_eq!(cut.err(), Some(PathError::DoesNotRead));
+    /// # Ok::<(), PathError>(())
+    /// ```
+    pub fn from_lane_file(file: &[u8]) -> Result<Self, PathError> {
+        let curve = Curve::from_lane_file(file)?;
+        Ok(Self {
+            curve,
+            report: None,
+            spacing: Spacing::default(),
+        })
+    }
+
+    /// What the build did; none if the path was not built: [reversed](Path::reversed), or [read](Path::from_lane_file) from a
+    /// lane file.
     pub fn smoothing_report(&self) -> Option<&SmoothingReport> {
         self.report.as_ref()
     }
 
-    /// The smoothed axes, as they were listed: those of the report, where there is one.
+    /// The smoothed axes, in the order in which they were listed: those of the report, where there is one.
     pub fn smoothed_axes(&self) -> &[usize] {
         self.curve.axes()
     }
@@ -183,7 +258,8 @@ impl Path {
 
     /// The rule that spaces the parameters of waypoints where [`certify`](Path::certify) is given none:
     /// [`SmoothingConfig::spacing`] of the build, also where the build's own parameters were listed. A reversed path has
-    /// that of the way out.
+    /// that of the way out. A path that was read from a lane file has [`Spacing::Even`], whatever the waypoints had: the file
+    /// does not tell.
     pub fn spacing(&self) -> Spacing {
         self.spacing
     }
@@ -285,7 +361,8 @@ impl Path {
     /// `parameters` theirs, `None` for those that the path's rule of [`spacing`](Path::spacing) gives these points; both
     /// are, in general, what the path was built from or, of a path that was reversed, what [`reversed_waypoints`] makes of
     /// it. With `None` a reversed path has the rule taken over the points in reverse: by chords the sums then begin at the
-    /// lane's other end, and the line's parameters may differ from that list by what is rounded.
+    /// lane's other end, and the line's parameters may differ from that list by what is rounded. With `None` a path that was
+    /// read from a lane file takes even parameters: where it was built by chords, list [`chord_parameters`].
     ///
     /// The promise, which is proved, is the distance rule: at every exact fraction of the parameter, the curve of the
     /// stored coefficients and the straight line between the two neighbouring waypoints, both taken without any

@@ -1,4 +1,6 @@
-//! Memory that builds share.
+//! Memory: what builds share, and cells that may not be had.
+
+use crate::error::PathError;
 
 /// The memory of builds, kept from one to the next. A build without one allocates its own and frees it.
 ///
@@ -21,6 +23,16 @@
 pub struct Workspace {
     /// Work, breaks, coefficients, other breaks, other coefficients, errors.
     cells: [Vec<f64>; 6],
+}
+
+/// So many cells, or a refusal where there is no memory for them.
+pub(crate) fn cells<T: Clone + Default>(count: usize) -> Result<Vec<T>, PathError> {
+    let mut cells = Vec::new();
+    cells
+        .try_reserve_exact(count)
+        .map_err(|_| PathError::ShortSlice)?;
+    cells.resize(count, T::default());
+    Ok(cells)
 }
 
 impl Workspace {

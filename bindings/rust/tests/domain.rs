@@ -1,4 +1,4 @@
-//! Sizes above the domain are refused before anything is allocated.
+//! Sizes above the domain are refused before anything is allocated, and so are lane files.
 
 use pamitoye::{
     MAX_AXES, MAX_REFINEMENTS, MAX_SEGMENTS, MAX_WAYPOINTS, Path, PathError, SmoothingConfig,
@@ -86,6 +86,28 @@ fn the_largest_sizes_are_taken() {
     let path = Path::from_waypoints_fitting(&points, (MAX_AXES, MAX_WAYPOINTS), config).unwrap();
     assert_eq!(path.breaks(), [0., 1.]);
     assert_eq!(path.coefficients().len(), 6 * MAX_AXES);
+}
+
+/// A lane file that is refused takes no memory, however long it is.
+#[test]
+fn refused_lane_files() {
+    let calls = |file: &[u8]| {
+        let before = CALLS.get();
+        let error = Path::from_lane_file(file).err();
+        (error, CALLS.get() - before)
+    };
+    let long = vec![0; 10_000_000];
+    assert_eq!(calls(&long), (Some(PathError::DoesNotRead), 0));
+    // As many axes as bytes are left for, one after the other: it reads, and there are too many.
+    let axes = 1_000_000;
+    let count = [axes, axes >> 7, axes >> 14].map(|group| group as u8 | 128);
+    let count = [count[0], count[1], count[2] & 127];
+    let mut many = [count, count].concat();
+    many.resize(6 + axes + 3 + 16, 0);
+    assert_eq!(calls(&many), (Some(PathError::Malformed), 0));
+    let path = Path::from_waypoints_fitting(&[0., 1.], (1, 2), Default::default()).unwrap();
+    let (error, taken) = calls(&path.to_lane_file().unwrap());
+    assert!(error.is_none() && taken > 0);
 }
 
 /// Queries into slices of the caller's do not allocate.
