@@ -104,7 +104,7 @@ if command -v cargo > /dev/null; then
     grep -m 1 -o 'skipped: .*' "$scratch/log" || true
     echo "$(grep -c '^test .* ok$' "$scratch/log") tests of bindings/rust pass"
     examples/csv/run.sh bindings/rust/target/release/smooth ||
-        fail "smooth does not print or write what is stored in examples/csv and docs/lane.svg"
+        fail "smooth does not print or write what is stored in examples/csv, examples/lane_files and docs/lane.svg"
 else
     echo "skipped: cargo is not at hand; bindings/rust is not tested"
 fi

@@ -1,6 +1,7 @@
 //! A lane: the columns of a table that are axes, and the one with the parameters, or the rule that spaces them.
 
 use crate::csv::Table;
+use crate::names::{self, Names};
 use crate::options::Options;
 use pamitoye::{
     Path, PathError, SmoothingConfig, SmoothingTolerance, Spacing, chord_parameters,
@@ -11,20 +12,17 @@ use pamitoye::{
 const RULES: [(&str, Spacing); 2] = [("even", Spacing::Even), ("chord", Spacing::Chord)];
 
 /// Where the parameters of a lane come from.
-#[derive(Clone)]
+#[derive(Clone, Copy)]
 pub enum Source {
-    /// A list of this name: a column's, or that of the way back.
-    Listed(String),
+    /// A list: a column's, or that of the way back.
+    Listed,
     /// The rule of spacing.
     Spaced(Spacing),
 }
 
 #[derive(Clone)]
 pub struct Lane {
-    /// What messages call the input.
-    pub name: String,
-    /// The axes' names.
-    pub names: Vec<String>,
+    pub names: Names,
     /// The axes to smooth; none for all.
     pub axes: Option<Vec<usize>>,
     /// Waypoint after waypoint.
@@ -69,22 +67,29 @@ impl Lane {
         let points: Vec<f64> = rows()
             .flat_map(|cells| axis_columns.iter().map(|c| at(cells, *c)))
             .collect();
-        let (source, parameters) = match named {
+        let (source, parameter, parameters) = match named {
             Named::Column(c) => (
-                Source::Listed(columns.name(c)),
+                Source::Listed,
+                columns.name(c),
                 rows().map(|cells| at(cells, c)).collect(),
             ),
-            Named::Rule(rule @ Spacing::Even) => {
-                (Source::Spaced(rule), even_parameters(table.rows.len()))
-            }
-            Named::Rule(rule @ Spacing::Chord) => {
-                let list = chord_parameters(&points, axis_columns.len());
-                (Source::Spaced(rule), list)
-            }
+            Named::Rule(rule @ Spacing::Even) => (
+                Source::Spaced(rule),
+                names::PARAMETER.to_string(),
+                even_parameters(table.rows.len()),
+            ),
+            Named::Rule(rule @ Spacing::Chord) => (
+                Source::Spaced(rule),
+                "chord length".to_string(),
+                chord_parameters(&points, axis_columns.len()),
+            ),
         };
         Ok(Self {
-            name: options.input_name(),
-            names: axis_columns.iter().map(|c| columns.name(*c)).collect(),
+            names: Names {
+                input: options.input_name(),
+                axes: axis_columns.iter().map(|c| columns.name(*c)).collect(),
+                parameter,
+            },
             axes,
             points,
             parameters,
@@ -101,23 +106,19 @@ impl Lane {
         let (points, parameters) =
             reversed_waypoints(&self.points, self.d(), Some(&self.parameters));
         Self {
+            names: self.names.back(),
             points,
             parameters,
-            source: Source::Listed(format!("{} back", self.parameter_name())),
+            source: Source::Listed,
             lines: self.lines.iter().rev().copied().collect(),
             back: true,
             ..self.clone()
         }
     }
 
-    /// The input without the folders before it.
-    pub fn file_name(&self) -> &str {
-        self.name.rsplit('/').next().unwrap_or_default()
-    }
-
     /// How many axes there are.
     pub fn d(&self) -> usize {
-        self.names.len()
+        self.names.axes.len()
     }
 
     /// How many waypoints there are.
@@ -128,7 +129,7 @@ impl Lane {
     /// The parameters, if they are listed.
     pub fn listed(&self) -> Option<&[f64]> {
         match self.source {
-            Source::Listed(_) => Some(&self.parameters),
+            Source::Listed => Some(&self.parameters),
             Source::Spaced(_) => None,
         }
     }
@@ -136,7 +137,7 @@ impl Lane {
     /// The rule of spacing, which is not read where the parameters are listed.
     fn spacing(&self) -> Spacing {
         match self.source {
-            Source::Listed(_) => Spacing::default(),
+            Source::Listed => Spacing::default(),
             Source::Spaced(rule) => rule,
         }
     }
@@ -150,20 +151,6 @@ impl Lane {
     pub fn point(&self, i: usize, axis: usize) -> f64 {
         let cell = i * self.d() + axis;
         self.points.get(cell).copied().unwrap_or(f64::NAN)
-    }
-
-    /// What the parameter is called.
-    pub fn parameter_name(&self) -> &str {
-        match &self.source {
-            Source::Listed(name) => name,
-            Source::Spaced(Spacing::Even) => "parameter",
-            Source::Spaced(Spacing::Chord) => "chord length",
-        }
-    }
-
-    /// An axis's name.
-    pub fn name_of(&self, axis: usize) -> &str {
-        self.names.get(axis).map_or("", String::as_str)
     }
 
     /// The lane, smoothed.
@@ -209,7 +196,7 @@ impl<'a> Columns<'a> {
     fn name(&self, column: usize) -> String {
         match self.header.and_then(|header| header.get(column)) {
             Some(name) if !name.is_empty() => name.clone(),
-            _ => format!("column {}", column + 1),
+            _ => names::column(column),
         }
     }
 

@@ -1,4 +1,5 @@
-//! `smooth`: waypoints from a CSV file, smoothed; a report in words, and on request segments, samples and a picture.
+//! `smooth`: waypoints from a CSV file, smoothed; a report in words, and on request segments, samples, a picture and a lane
+//! file. Or a lane file: what it holds, and the same on request.
 
 #![deny(unsafe_code)]
 #![deny(
@@ -10,14 +11,20 @@
 
 mod csv;
 mod lane;
+mod lane_file;
+mod names;
 mod options;
 mod picture;
 mod plot;
 mod report;
 mod sampled;
+mod sets;
+mod svg;
 mod tables;
 
 use lane::Lane;
+use lane_file::LaneFile;
+use names::Names;
 use options::{Command, Options};
 use pamitoye::{Path, PathError, SmoothingTolerance};
 use std::io::{Read, Write};
@@ -25,13 +32,13 @@ use std::process::ExitCode;
 
 /// How a run ended, with what is to be printed.
 enum Outcome {
-    Smoothed(String),
+    Done(String),
     Refused(String),
 }
 
 fn main() -> ExitCode {
     let (text, status) = match run() {
-        Ok(Outcome::Smoothed(text)) => (text, 0),
+        Ok(Outcome::Done(text)) => (text, 0),
         Ok(Outcome::Refused(text)) => (text, 1),
         Err(wrong) => {
             // Where standard error is closed there is nobody to tell.
@@ -47,15 +54,22 @@ fn main() -> ExitCode {
 
 fn run() -> Result<Outcome, String> {
     let options = match options::read(std::env::args_os().skip(1))? {
-        Command::Help => return Ok(Outcome::Smoothed(options::help())),
+        Command::Help => return Ok(Outcome::Done(options::help())),
         Command::Smooth(options) => options,
     };
-    let table = csv::read(&options.input_name(), &input(&options)?)?;
-    let lane = Lane::new(&options, table)?;
-    Ok(match smooth(&options, &lane)? {
-        Ok(text) => Outcome::Smoothed(text),
-        Err(error) => Outcome::Refused(report::refusal(&options, &lane, &error)),
-    })
+    let bytes = input(&options)?;
+    let made = match options.from_lane_file {
+        true => made_of_file(&options, &bytes),
+        false => made_of_csv(&options, &bytes)?,
+    };
+    let (report, files) = match made {
+        Ok(made) => made,
+        Err(words) => return Ok(Outcome::Refused(words)),
+    };
+    for (file, contents) in &files {
+        std::fs::write(file, contents).map_err(|e| format!("{}: {e}", file.display()))?;
+    }
+    Ok(Outcome::Done(report))
 }
 
 /// The bytes of the file, or of standard input.
@@ -69,23 +83,28 @@ fn input(options: &Options) -> Result<Vec<u8>, String> {
     Ok(bytes)
 }
 
-/// The report, with all files written; or a refusal, with none.
-fn smooth(options: &Options, lane: &Lane) -> Result<Result<String, PathError>, String> {
-    let (report, files) = match made(options, lane) {
-        Ok(made) => made,
-        Err(error) => return Ok(Err(error)),
-    };
-    for (file, text) in &files {
-        std::fs::write(file, text).map_err(|e| format!("{}: {e}", file.display()))?;
-    }
-    Ok(Ok(report))
-}
+/// The report and the files to be written, or the words of a refusal, with no file.
+type Made<'a> = Result<(String, Files<'a>), String>;
 
 /// What is to be written, and where.
-type Files<'a> = Vec<(&'a std::path::Path, String)>;
+type Files<'a> = Vec<(&'a std::path::Path, Vec<u8>)>;
+
+/// What is made of the bytes of a CSV file, if they are one.
+fn made_of_csv<'a>(options: &'a Options, bytes: &[u8]) -> Result<Made<'a>, String> {
+    let table =
+        csv::read(&options.input_name(), bytes).map_err(|wrong| {
+            match Path::from_lane_file(bytes) {
+                Ok(_) => format!("{wrong}; it is a lane file, which --from-lane-file reads"),
+                Err(_) => wrong,
+            }
+        })?;
+    let lane = Lane::new(options, table)?;
+    let made = smoothed(options, &lane);
+    Ok(made.map_err(|error| report::refusal(options, &lane, &error)))
+}
 
 /// The report and the files of the lane, or of the lane driven back.
-fn made<'a>(options: &'a Options, lane: &Lane) -> Result<(String, Files<'a>), PathError> {
+fn smoothed<'a>(options: &'a Options, lane: &Lane) -> Result<(String, Files<'a>), PathError> {
     let path = &lane.build(options)?;
     let back = match options.back {
         true => Some((lane.reversed(), path.reversed()?)),
@@ -94,24 +113,44 @@ fn made<'a>(options: &'a Options, lane: &Lane) -> Result<(String, Files<'a>), Pa
     let back = back.as_ref().map(|(lane, path)| (lane, path));
     let report = report::accepted((lane, path), back)?;
     let (shown, driven) = back.unwrap_or((lane, path));
-    Ok((report, files(options, shown, driven, &report::build(path))?))
+    let picture = || picture::of_lane(shown, driven, &report::build(path));
+    Ok((report, files(options, &shown.names, driven, picture)?))
 }
 
+/// What is made of the bytes of a lane file, or of its lane driven back.
+fn made_of_file<'a>(options: &'a Options, bytes: &[u8]) -> Made<'a> {
+    let out = LaneFile::read(&options.input_name(), bytes)?;
+    let shown = match options.back {
+        true => out.reversed()?,
+        false => out,
+    };
+    let made = || {
+        let picture = || picture::of_file(&shown);
+        let files = files(options, &shown.names, &shown.path, picture)?;
+        Ok((shown.report()?, files))
+    };
+    made().map_err(|error| shown.refusal(&error))
+}
+
+/// The files that are asked for, of this path.
 fn files<'a>(
     options: &'a Options,
-    lane: &Lane,
+    names: &Names,
     path: &Path,
-    built: &str,
+    picture: impl Fn() -> Result<String, PathError>,
 ) -> Result<Files<'a>, PathError> {
     let mut files = Files::new();
     if let Some(file) = &options.segments {
-        files.push((file.as_path(), tables::segments(lane, path)));
+        files.push((file, tables::segments(names, path).into_bytes()));
     }
     if let Some(file) = &options.samples {
-        files.push((file.as_path(), tables::samples(options, lane, path)?));
+        files.push((file, tables::samples(options, names, path)?.into_bytes()));
     }
     if let Some(file) = &options.picture {
-        files.push((file.as_path(), picture::draw(lane, path, built)?));
+        files.push((file, picture()?.into_bytes()));
+    }
+    if let Some(file) = &options.lane_file {
+        files.push((file, path.to_lane_file()?));
     }
     Ok(files)
 }

@@ -27,11 +27,16 @@ standard input is read.
       --samples FILE       writes values and three derivatives as CSV
       --count N            how many samples (201)
       --from X, --to X     the samples' range (that of the parameters)
-      --mode error|clamp   samples outside that of the parameters: refused, or standing still at the nearer end (error)
+      --mode error|clamp   samples outside that of the parameters: refused, or standing still at the nearer end (error);
+                           a lane file that is written keeps the mode
       --depth N            halvings of a piece of the curve, 6 at most, that may tighten the certified figure (0)
       --picture FILE       writes a picture as SVG: waypoints, curve, tolerance, and the distance between curve and line
       --back               the lane driven back: report, picture and files are those of the way back, which is certified
                            anew against the waypoints in reverse; the report has the figure of the way out beside it
+      --lane-file FILE     writes a lane file: the curve as bytes, for a machine to load
+      --from-lane-file     FILE is a lane file, not a CSV file: the report says what it holds, and --segments, --samples,
+                           --picture, --back and --lane-file work as above. It has no waypoints, so that nothing is
+                           smoothed or certified; its columns are called by their numbers, and its mode is its own
   -h, --help               prints this
 
 Of a segment: u = (parameter - first) / (last - first), v = (u - left) / (right - left), value = p0 + p1 v + .. + p5 v^5.
@@ -47,8 +52,10 @@ examples:
   smooth --tolerance 0.05,0.2 --axes x,z --parameters time --picture lane.svg lane.csv
   smooth --tolerance 0.05 --parameters chord lane.csv
   smooth -t 1 --segments segments.csv --samples samples.csv --count 1001 < lane.csv
+  smooth --tolerance 0.05 --lane-file card.lane lane.csv
+  smooth --from-lane-file --picture card.svg card.lane
 
-status: 0 smoothed; 1 refused, with the reason; 2 wrong input, or a file that cannot be read or written
+status: 0 smoothed or read; 1 refused, with the reason; 2 wrong input, or a file that cannot be read or written
 ";
 
 /// What is asked for.
@@ -70,6 +77,9 @@ pub struct Options {
     pub segments: Option<PathBuf>,
     pub samples: Option<PathBuf>,
     pub picture: Option<PathBuf>,
+    pub lane_file: Option<PathBuf>,
+    /// Whether the input is a lane file.
+    pub from_lane_file: bool,
     /// Whether the lane is driven back.
     pub back: bool,
     /// The depth of the certificate.
@@ -106,13 +116,15 @@ pub fn read(arguments: impl Iterator<Item = OsString>) -> Result<Command, String
         segments: None,
         samples: None,
         picture: None,
+        lane_file: None,
+        from_lane_file: false,
         back: false,
         depth: 0,
         count: 201,
         from: None,
         to: None,
     };
-    let mut files = Vec::new();
+    let (mut files, mut names) = (Vec::new(), Vec::new());
     let mut arguments = arguments;
     while let Some(argument) = arguments.next() {
         let text = argument.to_string_lossy().into_owned();
@@ -141,6 +153,10 @@ pub fn read(arguments: impl Iterator<Item = OsString>) -> Result<Command, String
             .or_else(|| arguments.next())
             .ok_or_else(|| format!("{name} needs a value"))?;
         set(&mut options, name, value)?;
+        names.push(name.to_string());
+    }
+    if options.from_lane_file {
+        names.iter().try_for_each(|name| without_waypoints(name))?;
     }
     let mut files = files.into_iter();
     options.input = files.next().filter(|f| f != "-").map(PathBuf::from);
@@ -157,12 +173,13 @@ pub fn read(arguments: impl Iterator<Item = OsString>) -> Result<Command, String
 fn flag<'a>(options: &'a mut Options, name: &str) -> Option<&'a mut bool> {
     match name {
         "--back" => Some(&mut options.back),
+        "--from-lane-file" => Some(&mut options.from_lane_file),
         _ => None,
     }
 }
 
 /// The options that have a value.
-const NAMES: [&str; 16] = [
+const NAMES: [&str; 17] = [
     "-t",
     "--tolerance",
     "-a",
@@ -179,7 +196,20 @@ const NAMES: [&str; 16] = [
     "--mode",
     "--depth",
     "--picture",
+    "--lane-file",
 ];
+
+/// Refuses the options that have no meaning for a lane file.
+fn without_waypoints(name: &str) -> Result<(), String> {
+    let why = match name {
+        "-t" | "--tolerance" | "-a" | "--axes" | "-p" | "--parameters" | "--max-refinements"
+        | "--max-segments" => "it has no waypoints to smooth",
+        "--depth" => "it has no waypoints to certify the curve against",
+        "--mode" => "its mode is its own",
+        _ => return Ok(()),
+    };
+    Err(format!("{name} is not for a lane file: {why}"))
+}
 
 /// Takes one option.
 fn set(options: &mut Options, name: &str, value: OsString) -> Result<(), String> {
@@ -194,6 +224,7 @@ fn set(options: &mut Options, name: &str, value: OsString) -> Result<(), String>
         "--segments" => options.segments = Some(value.into()),
         "--samples" => options.samples = Some(value.into()),
         "--picture" => options.picture = Some(value.into()),
+        "--lane-file" => options.lane_file = Some(value.into()),
         "--depth" => options.depth = depth(name, &text)?,
         "--count" => options.count = samples(name, &text)?,
         "--from" => options.from = Some(finite(name, &text)?),

@@ -1,14 +1,16 @@
-//! The picture: for each axis the waypoints, the curve and the tolerance around the line, and below it the distance
-//! between curve and line, with tolerance and certified figure. It reads in print and on a dark screen, and no line is
-//! told from another by its colour alone.
+//! The pictures. Of a lane: for each axis the waypoints, the curve and the tolerance around the line, and below it the
+//! distance between curve and line, with tolerance and certified figure. Of a lane file, which has no waypoints: the curve of
+//! each axis. They read in print and on a dark screen, and no line is told from another by its colour alone.
 
 use crate::lane::Lane;
+use crate::lane_file::LaneFile;
 use crate::plot::{Frame, Place, Range, columns, exponent, straightened, ten_to};
 use crate::report::{self, Margin};
-use crate::sampled::Sampled;
+use crate::sampled::{Sampled, Spot};
+use crate::sets::{Set, sets};
+use crate::svg::{STYLE, Svg, escaped, length};
 use crate::{counted, number};
 use pamitoye::{Path, PathError};
-use std::fmt::Write;
 
 const WIDTH: f64 = 1000.;
 /// Right of the frames: the names of the levels.
@@ -19,158 +21,151 @@ const GAP: f64 = 14.;
 /// About the width of a character.
 const CHARACTER: f64 = 6.9;
 
-const STYLE: &str = "\
-svg { color-scheme: light dark }
-.paper { fill: #ffffff }
-text { fill: #1b1f24; font: 13px system-ui, 'DejaVu Sans', Arial, sans-serif }
-.title { font-size: 19px; font-weight: 600 }
-.head { font-size: 15px; font-weight: 600 }
-.tick { font-size: 12px }
-.frame { fill: none; stroke: #57606a; stroke-width: 1 }
-.grid { stroke: #d8dee4; stroke-width: 1 }
-.band { fill: #a8cdf0; fill-opacity: 0.5; stroke: none }
-.edge { fill: none; stroke: #3b75af; stroke-width: 1; stroke-dasharray: 1.5 3 }
-.line { fill: none; stroke: #57606a; stroke-width: 1 }
-.curve { fill: none; stroke: #0a3069; stroke-width: 2.2; stroke-linejoin: round }
-.point { fill: #ffffff; stroke: #1b1f24; stroke-width: 1.2 }
-.break { stroke: #0a3069; stroke-width: 1 }
-.area { fill: #0a3069; fill-opacity: 0.14; stroke: none }
-.distance { fill: none; stroke: #0a3069; stroke-width: 1.6; stroke-linejoin: round }
-.tolerance { stroke: #a40e26; stroke-width: 1.6; stroke-dasharray: 9 5 }
-.certified { stroke: #6f4400; stroke-width: 1.6; stroke-dasharray: 12 3 2 3 }
-.spot { stroke: #a40e26; stroke-width: 1; stroke-dasharray: 2 4 }
-.mark { fill: #a40e26; stroke: none }
-@media (prefers-color-scheme: dark) {
-.paper { fill: #14181d }
-text { fill: #e6edf3 }
-.frame, .line { stroke: #9aa4af }
-.grid { stroke: #303841 }
-.band { fill: #2f6aa3; fill-opacity: 0.4 }
-.edge { stroke: #6cb2f5 }
-.curve, .distance, .break { stroke: #a5d6ff }
-.area { fill: #a5d6ff; fill-opacity: 0.2 }
-.point { fill: #14181d; stroke: #f0f6fc }
-.tolerance, .spot { stroke: #ff8f8f }
-.mark { fill: #ff8f8f }
-.certified { stroke: #f2cc60 }
-}
-";
-
-/// The text of a picture that grows.
-struct Svg(String);
-
-/// A length with two decimals at most.
-fn length(x: f64) -> String {
-    let text = format!("{x:.2}");
-    let text = text.trim_end_matches('0').trim_end_matches('.');
-    if text == "-0" { "0" } else { text }.to_string()
-}
-
-fn escaped(text: &str) -> String {
-    let text = text.replace('&', "&amp;").replace('<', "&lt;");
-    text.replace('>', "&gt;").replace('"', "&quot;")
-}
-
-impl Svg {
-    fn add(&mut self, text: std::fmt::Arguments<'_>) {
-        // Writing to a string does not fail.
-        let _ = self.0.write_fmt(text);
-        self.0.push('\n');
-    }
-
-    fn text(&mut self, (x, y): Place, style: &str, text: &str) {
-        let (x, y) = (length(x), length(y));
-        self.add(format_args!(
-            "<text x=\"{x}\" y=\"{y}\" {style}>{}</text>",
-            escaped(text)
-        ));
-    }
-
-    fn line(&mut self, class: &str, from: Place, to: Place) {
-        let [x1, y1, x2, y2] = [from.0, from.1, to.0, to.1].map(length);
-        self.add(format_args!(
-            "<line class=\"{class}\" x1=\"{x1}\" y1=\"{y1}\" x2=\"{x2}\" y2=\"{y2}\"/>"
-        ));
-    }
-
-    fn circle(&mut self, (x, y): Place, radius: f64) {
-        let [x, y, r] = [x, y, radius].map(length);
-        self.add(format_args!(
-            "<circle class=\"point\" cx=\"{x}\" cy=\"{y}\" r=\"{r}\"/>"
-        ));
-    }
-
-    fn path(&mut self, class: &str, lines: &[Vec<Place>], end: &str) {
-        if lines.is_empty() {
-            return;
-        }
-        let mut text = String::new();
-        for line in lines {
-            for (i, (x, y)) in line.iter().enumerate() {
-                let step = if i == 0 { "M" } else { " " };
-                let _ = write!(text, "{step}{} {}", length(*x), length(*y));
-            }
-            text.push_str(end);
-        }
-        self.add(format_args!("<path class=\"{class}\" d=\"{text}\"/>"));
-    }
-
-    fn rectangle(&mut self, class: &str, (x, y): Place, (width, height): Place) {
-        let [x, y, width, height] = [x, y, width, height].map(length);
-        self.add(format_args!(
-            "<rect class=\"{class}\" x=\"{x}\" y=\"{y}\" width=\"{width}\" height=\"{height}\"/>"
-        ));
-    }
-
-    fn diamond(&mut self, (x, y): Place) {
-        let corners = vec![(x, y - 5.), (x + 5., y), (x, y + 5.), (x - 5., y)];
-        self.path("mark", &[corners], "Z");
-    }
+/// A picture: its head, and a block for each axis.
+struct Picture<'a> {
+    title: String,
+    /// The line below the title.
+    made: String,
+    /// What the legend shows: classes of the style.
+    legend: &'static [&'static str],
+    /// The parameter's name and range.
+    parameter: &'a str,
+    across: Range,
+    blocks: Vec<Block<'a>>,
 }
 
 /// What is drawn for one axis.
 struct Block<'a> {
-    axis: usize,
-    margin: Option<&'a Margin>,
+    name: &'a str,
+    /// The lines below the name.
+    words: Vec<String>,
+    waypoints: Vec<(f64, f64)>,
     curve: Vec<(f64, f64)>,
+    /// The parameters at which segments end.
+    ends: Vec<f64>,
     up: Range,
+    /// Of a smoothed axis of a lane.
+    distance: Option<Distance<'a>>,
+}
+
+/// An axis's distance from its line.
+struct Distance<'a> {
+    margin: &'a Margin,
+    curve: Vec<(f64, f64)>,
+    furthest: Option<Spot>,
+}
+
+/// The range of these numbers, or from 0 to 1 where none is finite.
+fn range(numbers: impl Iterator<Item = f64>) -> Range {
+    Range::of(numbers).unwrap_or(Range { low: 0., high: 1. })
+}
+
+/// The set that has this axis.
+fn set_of<'a, 'b>(sets: &'b [Set<'a>], axis: usize) -> Option<&'b Set<'a>> {
+    sets.iter().find(|set| set.axes.contains(&axis))
 }
 
 impl<'a> Block<'a> {
-    fn new(lane: &Lane, sampled: &Sampled, margins: &'a [Margin], axis: usize) -> Self {
+    /// An axis of a lane.
+    fn of_lane(
+        (lane, path): (&'a Lane, &Path),
+        sampled: &Sampled,
+        margins: &'a [Margin],
+        axis: usize,
+    ) -> Self {
         let margin = margins.iter().find(|margin| margin.axis == axis);
         let around = margin.map_or(0., |margin| margin.tolerance);
-        let curve = sampled.curve(lane, axis);
-        let waypoints = (0..lane.n()).map(|i| lane.point(i, axis));
-        let band = waypoints.flat_map(|y| [y - around, y + around]);
-        let up = Range::of(band.chain(curve.iter().map(|place| place.1)));
-        let up = up.unwrap_or(Range { low: 0., high: 1. }).widened(0.05);
-        Self {
-            axis,
+        let curve = sampled.curve(axis);
+        let waypoints: Vec<(f64, f64)> = (0..lane.n())
+            .map(|i| (lane.parameter(i), lane.point(i, axis)))
+            .collect();
+        let band = waypoints.iter().flat_map(|(_, y)| [y - around, y + around]);
+        let up = range(band.chain(curve.iter().map(|place| place.1)));
+        let distance = margin.map(|margin| Distance {
             margin,
+            curve: sampled.distance(lane, axis),
+            furthest: sampled.furthest(lane, axis),
+        });
+        let words = match &distance {
+            Some(distance) => distance.words(lane),
+            None => vec!["not smoothed: through every waypoint".to_string()],
+        };
+        Self {
+            name: lane.names.axis(axis),
+            words,
+            waypoints,
             curve,
-            up,
+            ends: set_of(&sets(path), axis).map_or_else(Vec::new, |set| set.ends(path)),
+            up: up.widened(0.05),
+            distance,
+        }
+    }
+
+    /// An axis of a lane file.
+    fn of_file(file: &'a LaneFile, sampled: &Sampled, axis: usize) -> Self {
+        let curve = sampled.curve(axis);
+        let up = range(curve.iter().map(|place| place.1));
+        let sets = sets(&file.path);
+        let set = set_of(&sets, axis);
+        let segments = counted(set.map_or(0, Set::segments), "segment");
+        let smoothed = match file.path.smoothed_axes().contains(&axis) {
+            true => "smoothed",
+            false => "not smoothed",
+        };
+        let mut words = vec![format!("{smoothed}, {segments}")];
+        if curve.iter().any(|place| !place.1.is_finite()) {
+            words.push("not drawn where its values are not finite".to_string());
+        }
+        Self {
+            name: file.names.axis(axis),
+            words,
+            waypoints: Vec::new(),
+            curve,
+            ends: set.map_or_else(Vec::new, |set| set.ends(&file.path)),
+            up: up.widened(0.05),
+            distance: None,
         }
     }
 
     /// The height of the heading.
     fn head(&self) -> f64 {
-        if self.margin.is_some() { 70. } else { 50. }
+        20. * (1 + self.words.len()) as f64 + 10.
     }
 
     fn height(&self) -> f64 {
-        let lower = if self.margin.is_some() {
+        let lower = if self.distance.is_some() {
             GAP + LOWER
         } else {
             0.
         };
         self.head() + UPPER + lower + 56.
     }
+}
 
-    /// The scale of the distances: the certified figure is in it unless it is far above the tolerance.
-    fn distances(&self) -> Range {
-        let tolerance = self.margin.map_or(1., |margin| margin.tolerance);
-        let figure = self.margin.and_then(|margin| margin.figure).unwrap_or(0.);
+impl Distance<'_> {
+    /// Tolerance, certified figure, and where the axis is furthest from its line.
+    fn words(&self, lane: &Lane) -> Vec<String> {
+        let figure = self.margin.figure.map_or("none".to_string(), rounded_up);
+        let (tolerance, share) = (number(self.margin.tolerance), self.margin.share());
+        let depth = report::at_depth(lane);
+        let mut words = vec![format!(
+            "tolerance {tolerance}; certified{depth} {figure}, {share} of it"
+        )];
+        if let Some(spot) = &self.furthest {
+            let at = rounded_up(spot.parameter);
+            let between = spot.between(lane).unwrap_or_default();
+            let name = clipped(&lane.names.parameter, 40);
+            words.push(format!(
+                "furthest from the line about {name} {at}, {between}"
+            ));
+        }
+        words
+    }
+
+    /// The scale: the certified figure is in it unless it is far above the tolerance.
+    fn scale(&self) -> Range {
+        let tolerance = self.margin.tolerance;
+        let figure = self.margin.figure.unwrap_or(0.);
         let high = if figure <= 3. * tolerance {
             figure.max(tolerance)
         } else {
@@ -185,66 +180,109 @@ impl<'a> Block<'a> {
     }
 }
 
+/// What is added to a title.
+fn back(driven_back: bool) -> &'static str {
+    if driven_back { ", driven back" } else { "" }
+}
+
 /// The picture of a lane and its path, with what the build did in words.
-pub fn draw(lane: &Lane, path: &Path, built: &str) -> Result<String, PathError> {
-    let sampled = Sampled::new(lane, path)?;
+pub fn of_lane(lane: &Lane, path: &Path, built: &str) -> Result<String, PathError> {
+    let sampled = Sampled::of_lane(lane, path)?;
     let margins = Margin::all(lane, path)?;
-    let blocks: Vec<Block> = (0..lane.d())
-        .map(|axis| Block::new(lane, &sampled, &margins, axis))
+    let blocks = (0..lane.d())
+        .map(|axis| Block::of_lane((lane, path), &sampled, &margins, axis))
         .collect();
-    let left = left(&blocks);
-    let across = Range::of(sampled.parameters.iter().copied());
-    let across = across.unwrap_or(Range { low: 0., high: 1. });
+    let picture = Picture {
+        title: format!("{}, smoothed{}", lane.names.file_name(), back(lane.back)),
+        made: format!("{}, {built}", counted(lane.n(), "waypoint")),
+        legend: &[
+            "point",
+            "line",
+            "curve",
+            "break",
+            "band",
+            "distance",
+            "tolerance",
+            "certified",
+            "mark",
+        ],
+        parameter: &lane.names.parameter,
+        across: range(sampled.parameters.iter().copied()),
+        blocks,
+    };
+    Ok(picture.drawn())
+}
 
-    let mut body = Svg(String::new());
-    let back = if lane.back { ", driven back" } else { "" };
-    let title = format!("{}, smoothed{back}", lane.file_name());
-    body.text((20., 34.), "class=\"title\"", &title);
-    let made = format!("{}, {built}", counted(lane.n(), "waypoint"));
-    body.text((20., 56.), "", &made);
-    let mut top = legend(&mut body, 76., margins.is_empty());
-    for block in &blocks {
-        let upper = Frame {
-            left,
-            top: top + block.head(),
-            width: WIDTH - left - RIGHT,
-            height: UPPER,
-            across,
-            up: block.up,
-        };
-        heading(&mut body, lane, &sampled, block, (left, top));
-        upper_frame(&mut body, lane, path, block, &upper);
-        let lowest = match block.margin {
-            Some(margin) => lower_frame(&mut body, lane, &sampled, (block, margin), &upper),
-            None => upper,
-        };
-        across_labels(&mut body, lane, &lowest);
-        top += block.height();
+/// The picture of a lane file.
+pub fn of_file(file: &LaneFile) -> Result<String, PathError> {
+    let sampled = file.sampled()?;
+    let blocks = (0..file.path.dim())
+        .map(|axis| Block::of_file(file, &sampled, axis))
+        .collect();
+    let picture = Picture {
+        title: format!("{}{}", file.names.file_name(), back(file.back)),
+        made: file.made(),
+        legend: &["curve", "break"],
+        parameter: &file.names.parameter,
+        across: range(sampled.parameters.iter().copied()),
+        blocks,
+    };
+    Ok(picture.drawn())
+}
+
+impl Picture<'_> {
+    fn drawn(&self) -> String {
+        let left = left(&self.blocks);
+        let mut body = Svg(String::new());
+        body.text((20., 34.), "class=\"title\"", &self.title);
+        body.text((20., 56.), "", &self.made);
+        let mut top = legend(&mut body, 76., self.legend);
+        for block in &self.blocks {
+            let upper = Frame {
+                left,
+                top: top + block.head(),
+                width: WIDTH - left - RIGHT,
+                height: UPPER,
+                across: self.across,
+                up: block.up,
+            };
+            heading(&mut body, block, (left, top));
+            upper_frame(&mut body, block, &upper);
+            let lowest = match &block.distance {
+                Some(distance) => lower_frame(&mut body, distance, &upper),
+                None => upper,
+            };
+            across_labels(&mut body, self.parameter, &lowest);
+            top += block.height();
+        }
+
+        let height = length(top);
+        let mut svg = Svg(String::new());
+        svg.add(format_args!(
+            "<svg xmlns=\"http://www.w3.org/2000/svg\" viewBox=\"0 0 {WIDTH} {height}\" width=\"{WIDTH}\" height=\"{height}\" role=\"img\">"
+        ));
+        svg.add(format_args!("<title>{}</title>", escaped(&self.title)));
+        svg.add(format_args!("<desc>{}</desc>", escaped(&self.made)));
+        svg.add(format_args!("<style>\n{STYLE}</style>"));
+        svg.rectangle("paper", (0., 0.), (WIDTH, top));
+        svg.0 + &body.0 + "</svg>\n"
     }
-
-    let height = length(top);
-    let mut svg = Svg(String::new());
-    svg.add(format_args!(
-        "<svg xmlns=\"http://www.w3.org/2000/svg\" viewBox=\"0 0 {WIDTH} {height}\" width=\"{WIDTH}\" height=\"{height}\" role=\"img\">"
-    ));
-    svg.add(format_args!("<title>{}</title>", escaped(&title)));
-    svg.add(format_args!("<desc>{}</desc>", escaped(&made)));
-    svg.add(format_args!("<style>\n{STYLE}</style>"));
-    svg.rectangle("paper", (0., 0.), (WIDTH, top));
-    Ok(svg.0 + &body.0 + "</svg>\n")
 }
 
 /// How far from the left edge the frames begin: the ticks' texts stand there.
 fn left(blocks: &[Block]) -> f64 {
-    let ticks = blocks
-        .iter()
-        .flat_map(|block| [block.up.ticks(6), block.distances().ticks(4)]);
-    let longest = ticks.flatten().map(|(_, text)| text.chars().count()).max();
+    let scales = blocks.iter().flat_map(|block| {
+        let distance = block.distance.as_ref();
+        let lower = distance.map(|distance| distance.scale().ticks(4));
+        [Some(block.up.ticks(6)), lower]
+    });
+    let ticks = scales.flatten().flatten();
+    let longest = ticks.map(|(_, text)| text.chars().count()).max();
     48. + CHARACTER * longest.unwrap_or(1) as f64
 }
 
 /// The legend, in as many rows as it needs. Returns where it ends.
-fn legend(svg: &mut Svg, top: f64, nothing_smoothed: bool) -> f64 {
+fn legend(svg: &mut Svg, top: f64, shown: &[&str]) -> f64 {
     let items = [
         ("point", "waypoint"),
         ("line", "line through the waypoints"),
@@ -256,9 +294,8 @@ fn legend(svg: &mut Svg, top: f64, nothing_smoothed: bool) -> f64 {
         ("certified", "certified: no point lies further away"),
         ("mark", "furthest from the line"),
     ];
-    let shown = if nothing_smoothed { 4 } else { items.len() };
     let (mut x, mut y) = (20., top);
-    for (class, text) in items.into_iter().take(shown) {
+    for (class, text) in items.into_iter().filter(|item| shown.contains(&item.0)) {
         let width = 42. + CHARACTER * text.chars().count() as f64 + 14.;
         if x + width > WIDTH - 10. {
             (x, y) = (20., y + 22.);
@@ -282,32 +319,11 @@ fn legend(svg: &mut Svg, top: f64, nothing_smoothed: bool) -> f64 {
 }
 
 /// An axis's name and its numbers.
-fn heading(svg: &mut Svg, lane: &Lane, sampled: &Sampled, block: &Block, (left, top): Place) {
-    let mut line = |i: f64, style: &str, text: &str| svg.text((left, top + 20. * i), style, text);
-    line(1., "class=\"head\"", &clipped(lane.name_of(block.axis), 80));
-    let Some(margin) = block.margin else {
-        line(2., "", "not smoothed: through every waypoint");
-        return;
-    };
-    let figure = margin.figure.map_or("none".to_string(), rounded_up);
-    let (tolerance, share) = (number(margin.tolerance), margin.share());
-    let depth = report::at_depth(lane);
-    line(
-        2.,
-        "",
-        &format!("tolerance {tolerance}; certified{depth} {figure}, {share} of it"),
-    );
-    if let Some(spot) = sampled.furthest(lane, block.axis) {
-        let (at, between) = (
-            rounded_up(spot.parameter),
-            spot.between(lane).unwrap_or_default(),
-        );
-        let name = clipped(lane.parameter_name(), 40);
-        line(
-            3.,
-            "",
-            &format!("furthest from the line about {name} {at}, {between}"),
-        );
+fn heading(svg: &mut Svg, block: &Block, (left, top): Place) {
+    let name = clipped(block.name, 80);
+    svg.text((left, top + 20.), "class=\"head\"", &name);
+    for (i, words) in block.words.iter().enumerate() {
+        svg.text((left, top + 20. * (i + 2) as f64), "", words);
     }
 }
 
@@ -354,40 +370,35 @@ fn scale(svg: &mut Svg, frame: &Frame, ticks: usize, name: &str) {
 }
 
 /// Waypoints, line, curve and tolerance.
-fn upper_frame(svg: &mut Svg, lane: &Lane, path: &Path, block: &Block, frame: &Frame) {
-    scale(svg, frame, 6, lane.name_of(block.axis));
-    let waypoints: Vec<(f64, f64)> = (0..lane.n())
-        .map(|i| (lane.parameter(i), lane.point(i, block.axis)))
-        .collect();
-    if let Some(margin) = block.margin {
+fn upper_frame(svg: &mut Svg, block: &Block, frame: &Frame) {
+    scale(svg, frame, 6, block.name);
+    if let Some(distance) = &block.distance {
+        let tolerance = distance.margin.tolerance;
         let moved = |by: f64| -> Vec<Place> {
-            let places: Vec<Place> = waypoints
+            let places: Vec<Place> = block
+                .waypoints
                 .iter()
                 .map(|(x, y)| (frame.x(*x), frame.y(y + by)))
                 .collect();
             straightened(&columns(&places, 1.))
         };
-        let (above, below) = (moved(margin.tolerance), moved(-margin.tolerance));
+        let (above, below) = (moved(tolerance), moved(-tolerance));
         let around: Vec<Place> = above.iter().chain(below.iter().rev()).copied().collect();
         svg.path("band", &[around], "Z");
         svg.path("edge", &[above, below], "");
     }
-    svg.path("line", &frame.lines(&waypoints), "");
+    svg.path("line", &frame.lines(&block.waypoints), "");
     svg.path("curve", &frame.lines(&block.curve), "");
-    let breaks = if block.margin.is_some() {
-        path.breaks()
-    } else {
-        path.other_breaks()
-    };
-    let (start, end) = path.s_range();
-    let places: Vec<Place> = breaks
+    let places: Vec<Place> = block
+        .ends
         .iter()
-        .map(|b| (frame.x(start + b * (end - start)), frame.bottom()))
+        .map(|end| (frame.x(*end), frame.bottom()))
         .collect();
     for (x, y) in columns(&places, 2.) {
         svg.line("break", (x, y), (x, y - 7.));
     }
-    let places: Vec<Place> = waypoints
+    let places: Vec<Place> = block
+        .waypoints
         .iter()
         .map(|(x, y)| (frame.x(*x), frame.y(*y)))
         .collect();
@@ -407,29 +418,23 @@ fn upper_frame(svg: &mut Svg, lane: &Lane, path: &Path, block: &Block, frame: &F
 }
 
 /// The distance between curve and line, with tolerance and certified figure.
-fn lower_frame(
-    svg: &mut Svg,
-    lane: &Lane,
-    sampled: &Sampled,
-    (block, margin): (&Block, &Margin),
-    upper: &Frame,
-) -> Frame {
+fn lower_frame(svg: &mut Svg, distance: &Distance, upper: &Frame) -> Frame {
     let frame = Frame {
         top: upper.bottom() + GAP,
         height: LOWER,
-        up: block.distances(),
+        up: distance.scale(),
         ..*upper
     };
     scale(svg, &frame, 4, "distance");
-    let lines = frame.lines(&sampled.distance(lane, block.axis));
+    let lines = frame.lines(&distance.curve);
     let areas: Vec<Vec<Place>> = lines
         .iter()
         .map(|line| grounded(line, frame.bottom()))
         .collect();
     svg.path("area", &areas, "Z");
     svg.path("distance", &lines, "");
-    levels(svg, &frame, margin);
-    if let Some(spot) = sampled.furthest(lane, block.axis) {
+    levels(svg, &frame, distance.margin);
+    if let Some(spot) = &distance.furthest {
         let place = (frame.x(spot.parameter), frame.y(spot.distance));
         svg.line("spot", (place.0, upper.top), (place.0, frame.bottom()));
         svg.diamond(place);
@@ -479,13 +484,13 @@ fn levels(svg: &mut Svg, frame: &Frame, margin: &Margin) {
 }
 
 /// The texts of the parameters' scale.
-fn across_labels(svg: &mut Svg, lane: &Lane, frame: &Frame) {
+fn across_labels(svg: &mut Svg, parameter: &str, frame: &Frame) {
     for (x, text) in frame.across.ticks(8) {
         let place = (frame.x(x), frame.bottom() + 17.);
         svg.text(place, "class=\"tick\" text-anchor=\"middle\"", &text);
     }
     let place = (frame.left + frame.width / 2., frame.bottom() + 36.);
-    let name = clipped(lane.parameter_name(), 80);
+    let name = clipped(parameter, 80);
     svg.text(place, "text-anchor=\"middle\"", &name);
 }
 
@@ -508,9 +513,8 @@ mod tests {
     }
 
     #[test]
-    fn names_are_escaped_and_clipped() {
-        assert_eq!(escaped("<a&\"b\">"), "&lt;a&amp;&quot;b&quot;&gt;");
+    fn names_are_clipped() {
         assert_eq!(clipped("abc", 2), "ab…");
-        assert_eq!(length(-0.001), "0");
+        assert_eq!(clipped("abc", 3), "abc");
     }
 }

@@ -3,6 +3,7 @@
 use crate::lane::{Lane, Source};
 use crate::options::Options;
 use crate::sampled::Sampled;
+use crate::sets::sets;
 use crate::{counted, number, tolerance_at};
 use pamitoye::{MAX_REFINEMENTS, MAX_SEGMENTS, Path, PathError, Spacing, chord_parameters};
 use std::fmt::Write;
@@ -64,13 +65,13 @@ pub fn at_depth(lane: &Lane) -> String {
 /// The first line: what was read.
 fn input(lane: &Lane) -> String {
     let axes = crate::axes(lane.d());
-    let parameters = match &lane.source {
-        Source::Listed(name) => format!("parameters from {name}"),
+    let parameters = match lane.source {
+        Source::Listed => format!("parameters from {}", lane.names.parameter),
         Source::Spaced(Spacing::Even) => "even parameters".to_string(),
         Source::Spaced(Spacing::Chord) => "parameters by chord length".to_string(),
     };
     let waypoints = counted(lane.n(), "waypoint");
-    format!("{}: {waypoints}, {axes}, {parameters}\n", lane.name)
+    format!("{}: {waypoints}, {axes}, {parameters}\n", lane.names.input)
 }
 
 /// What the build did.
@@ -97,7 +98,7 @@ pub fn accepted(out: (&Lane, &Path), back: Option<(&Lane, &Path)>) -> Result<Str
     let column = |cell: fn(&Margin) -> String| margins.iter().map(cell).collect::<Vec<_>>();
     let names = margins
         .iter()
-        .map(|margin| lane.name_of(margin.axis).to_string());
+        .map(|margin| lane.names.axis(margin.axis).to_string());
     let mut columns = vec![
         ("axis", names.collect()),
         ("tolerance", column(|m| number(m.tolerance))),
@@ -126,7 +127,7 @@ pub fn accepted(out: (&Lane, &Path), back: Option<(&Lane, &Path)>) -> Result<Str
         text += "error out: what the audit of the way out found; the way back is not audited, it is certified anew.\n";
     }
     for margin in margins.iter().filter(|margin| !margin.within()) {
-        let name = lane.name_of(margin.axis);
+        let name = lane.names.axis(margin.axis);
         let found = if back.is_some() {
             "the way out within its tolerance; of the way back that is not certified"
         } else {
@@ -134,7 +135,7 @@ pub fn accepted(out: (&Lane, &Path), back: Option<(&Lane, &Path)>) -> Result<Str
         };
         let _ = writeln!(text, "{name}: the audit, in rounded numbers, found {found}");
     }
-    if let Ok(sampled) = Sampled::new(lane, path) {
+    if let Ok(sampled) = Sampled::of_lane(lane, path) {
         for margin in &margins {
             text += &furthest(lane, &sampled, margin).unwrap_or_default();
         }
@@ -167,37 +168,36 @@ fn driven_back((lane, path): (&Lane, &Path), back: &Lane) -> String {
         "driven back: from line {} to line {}; {} is {} + ({} - {})\n",
         first.copied().unwrap_or_default(),
         last.copied().unwrap_or_default(),
-        back.parameter_name(),
+        back.names.parameter,
         number(start),
         number(end),
-        lane.parameter_name()
+        lane.names.parameter
     )
 }
 
 /// The line about the axes that are not smoothed, if there are any.
 fn others(lane: &Lane, path: &Path) -> String {
-    let others = (0..lane.d()).filter(|axis| !path.smoothed_axes().contains(axis));
-    let names: Vec<&str> = others.map(|axis| lane.name_of(axis)).collect();
-    if names.is_empty() {
+    let [_, others] = sets(path);
+    if others.axes.is_empty() {
         return String::new();
     }
-    let count = path.other_breaks().len().saturating_sub(1);
-    let (names, segments) = (names.join(", "), counted(count, "segment"));
+    let names = lane.names.listed(&others.axes);
+    let segments = counted(others.segments(), "segment");
     format!("not smoothed, through every waypoint: {names}; {segments}\n")
 }
 
 /// Where the axis is furthest from its line, as far as was looked.
 fn furthest(lane: &Lane, sampled: &Sampled, margin: &Margin) -> Option<String> {
     let spot = sampled.furthest(lane, margin.axis)?;
-    let (name, at) = (lane.name_of(margin.axis), number(spot.parameter));
-    let (parameter, between) = (lane.parameter_name(), spot.between(lane)?);
+    let (name, at) = (lane.names.axis(margin.axis), number(spot.parameter));
+    let (parameter, between) = (&lane.names.parameter, spot.between(lane)?);
     Some(format!(
         "{name} lies furthest from its line about {parameter} {at}, {between}\n"
     ))
 }
 
 /// Columns side by side, each below its name.
-fn table(columns: &[(&str, Vec<String>)]) -> String {
+pub fn table(columns: &[(&str, Vec<String>)]) -> String {
     let rows = columns.iter().map(|(_, cells)| cells.len()).max();
     let mut lines = vec![String::new(); 1 + rows.unwrap_or_default()];
     for (name, cells) in columns {
@@ -217,13 +217,18 @@ fn table(columns: &[(&str, Vec<String>)]) -> String {
 
 /// The report of a lane that was turned away, with what is likely to help.
 pub fn refusal(options: &Options, lane: &Lane, error: &PathError) -> String {
-    let mut text = input(lane);
-    let _ = writeln!(text, "refused ({}): {error}", error.number());
-    let _ = writeln!(text, "{}", limit(options, error));
-    if let Some(remedy) = remedy(options, lane, error) {
-        let _ = writeln!(text, "try: {remedy}");
-    }
-    text
+    let limit = limit(options, error) + "\n";
+    input(lane) + &reason(error) + &limit + &advice(remedy(options, lane, error))
+}
+
+/// The line with a refusal's number and its words.
+pub fn reason(error: &PathError) -> String {
+    format!("refused ({}): {error}\n", error.number())
+}
+
+/// The line with what is likely to help, if something is.
+pub fn advice(remedy: Option<String>) -> String {
+    remedy.map_or_else(String::new, |remedy| format!("try: {remedy}\n"))
 }
 
 const LARGER: &str = "a larger --tolerance";
@@ -306,7 +311,7 @@ fn falls(lane: &Lane) -> Option<String> {
     let (before, after) = (list.get(place)?, list.get(place + 1)?);
     Some(format!(
         "lines in the order of {}; in line {} it is {}, after {}",
-        lane.parameter_name(),
+        lane.names.parameter,
         lane.lines.get(place + 1)?,
         number(*after),
         number(*before)
@@ -322,7 +327,7 @@ fn too_close(lane: &Lane) -> Option<String> {
         "lines {} and {} further apart in {}, or one of them left out; on the way back they are not told apart",
         lines.last()?,
         lines.first()?,
-        lane.parameter_name()
+        lane.names.parameter
     ))
 }
 

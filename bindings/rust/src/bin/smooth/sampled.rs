@@ -3,20 +3,30 @@
 use crate::lane::Lane;
 use pamitoye::{Path, PathError};
 
-/// About how many parameters are taken, if there are fewer waypoints.
+/// About how many parameters are taken, if there are fewer intervals.
 const SAMPLES: usize = 4000;
 
-/// The curve at parameters on every waypoint interval, its ends included.
+/// The curve at parameters on every interval of a list, its ends included.
 pub struct Sampled {
     pub parameters: Vec<f64>,
-    /// The waypoint interval of each parameter, and how far in it lies, from 0 to 1.
+    /// The interval of each parameter, and how far in it lies, from 0 to 1.
     places: Vec<(usize, f64)>,
+    /// Of each parameter, an axis after the other.
     values: Vec<f64>,
+    /// How many axes there are.
+    d: usize,
 }
 
 impl Sampled {
-    pub fn new(lane: &Lane, path: &Path) -> Result<Self, PathError> {
-        let intervals = lane.n().saturating_sub(1);
+    /// The path on every interval between waypoints.
+    pub fn of_lane(lane: &Lane, path: &Path) -> Result<Self, PathError> {
+        Self::new(path, &lane.parameters)
+    }
+
+    /// The path on every interval between these parameters, which rise.
+    pub fn new(path: &Path, list: &[f64]) -> Result<Self, PathError> {
+        let intervals = list.len().saturating_sub(1);
+        let at = |i: usize| list.get(i).copied().unwrap_or(f64::NAN);
         let steps = SAMPLES.checked_div(intervals).unwrap_or(0).max(2);
         let (start, end) = path.s_range();
         let mut places: Vec<(usize, f64)> = (0..intervals)
@@ -25,22 +35,20 @@ impl Sampled {
         places.push((intervals.saturating_sub(1), 1.));
         let parameters: Vec<f64> = places
             .iter()
-            .map(|(i, part)| {
-                let (left, right) = (lane.parameter(*i), lane.parameter(i + 1));
-                between(left, right, *part).clamp(start, end)
-            })
+            .map(|(i, part)| between(at(*i), at(i + 1), *part).clamp(start, end))
             .collect();
         let values = path.evaluate_q(&parameters)?.q;
         Ok(Self {
             parameters,
             places,
             values,
+            d: path.dim(),
         })
     }
 
     /// An axis's curve.
-    pub fn curve(&self, lane: &Lane, axis: usize) -> Vec<(f64, f64)> {
-        let values = self.values.iter().skip(axis).step_by(lane.d().max(1));
+    pub fn curve(&self, axis: usize) -> Vec<(f64, f64)> {
+        let values = self.values.iter().skip(axis).step_by(self.d.max(1));
         self.parameters
             .iter()
             .copied()
@@ -48,9 +56,9 @@ impl Sampled {
             .collect()
     }
 
-    /// An axis's distance from its line.
+    /// An axis's distance from its line, where the intervals are those between the lane's waypoints.
     pub fn distance(&self, lane: &Lane, axis: usize) -> Vec<(f64, f64)> {
-        let curve = self.curve(lane, axis);
+        let curve = self.curve(axis);
         let places = curve.iter().zip(&self.places);
         places
             .map(|((x, value), (i, part))| {

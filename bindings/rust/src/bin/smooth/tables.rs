@@ -1,41 +1,29 @@
 //! Segments and samples as CSV.
 
 use crate::csv::quoted;
-use crate::lane::Lane;
+use crate::names::Names;
 use crate::number;
 use crate::options::Options;
+use crate::sets::sets;
 use pamitoye::{Path, PathError};
 use std::fmt::Write;
 
 /// The segments of both sets.
-pub fn segments(lane: &Lane, path: &Path) -> String {
+pub fn segments(names: &Names, path: &Path) -> String {
     let mut text = "axis,set,segment,left,right,p0,p1,p2,p3,p4,p5\n".to_string();
-    let smoothed = path.smoothed_axes();
-    let others: Vec<usize> = (0..path.dim()).filter(|a| !smoothed.contains(a)).collect();
-    let sets = [
-        ("smoothed", smoothed, path.breaks(), path.coefficients()),
-        (
-            "other",
-            &others,
-            path.other_breaks(),
-            path.other_coefficients(),
-        ),
-    ];
-    for (set, axes, breaks, coefficients) in sets {
-        let rows = coefficients.chunks_exact((6 * axes.len()).max(1));
-        for (segment, (ends, row)) in breaks.windows(2).zip(rows).enumerate() {
-            for (axis, powers) in axes.iter().zip(row.chunks_exact(6)) {
-                let name = quoted(lane.name_of(*axis));
-                let numbers: Vec<String> = ends.iter().chain(powers).map(|x| number(*x)).collect();
-                let _ = writeln!(text, "{name},{set},{segment},{}", numbers.join(","));
-            }
+    for set in sets(path) {
+        for piece in set.pieces() {
+            let (name, segment) = (quoted(names.axis(piece.axis)), piece.segment);
+            let numbers = piece.ends.iter().chain(piece.powers);
+            let numbers: Vec<String> = numbers.map(|x| number(*x)).collect();
+            let _ = writeln!(text, "{name},{},{segment},{}", set.name, numbers.join(","));
         }
     }
     text
 }
 
 /// Values and three derivatives, evenly over the range that is asked for.
-pub fn samples(options: &Options, lane: &Lane, path: &Path) -> Result<String, PathError> {
+pub fn samples(options: &Options, names: &Names, path: &Path) -> Result<String, PathError> {
     let (start, end) = path.s_range();
     let (from, to) = (options.from.unwrap_or(start), options.to.unwrap_or(end));
     let last = options.count.saturating_sub(1).max(1);
@@ -51,8 +39,8 @@ pub fn samples(options: &Options, lane: &Lane, path: &Path) -> Result<String, Pa
         .collect();
     let lists = path.evaluate_up_to_3rd(&parameters)?;
     let orders = [Some(lists.q), lists.dq, lists.ddq, lists.dddq].map(Option::unwrap_or_default);
-    let mut text = quoted(lane.parameter_name());
-    for axis in &lane.names {
+    let mut text = quoted(&names.parameter);
+    for axis in &names.axes {
         for order in ["", " d1", " d2", " d3"] {
             let _ = write!(text, ",{}", quoted(&format!("{axis}{order}")));
         }
@@ -60,9 +48,9 @@ pub fn samples(options: &Options, lane: &Lane, path: &Path) -> Result<String, Pa
     text.push('\n');
     for (i, x) in parameters.iter().enumerate() {
         text.push_str(&number(*x));
-        for axis in 0..lane.d() {
+        for axis in 0..path.dim() {
             for order in &orders {
-                let cell = order.get(i * lane.d() + axis).copied();
+                let cell = order.get(i * path.dim() + axis).copied();
                 let _ = write!(text, ",{}", number(cell.unwrap_or(f64::NAN)));
             }
         }
