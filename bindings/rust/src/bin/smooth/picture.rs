@@ -512,6 +512,37 @@ mod tests {
         }
     }
 
+    /// Two segments, one coefficient of the second odd, over wide and narrow ranges: every place and every tick is a number.
+    #[test]
+    fn odd_curves_are_drawn() {
+        let odd = [f64::NAN, f64::INFINITY, f64::MAX, f64::MIN, 1e-320, -0.];
+        let ranges = [[0., 1.], [-1e308, 7e307], [0., 5e-324], [1e300, 1.1e300]];
+        for (number, power) in odd.into_iter().flat_map(|x| (0..6).map(move |p| (x, p))) {
+            for range in ranges {
+                let mut second = [0.; 6];
+                second
+                    .iter_mut()
+                    .skip(power)
+                    .take(1)
+                    .for_each(|p| *p = number);
+                let breaks = [0., 0.5, 1.];
+                let numbers = [&range[..], &breaks, &[0.; 6], &second].concat();
+                let bytes = numbers.iter().flat_map(|x| x.to_le_bytes());
+                let bytes: Vec<u8> = [1, 1, 0, 0, 2, 0].into_iter().chain(bytes).collect();
+                let file = LaneFile::read("f", &bytes);
+                let svg = file.map(|file| of_file(&file).unwrap_or_default());
+                let body = svg.as_ref().map(|svg| svg.rsplit("</style>").next());
+                let mut words = body.ok().flatten().into_iter().flat_map(words);
+                assert!(words.clone().any(|word| word == "curve"));
+                assert!(words.all(|word| word != "NaN" && word != "inf"));
+            }
+        }
+    }
+
+    fn words(text: &str) -> impl Iterator<Item = &str> + Clone {
+        text.split(|c: char| !c.is_alphabetic())
+    }
+
     #[test]
     fn names_are_clipped() {
         assert_eq!(clipped("abc", 2), "ab…");

@@ -59,7 +59,8 @@ impl Range {
         let mut ticks: Vec<(f64, String)> = Vec::new();
         for i in 0..=2 * most {
             let x = (first + i as f64) * step;
-            if x > self.high + step * 1e-6 || ticks.last().is_some_and(|(before, _)| x <= *before) {
+            let above = x > self.high + step * 1e-6 || x.is_infinite();
+            if above || ticks.last().is_some_and(|(before, _)| x <= *before) {
                 break;
             }
             if x >= self.low - step * 1e-6 {
@@ -235,6 +236,7 @@ mod tests {
         assert!((5..=6).contains(&texts(1e6, 1e6 + 1e-3).len()));
         assert_eq!(texts(0., 3e-9), ["0", "1e-9", "2e-9", "3e-9"]);
         assert_eq!(texts(-1.7e308, 1.7e308).len(), 2);
+        assert_eq!(texts(1.5e308, f64::MAX), ["1.5e308", "1.6e308", "1.7e308"]);
         assert!(texts(5e-324, 1e-323).len() < 12);
         assert!(texts(f64::NAN, f64::NAN).len() < 12);
     }
