@@ -470,10 +470,14 @@ fn groups_that_do_not_read() {
                 assert_eq!(refused(&with(&[&open[..], more].concat())), Some(27));
             }
         }
-        // Four groups that are as short as can be.
-        let head = groups(2_097_152);
-        assert_eq!(head.len(), 4);
-        assert_eq!(refused(&[head, file.bytes()].concat()), Some(27));
+    }
+    // Four groups where nothing else is wrong with the groups, beside three.
+    assert_eq!([2_097_151, 2_097_152].map(|n| groups(n).len()), [3, 4]);
+    for (large, wanted) in [(2_097_151, 24), (2_097_152, 27)] {
+        let axes = two_sets().with(|f| f.axes[1] = large);
+        assert_eq!(refused(&axes.bytes()), Some(wanted));
+        let d = File::even(large, 1, 1, 0);
+        assert_eq!(refused(&d.bytes()), Some(wanted));
     }
 }
 
