@@ -268,6 +268,8 @@ struct Seen {
     /// Smoothed axes that are not in rising order.
     unordered: usize,
     clamped: usize,
+    /// Paths that differ from the one before.
+    unequal: usize,
     /// Counts of segments in two groups.
     two_groups: usize,
     reversed: usize,
@@ -278,14 +280,24 @@ struct Seen {
 #[test]
 fn drawn_paths() {
     let (mut r, mut seen) = (Random::new(1), Seen::default());
+    let mut before: Option<(Vec<u8>, Path)> = None;
     for _ in 0..4000 {
         let request = odd::request(&mut r);
-        let shape = (request.d, request.n);
-        let config = request.config.clone().into();
-        let Ok(path) = Path::from_waypoints_fitting(&request.points, shape, config) else {
+        let build = || {
+            let (shape, config) = ((request.d, request.n), request.config.clone().into());
+            Path::from_waypoints_fitting(&request.points, shape, config)
+        };
+        let Ok(path) = build() else {
             continue;
         };
         let (file, read) = there_and_back(&path);
+        if r.chance(10) {
+            assert_eq!(build().unwrap().to_lane_file().as_ref(), Ok(&file));
+        }
+        if let Some((other_file, other)) = before.replace((file.clone(), path.clone())) {
+            assert_eq!(other_file == file, same_curve(&other, &path));
+            seen.unequal += usize::from(other_file != file);
+        }
         seen.paths += 1;
         seen.axes[path.dim()] += 1;
         seen.others += usize::from(!path.other_breaks().is_empty());
@@ -316,7 +328,7 @@ fn drawn_paths() {
     assert!(seen.paths > 1500 && seen.others > 200 && seen.unordered > 100);
     assert!(seen.clamped > 500 && seen.two_groups > 20 && seen.reversed > 1500);
     assert!(seen.axes[1..].iter().all(|count| *count > 0));
-    assert!(seen.values > 100_000 && seen.figures > 2000);
+    assert!(seen.values > 100_000 && seen.figures > 2000 && seen.unequal > 1000);
 }
 
 /// A path by chords is certified as before once it was read, where its parameters are listed.

@@ -96,7 +96,7 @@ impl LaneFile {
         for (words, set) in [("smoothed", &smoothed), ("not smoothed", &others)] {
             if !set.axes.is_empty() {
                 let segments = counted(set.segments(), "segment");
-                let _ = writeln!(text, "{words}: {}; {segments}", names.listed(&set.axes));
+                let _ = writeln!(text, "{words}: {}; {segments}", names.joined(&set.axes));
             }
         }
         text += &self.not_finite();
@@ -128,7 +128,7 @@ impl LaneFile {
             .collect();
         axes.sort_unstable();
         axes.dedup();
-        let names = self.names.listed(&axes);
+        let names = self.names.joined(&axes);
         format!(
             "warning: coefficients that are not finite: {count} of {all}, in {names}; \
              no value of their segments is finite\n"

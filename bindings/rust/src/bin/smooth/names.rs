@@ -16,7 +16,7 @@ impl Names {
     }
 
     /// The names of these axes, in their order.
-    pub fn listed(&self, axes: &[usize]) -> String {
+    pub fn joined(&self, axes: &[usize]) -> String {
         let names: Vec<&str> = axes.iter().map(|axis| self.axis(*axis)).collect();
         names.join(", ")
     }

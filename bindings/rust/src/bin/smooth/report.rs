@@ -181,7 +181,7 @@ fn others(lane: &Lane, path: &Path) -> String {
     if others.axes.is_empty() {
         return String::new();
     }
-    let names = lane.names.listed(&others.axes);
+    let names = lane.names.joined(&others.axes);
     let segments = counted(others.segments(), "segment");
     format!("not smoothed, through every waypoint: {names}; {segments}\n")
 }
