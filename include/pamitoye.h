@@ -233,8 +233,9 @@ uint64_t pamitoye_evaluate_all(
     size_t *refused_at);
 
 /* As pamitoye_evaluate, for a curve that is known to be well formed: an accepted build's, a return
- * lane, or one of which pamitoye_well_formed has said so. The curve is not tested, which takes time
- * that grows with its segments; if it is not well formed the call is undefined. Never 24. */
+ * lane, one that pamitoye_read_lane has read, or one of which pamitoye_well_formed has said so. The
+ * curve is not tested, which takes time that grows with its segments; if it is not well formed the
+ * call is undefined. Never 24. */
 uint64_t pamitoye_evaluate_formed(
     size_t d, size_t k, const size_t axes[16], double start, double end, bool clamp,
     size_t segments, size_t other_segments,
@@ -328,6 +329,7 @@ uint64_t pamitoye_return_lane(
  * Coefficients and widths are passed as bit patterns, uint64_t, since they may be NaNs, whose bits
  * travel unchanged. Where they are kept as doubles the same memory is passed, and nothing is copied:
  *     (const uint64_t *)coefficients        (uint64_t *)coefficients
+ * (the library is machine code of its own, so that C's rule of aliasing does not bear on it).
  * The doubles there then have the bits that the file has, also where they are NaNs, as long as they
  * are moved as memory (memcpy, fwrite); a double that went through arithmetic, or on some machines
  * through a register, is still a NaN, but its bits may be others.
