@@ -94,6 +94,19 @@ if command -v cc > /dev/null && [ "$(uname -m)" = x86_64 ]; then
 else
     echo "skipped: cc for x86-64 is not at hand; the examples in C are not compiled"
 fi
+if command -v cc > /dev/null && command -v python3 > /dev/null && [ "$(uname -m)" = x86_64 ]; then
+    python3 oracle/lane_files.py store | cmp - oracle/lane_files.txt ||
+        fail "oracle/lane_files.txt is not what 'oracle/lane_files.py store' prints"
+    cc -shared -o "$scratch/pamitoye.so" -Wl,--whole-archive target/staticlib/libpamitoye.a -Wl,--no-whole-archive ||
+        fail "the archive does not become a shared object"
+    python3 oracle/lane_files.py replay "$scratch/pamitoye.so" oracle/lane_files.txt ||
+        fail "a lane file differs from the stored list"
+    python3 oracle/lane_files.py compare "$scratch/pamitoye.so" 1500 > "$scratch/log" ||
+        fail "a lane file differs from the second writer or reader"
+    tail -n 1 "$scratch/log"
+else
+    echo "skipped: cc for x86-64 or python3 is not at hand; lane files are not compared with the second writer and reader"
+fi
 
 echo "== the crate for Rust, and the program smooth"
 if command -v cargo > /dev/null; then
