@@ -7,6 +7,7 @@ pub(crate) use standin::DMatrixView;
 mod builds;
 mod certificates;
 mod declared;
+mod lane_files;
 mod leaves;
 mod numbers;
 mod queries;
@@ -88,5 +89,8 @@ fn main() {
     }
     if asked("spacings") {
         spacings::run();
+    }
+    if asked("lane_files") {
+        lane_files::run();
     }
 }
