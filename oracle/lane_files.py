@@ -384,10 +384,10 @@ def ends(r):
 
 
 def made(r, d, k, segments, other_segments):
-    """A well-formed curve of these counts; the cells of axes from k on are any."""
+    """A curve of these counts, well formed where they allow it; the cells of axes from k on are any."""
     start, end = ends(r)
     breaks, other_breaks = rising(r, segments), rising(r, other_segments) if k < d else b""
-    rest = [r.pick([0, r.below(d), r.next()]) for _ in range(16 - k)]
+    rest = [r.pick([0, r.below(d or 1), r.next()]) for _ in range(16 - k)]
     slices = [breaks, coefficients(r, 6 * segments * k) + widths(breaks),
               other_breaks, coefficients(r, 6 * other_segments * (d - k)) + widths(other_breaks)]
     return Curve(d, k, r.chosen(d, k) + rest, start, end, r.below(2), segments, other_segments if k < d else 0, slices)
@@ -487,6 +487,11 @@ def needless_others(r, c):
     return more
 
 
+def outside(r, c):
+    """No axes, none selected, or too many, in slices that fit."""
+    return made(r, *r.pick([(0, 0), (c.d, 0), (17, r.between(1, 16)), (r.between(18, 40), c.k)]), c.segments, c.segments)
+
+
 SPOILS = {
     "another d": lambda r, c: c.with_(d=r.pick([0, c.d - 1, c.d + 1, *FAR])),
     "another k": lambda r, c: c.with_(k=r.pick([0, c.k - 1, c.k + 1, *FAR])),
@@ -499,7 +504,33 @@ SPOILS = {
     "another length": other_length,
     "other ends": other_ends,
     "needless others": needless_others,
+    "d or k outside": outside,
 }
+
+
+def known_spoils(r):
+    """Each condition of being well formed broken once, in both sets, and all else as it should be."""
+    c, whole = made(r, 2, 1, 2, 2), made(r, 2, 2, 1, 0)
+    yield from [whole.with_(axes=[0, 0]), whole.with_(axes=[0, 2]), c.with_(axes=[2])]
+    yield from [made(r, 0, 0, 1, 0), made(r, 2, 0, 1, 1), made(r, 17, 16, 1, 1)]
+    for name in ("d", "k", "segments", "other_segments"):
+        yield from [c.with_(**{name: getattr(c, name) + more}) for more in (-1, 1)]
+    for i in (0, 2):
+        first, middle, last = (c.slices[i][j:j + 8] for j in (0, 8, 16))
+        yield from [c.with_slice(i, b"".join(b)).with_widths() for b in [
+            (first, first, last), (first, last, last), (last, middle, first), (first, cells_of([math.nan]), last),
+            (first, cells_of([-1.0]), last), (first, cells_of([2.0]), last), (cells([1]), middle, last),
+            (first, middle, cells_of([1 + 2.0**-52])), (first, cells([1]), cells_of([1 - 2.0**-53]))]]
+    for i in (1, 3):
+        rest, width = c.slices[i][:-8], int.from_bytes(c.slices[i][-8:], "little")
+        yield from [c.with_slice(i, rest + cells([w])) for w in (width ^ 1, width ^ 1 << 63, 0, NANS[0], NANS[-1])]
+    for i in range(4):
+        yield from [c.with_slice(i, c.slices[i] + MARK), c.with_slice(i, c.slices[i][:-8])]
+    for start, end in [(math.nan, 1.0), (0.0, math.nan), (-math.inf, 1.0), (0.0, math.inf), (1.0, 1.0), (-0.0, 0.0), (1.0, 0.0),
+                       (-MOST, MOST)]:
+        yield c.with_(start=pattern(start), end=pattern(end))
+    for count, *slices in [(1, b"", b""), (1, cells_of([0, 1]), cells_of([1])), (0, cells_of([0, 1]), b""), (0, b"", cells_of([1]))]:
+        yield whole.with_(other_segments=count, slices=whole.slices[:2] + slices)
 
 
 # What is done to a file.
@@ -560,11 +591,9 @@ def any_breaks(r, segments):
 
 
 def headed(r, small=False):
-    """A file that reads, with any numbers in its head; or one whose counts are so large that bytes are missing."""
+    """A file that reads, with any numbers in its head; or one with a d below k, or counts so large that bytes are missing."""
     d = r.pick([0, 1, 2, 3, 16, 17, 40, LARGEST])
-    k = min(d, r.pick([0, 1, 2, 16, 17, 40, d, 300]))
-    if small:
-        k = min(k, 40)
+    k = min(d, r.pick([0, 1, 2, 16, 17, 40, 40 if small else 300]))
     segments, others = r.pick([0, 1, 2]), r.pick([0, 1, 2])
     if 6 * others * (d - k) > 300:
         others = 0
@@ -574,11 +603,18 @@ def headed(r, small=False):
     start, end = r.pick([ends(r), (r.pick(ODD), r.pick(ODD))])
     slices = [any_breaks(r, segments), coefficients(r, 6 * segments * k),
               any_breaks(r, others), coefficients(r, 6 * others * (d - k))]
+    if others == 0 and k > 0 and r.chance(10):
+        d = r.below(k)
     c = Curve(d, k, axes, start, end, r.pick([0, 1, 1, 2, 128, LARGEST]) if r.chance(20) else r.below(2), segments, others, slices)
     if r.chance(20):
         c = c.with_(**{r.pick(["segments", "other_segments"]): r.pick([127, 16384, 20001, LARGEST])})
         return head_of(c) + b"".join([cells([start, end]), *slices])
     return file_of(c)
+
+
+def in_groups(c):
+    """Every whole number fits three groups, so that there are bytes for it."""
+    return max(c.d, c.k, c.segments, c.other_segments, *c.axes[:c.k]) <= LARGEST
 
 
 def any_bytes(r):
@@ -691,7 +727,10 @@ def drawn_turn(library, counts, r, turn):
     compare_write(library, counts, r, "well formed", c)
     compare_change(library, counts, r, c)
     name = r.pick(list(SPOILS))
-    compare_write(library, counts, r, name, SPOILS[name](r, c))
+    spoiled = SPOILS[name](r, c)
+    compare_write(library, counts, r, name, spoiled)
+    if in_groups(spoiled):
+        compare_read(library, counts, r, name, file_of(spoiled))
     file = file_of(c)
     compare_read(library, counts, r, "written", file)
     for _ in range(3):
@@ -758,28 +797,26 @@ def stored_lines():
     r = Random(1)
 
     def small():
-        return curve(r, axes=3, most=3)
+        return curve(r, axes=r.pick([2, 2, 3]), most=3)
 
     lines = []
     for c in [made(r, 16, 16, 1, 0), made(r, 16, 1, 1, 1), made(r, 16, 15, 1, 2), made(r, 1, 1, 128, 0), made(r, 2, 1, 2, 16)]:
         file = file_of(c)
         lines += [write_line(c, len(file)), read_line(file, lengths_in(file))]
-    for _ in range(20):
+    for _ in range(15):
         c = small()
         lines += [write_line(c, rooms(r, c)), read_line(file_of(c), lengths(r, file_of(c)))]
+    for c in known_spoils(r):
+        lines.append(write_line(c, 41 + sum(map(len, c.slices))))
+        lines.append(read_line(file_of(c), [len(file_of(c)) // 8] * 4))
     for spoil in SPOILS.values():
-        for _ in range(7):
+        for _ in range(3):
             c = spoil(r, small())
             lines.append(write_line(c, rooms(r, c)))
-    for damage in DAMAGES.values():
-        for _ in range(9):
-            file = damage(r, file_of(small()))
-            lines.append(read_line(file, lengths(r, file)))
-    for _ in range(40):
-        file = headed(r, small=True)
-        lines.append(read_line(file, lengths(r, file)))
-    for _ in range(8):
-        file = any_bytes(r)
+    damaged = [damage(r, file_of(small())) for damage in DAMAGES.values() for _ in range(6)]
+    c = made(r, 2, 2, 1, 0)
+    above = [c.with_(d=1), c.with_(mode=2), c.with_(mode=128), c.with_(axes=[0, LARGEST]), c.with_(axes=[0, LARGEST + 1])]
+    for file in damaged + list(map(file_of, above)) + [headed(r, small=True) for _ in range(25)] + [any_bytes(r) for _ in range(5)]:
         lines.append(read_line(file, lengths(r, file)))
     return [" ".join(map(str, line)) for line in lines]
 
@@ -819,7 +856,7 @@ def input_lengths(choices, file):
 
 def seeds(directory):
     r = Random(1)
-    files = [file_of(curve(r, axes=4, most=4)) for _ in range(60)] + [file_of(curve(r)) for _ in range(20)]
+    files = [file_of(curve(r, axes=4, most=4)) for _ in range(60)] + [file_of(curve(r, most=4)) for _ in range(20)]
     files += [file_of(made(r, d, k, 1, 1)) for d in range(1, 17) for k in (1, d)] + [file_of(made(r, 1, 1, 128, 0))]
     files += [damage(r, r.pick(files[:60])) for damage in DAMAGES.values() for _ in range(4)] + [headed(r) for _ in range(40)]
     os.makedirs(directory, exist_ok=True)
