@@ -1,9 +1,14 @@
 //! Lane files: the time of writing and of reading one, beside that of copying its breaks and coefficients, in the same
-//! memory, with C's memcpy.
+//! memory, with C's memcpy, and that of the test whether the curve is well formed.
+use crate::declared::declared;
 use crate::random::Random;
 use std::ffi::c_void;
 use std::hint::black_box;
 use std::time::{Duration, Instant};
+
+declared! {
+    pamitoye_well_formed() -> bool;
+}
 
 #[allow(improper_ctypes)]
 unsafe extern "C" {
@@ -148,6 +153,29 @@ impl Lane {
         (number, count)
     }
 
+    fn well_formed(&self) -> bool {
+        unsafe {
+            pamitoye_well_formed(
+                self.d,
+                self.k,
+                &self.axes,
+                self.start,
+                self.end,
+                self.clamp,
+                self.segments,
+                self.other_segments,
+                self.breaks.as_ptr(),
+                self.breaks.len(),
+                self.coefficients.as_ptr().cast(),
+                self.coefficients.len(),
+                self.other_breaks.as_ptr(),
+                self.other_breaks.len(),
+                self.other_coefficients.as_ptr().cast(),
+                self.other_coefficients.len(),
+            )
+        }
+    }
+
     fn read(&mut self, file: &[u8]) -> u64 {
         unsafe {
             pamitoye_read_lane(
@@ -229,6 +257,12 @@ fn times<const N: usize>(
     })
 }
 
+/// Two numbers, to three digits behind the point or, above 10, to one.
+fn shown((least, median): (f64, f64)) -> String {
+    let digits = if least < 10. { 3 } else { 1 };
+    format!("{least:.digits$}, {median:.digits$}")
+}
+
 /// One row.
 fn measure(random: &mut Random, [d, k, n]: [usize; 3], time: Duration) {
     let lane = Lane::new(random, d, k, n);
@@ -242,7 +276,7 @@ fn measure(random: &mut Random, [d, k, n]: [usize; 3], time: Duration) {
     copied[..head].copy_from_slice(&file[..head]);
     let (mut back, mut cells) = (lane.blank(), lane.blank());
     let calls = 1 + (1 << 20) / count;
-    let [write, out, read, in_] = times(
+    let [write, out, read, in_, test] = times(
         time,
         calls,
         [
@@ -250,23 +284,22 @@ fn measure(random: &mut Random, [d, k, n]: [usize; 3], time: Duration) {
             &mut || black_box(&lane).copy_out(&stored, black_box(&mut copied)),
             &mut || assert_eq!(back.read(black_box(&file)), 0),
             &mut || cells.copy_in(&stored, black_box(&file)),
+            &mut || assert!(black_box(&lane).well_formed()),
         ],
     );
     let mut again = vec![0; count];
     again[..head].copy_from_slice(&file[..head]);
     cells.copy_out(&stored, &mut again);
     let alike = written == file && copied == file && again == file && back == lane;
-    let row = |(least, median): (f64, f64), (copy, copy_median): (f64, f64)| {
-        format!(
-            "{least:.2}, {median:.2} | {copy:.2}, {copy_median:.2} | {:.2}, {:.2}",
-            least / copy,
-            median / copy_median
-        )
+    let row = |work: (f64, f64), copy: (f64, f64)| {
+        let ratio = (work.0 / copy.0, work.1 / copy.1);
+        format!("{} | {} | {}", shown(work), shown(copy), shown(ratio))
     };
     println!(
-        "| {d}, {k}, {n} | {count} | {} | {} | {}",
+        "| {d}, {k}, {n} | {count} | {} | {} | {} | {}",
         row(write, out),
         row(read, in_),
+        shown(test),
         if alike { "alike" } else { "DIFFERENT" }
     );
 }
@@ -276,10 +309,18 @@ pub fn run() {
     let seconds = std::env::args().nth(2).and_then(|v| v.parse().ok());
     let time = Duration::from_secs_f64(seconds.unwrap_or(1.));
     println!("lane files, microseconds: the least, the median");
-    println!("| axes, selected, segments | bytes | write | memcpy | ratio | read | memcpy | ratio |");
-    println!("|---|---|---|---|---|---|---|---|");
+    println!(
+        "| axes, selected, segments | bytes | write | memcpy | ratio | read | memcpy | ratio | the test |"
+    );
+    println!("|---|---|---|---|---|---|---|---|---|");
     let mut random = Random::new(1);
-    for size in [[16, 16, 20_000], [16, 8, 20_000], [3, 3, 1_000], [3, 3, 50], [3, 2, 50]] {
+    for size in [
+        [16, 16, 20_000],
+        [16, 8, 20_000],
+        [3, 3, 1_000],
+        [3, 3, 50],
+        [3, 2, 50],
+    ] {
         measure(&mut random, size, time);
     }
 }
