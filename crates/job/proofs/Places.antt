@@ -20,7 +20,7 @@ use Rattle.forms.specs.declared.Found.the-variants.{Number, Nothing}
 use Rattle.forms.specs.Form.{bytes, readBytes, readAll, noRest, readWhole}
 use Rattle.forms.proofs.Exact.{Stepped, stepped, step, not-got, pair, many-count}
 use Rattle.forms.proofs.Places.{number-read, number-bad}
-use Rattle.forms.proofs.Words.{Words, one-word, many-words, then-words, words-whole, words-bad}
+use Rattle.forms.proofs.Words.{Words, bothAt, one-word, many-words, then-words, words-whole, words-bad}
 use Rattle.forms.proofs.Numbers.{patterns, patterns-count, patterns-floats, each-front}
 use Rattle.job.specs.declared.Counts.{Counts}
 use Rattle.job.specs.Job.{Job, countsForm, Numbers, numbersForm, jobWith, aboveLimits, numbered, counted, jobOf}
@@ -44,7 +44,7 @@ module _ (c : Counts) (l : List ℕ) where
   abbrev pub numbersIn : Numbers
   numbersIn = record { first = lowFirst (take 8 l); second = patterns (c .d * c .n) (drop 8 l) }
 
-  abbrev numbers : Words (1 + c .d * c .n) (numbersForm c) _
+  numbers : Words (1 + c .d * c .n) (numbersForm c) (bothAt 1 (λ l. lowFirst (take 8 l)) (patterns (c .d * c .n)))
   numbers = then-words one-word (many-words (c .d * c .n))
 
   -- as many bytes as the numbers have
