@@ -13,7 +13,7 @@ LIBRARY is the archive as a shared object:
     cc -shared -o pamitoye.so -Wl,--whole-archive target/staticlib/libpamitoye.a -Wl,--no-whole-archive
 
 Every number, every output and every cell of every slice is compared, those that have to stay as they were too; each lent
-part lies between marked cells. Status 1 at the first difference."""
+part lies between marked cells, or next to another. Status 1 at the first difference."""
 import collections
 import ctypes
 import dataclasses
@@ -222,29 +222,51 @@ MARK = bytes.fromhex("93C5A76E1BF2D84D")
 EDGE = 4 * MARK
 
 
-class Lent:
-    """A part of a larger buffer, with marked cells before and behind it; `shift` bytes off a multiple of eight."""
-
-    def __init__(self, name, content, shift=0):
-        self.name, self.before = name, EDGE + MARK[:shift]
-        self.content = content
-        self.buffer = bytearray(self.before + content + EDGE)
-        self.address = ctypes.addressof(ctypes.c_char.from_buffer(self.buffer)) + len(self.before)
-        assert self.address % 8 == shift, "the buffer is not aligned"
-
-    def holds(self, content):
-        """Nothing else was written: `content`, what the part held before behind it, and the marks."""
-        return self.buffer == self.before + content + self.content[len(content):] + EDGE
-
-
 class Difference(Exception):
     pass
 
 
+class Lent:
+    """Parts of one buffer, with marked cells around each, or next to each other; `shift` is a part's place modulo eight."""
+
+    def __init__(self, parts, apart):
+        self.buffer, self.names, self.places = bytearray(EDGE), [], []
+        for name, content, shift in parts:
+            self.buffer += MARK[:(shift - len(self.buffer)) % 8]
+            self.names.append(name)
+            self.places.append(len(self.buffer))
+            self.buffer += content + (EDGE if apart else b"")
+        self.buffer += EDGE
+        self.after = bytearray(self.buffer)
+        base = ctypes.addressof(ctypes.c_char.from_buffer(self.buffer))
+        assert base % 8 == 0, "the buffer is not aligned"
+        self.addresses = [base + place for place in self.places]
+
+    def to_be(self, i, content):
+        """Part i is to begin with these bytes after the call; all else is to stay."""
+        self.after[self.places[i]:self.places[i] + len(content)] = content
+
+    def compare(self, got, wanted):
+        if got != wanted:
+            raise Difference(f"number {got}, and not {wanted}")
+        if self.buffer != self.after:
+            at = next(i for i, (x, y) in enumerate(zip(self.buffer, self.after)) if x != y)
+            part = [name for place, name in [(0, "the first cells"), *zip(self.places, self.names)] if place <= at][-1]
+            raise Difference(f"number {got}, but a cell of {part}, or behind it, is not as it must be")
+
+
 SLICES = ["breaks", "coefficients", "other_breaks", "other_coefficients"]
+NUMBERS = ["d", "k", "axes", "start", "end", "clamp", "segments", "other_segments"]
+
+
+def sixteen(axes):
+    return cells((axes + [0] * 16)[:16])
 
 
 class Library:
+    """The library's two functions, asked in memory that is lent with marks; raises Difference unless the answer is as wanted.
+    `place` chooses where the lent parts lie, and what the mode holds before it is read."""
+
     def __init__(self, path):
         library = ctypes.CDLL(os.path.abspath(path))
         size, pointer, real, truth = ctypes.c_size_t, ctypes.c_void_p, ctypes.c_double, ctypes.c_bool
@@ -253,43 +275,37 @@ class Library:
         self.write_lane.argtypes = [size, size, pointer, real, real, truth, size, size] + 5 * [pointer, size] + [pointer]
         self.read_lane.argtypes = [pointer, size] + 8 * [pointer] + 4 * [pointer, size]
 
-    def write(self, c, room, shift, wanted):
-        """Writes a curve to `room` bytes; raises Difference unless the answer is the one that is wanted."""
-        axes = Lent("axes", cells((c.axes + [0] * 16)[:16]))
-        slices = [Lent(name, s) for name, s in zip(SLICES, c.slices)]
-        file, count = Lent("file", (MARK * (room // 8 + 1))[:room], shift), Lent("count", MARK)
-        parts = [x for s in slices for x in (s.address, len(s.content) // 8)]
-        got = self.write_lane(c.d, c.k, axes.address, number(c.start), number(c.end), bool(c.mode), c.segments,
-                              c.other_segments, *parts, file.address, room, count.address)
-        asked, content = wanted
-        after = [(axes, b"")] + [(s, b"") for s in slices]
-        after += [(file, b""), (count, b"")] if content is None else [(file, content), (count, cells([len(content)]))]
-        compare_parts(got, asked, after)
+    def write(self, c, room, place, wanted):
+        """Writes a curve to `room` bytes."""
+        number_wanted, file = wanted
+        parts = [("axes", sixteen(c.axes), 0)] + [(name, content, 0) for name, content in zip(SLICES, c.slices)]
+        parts += [("file", (MARK * (room // 8 + 1))[:room], place % 8), ("count", MARK, 0)]
+        lent = Lent(parts, place & 8)
+        axes, *slices, to, count = lent.addresses
+        of_slices = [x for address, content in zip(slices, c.slices) for x in (address, len(content) // 8)]
+        got = self.write_lane(c.d, c.k, axes, number(c.start), number(c.end), bool(c.mode), c.segments, c.other_segments,
+                              *of_slices, to, room, count)
+        if file is not None:
+            lent.to_be(5, file)
+            lent.to_be(6, cells([len(file)]))
+        lent.compare(got, number_wanted)
 
-    def read(self, file, lengths, shift, clamp, wanted):
-        """Reads a file to slices of so many cells; `clamp` is what the mode holds before the call."""
-        source = Lent("file", file, shift)
-        names = ["d", "k", "axes", "start", "end", "clamp", "segments", "other_segments"]
-        before = [MARK, MARK, 16 * MARK, MARK, MARK, bytes([clamp]), MARK, MARK]
-        outputs = [Lent(name, content) for name, content in zip(names, before)]
-        slices = [Lent(name, n * MARK) for name, n in zip(SLICES, lengths)]
-        parts = [x for s, n in zip(slices, lengths) for x in (s.address, n)]
-        got = self.read_lane(source.address, len(file), *(o.address for o in outputs), *parts)
-        asked, c = wanted
-        contents = [b""] * 12
+    def read(self, file, lengths, place, wanted):
+        """Reads a file to slices of so many cells."""
+        number_wanted, c = wanted
+        before = [MARK, MARK, 16 * MARK, MARK, MARK, bytes([place >> 4 & 1]), MARK, MARK]
+        parts = [("file", file, place % 8)] + [(name, content, 0) for name, content in zip(NUMBERS, before)]
+        parts += [(name, n * MARK, 0) for name, n in zip(SLICES, lengths)]
+        lent = Lent(parts, place & 8)
+        source, *addresses = lent.addresses
+        of_slices = [x for address, n in zip(addresses[8:], lengths) for x in (address, n)]
+        got = self.read_lane(source, len(file), *addresses[:8], *of_slices)
         if c is not None:
-            axes = (c.axes + [0] * 16)[:16]
-            contents = [cells([c.d]), cells([c.k]), cells(axes), cells([c.start]), cells([c.end]), bytes([c.mode]),
-                        cells([c.segments]), cells([c.other_segments])] + c.slices
-        compare_parts(got, asked, [(source, b"")] + list(zip(outputs + slices, contents)))
-
-
-def compare_parts(got, asked, after):
-    if got != asked:
-        raise Difference(f"number {got}, and not {asked}")
-    for part, content in after:
-        if not part.holds(content):
-            raise Difference(f"with number {got} the cells of {part.name} or those around them are not as they must be")
+            after = [cells([c.d]), cells([c.k]), sixteen(c.axes), cells([c.start]), cells([c.end]), bytes([c.mode]),
+                     cells([c.segments]), cells([c.other_segments]), *c.slices]
+            for i, content in enumerate(after, 1):
+                lent.to_be(i, content)
+        lent.compare(got, number_wanted)
 
 
 # Drawn cases.
@@ -694,17 +710,17 @@ class Counts:
 def compare_write(library, counts, r, kind, c):
     room = rooms(r, c)
     wanted = answer_to_write(c, room)
-    library.write(c, room, r.below(8), wanted)
+    library.write(c, room, r.below(32), wanted)
     counts.add("written", kind, wanted[0])
 
 
 def compare_read(library, counts, r, kind, file):
     room = lengths(r, file)
     wanted = answer_to_read(file, room)
-    library.read(file, room, r.below(8), r.below(2), wanted)
+    library.read(file, room, r.below(32), wanted)
     counts.add("read", kind, wanted[0])
     if wanted[1] is not None:
-        library.write(wanted[1], len(file), r.below(8), (DONE, file))
+        library.write(wanted[1], len(file), r.below(32), (DONE, file))
         counts.add("written", "what was read", DONE)
 
 
@@ -713,12 +729,12 @@ def compare_change(library, counts, r, c):
     file = file_of(c)
     other = one_bit_off(r, c)
     wanted = answer_to_write(other, len(file) + 8)
-    library.write(other, len(file) + 8, r.below(8), wanted)
+    library.write(other, len(file) + 8, r.below(32), wanted)
     counts.add("written", "one bit off", wanted[0])
     if wanted[1] == file:
         raise Difference("two curves have one file")
     same = c.with_(axes=c.axes[:c.k] + [r.next() for _ in range(16 - c.k)])
-    library.write(same, len(file), r.below(8), (DONE, file))
+    library.write(same, len(file), r.below(32), (DONE, file))
     counts.add("written", "other cells behind the axes", DONE)
 
 
@@ -831,11 +847,11 @@ def replay(library, path):
         try:
             if asked[0] == "write":
                 file = bytes.fromhex(result[0]) if result else None
-                library.write(curve_of(asked[1:13]), int(asked[13]), i % 8, (number, file))
+                library.write(curve_of(asked[1:13]), int(asked[13]), i % 32, (number, file))
             else:
                 file = bytes.fromhex("" if asked[1] == "-" else asked[1])
                 lent = list(map(int, asked[2].split(",")))
-                library.read(file, lent, i % 8, i % 2, (number, curve_of(result) if result else None))
+                library.read(file, lent, i % 32, (number, curve_of(result) if result else None))
         except Difference as difference:
             sys.exit(f"{path}, line {i}: {difference}")
         counts[asked[0], number] += 1
@@ -878,7 +894,7 @@ def files(library, directory):
         lent = input_lengths(choices, file)
         wanted = answer_to_read(file, lent)
         try:
-            library.read(file, lent, choices[4] // 2 % 8, choices[4] % 2, wanted)
+            library.read(file, lent, choices[4], wanted)
         except Difference as difference:
             sys.exit(f"{name}: {difference}")
         counts[wanted[0]] += 1
