@@ -1,14 +1,15 @@
 -- Laws of numbers as bytes and as digits.
-use mathlib.Core.Path.{_≡_, refl, sym, _∙_}
+use mathlib.Core.Path.{_≡_, refl, sym, ap, _∙_}
 use mathlib.Core.Bool.{not}
-use mathlib.Core.List.{List, [], _∷_, _++_}
+use mathlib.Core.List.{List, [], _∷_, _++_, append-nil}
 use Prim.Native.Nat.{ℕ, zero, suc, _+_, _*_, _%_, _^_, _≤_, _<_}
 use native.Mathlib.Omega.{arith}
 use native.Mathlib.Nat.{le-of-suc-le-suc, not-suc-le-zero, lt-of-lt-of-le}
-use lib.ListN.{length, drop, getD, set, length-append, List·getD-append}
+use lib.ListN.{length, drop, getD, set, length-append, length-drop, List·getD-append}
 use lib.Pow.{pow-add, pow-mono}
 use native.Mathlib.Numerals.{add-one}
-use lib.Seq.{drop-cons, getD-at}
+use lib.Seq.{drop-cons, drop-length, getD-at}
+use Rattle.window.proofs.Filling.{write-more}
 use native.Mathlib.Decide.{decLt}
 use Rattle.window.specs.Window.{window}
 use lib.Dec.{T}
@@ -16,7 +17,7 @@ use lib.Ieee.{nan, binary64, ofBits, nanBits}
 use lib.Ieee.Bits.{nanBits-is, nanBits-above}
 use borrow.Author.Tests.{lt-ltb, le-ltb}
 use Rattle.arith.proofs.Nan.{is-nan}
-use Rattle.encoding.specs.Bytes.{lowFirst, eachOf}
+use Rattle.encoding.specs.Bytes.{lowFirst, eachOf, Filled}
 
 -- one byte more, in front of the others
 pub lowFirst-more : (l : List ℕ) (i : ℕ) → i < length l → lowFirst (drop i l) ≡ 256 * lowFirst (drop (i + 1) l) + getD l i 0
@@ -72,6 +73,31 @@ module _ {A : Type 0} (value : List ℕ → A) where
             let e : i ≡ n = omega arith in
             rw e (getD-at (eachOf value n bytes) x [] z n m)
       ]
+
+-- cells that are filled one after the other
+module _ {A : Type 0} (value : List ℕ → A) (bytes : List ℕ) (before : List A) where
+  pub filled-none : Filled value bytes before 0 before
+  unfolding eachOf
+  filled-none = record { within = omega arith; now = refl }
+
+  module _ (i : ℕ) (after : List A) (f : Filled value bytes before i after) where
+    pub filled-length : length after ≡ length before
+    filled-length =
+        ap length (f .now) ∙ length-append (eachOf value i bytes) (drop i before)
+        ∙ omega (arith, length-each value i bytes, length-drop i before, f .within)
+
+    pub filled-next : (j : ℕ) (after′ : List A) → j ≡ i + 1 → i < length before
+        → after′ ≡ set after i (value (window (8 * i) (8 * i + 8) bytes)) → Filled value bytes before j after′
+    filled-next j after′ e h g = record {
+      within = omega (arith, e);
+      now =
+          g ∙ ap (λ (l : List A). set l i (value (window (8 * i) (8 * i + 8) bytes))) (f .now)
+          ∙ write-more (eachOf value i bytes) before i (value (window (8 * i) (8 * i + 8) bytes)) (length-each value i bytes) h
+          ∙ rw (e, each-more value i bytes);
+    }
+
+    pub filled-all : i ≡ length before → after ≡ eachOf value (length before) bytes
+    filled-all e = f .now ∙ rw (e, drop-length) (append-nil _)
 
 -- a pattern whose low 63 bits are above those of infinity is a NaN's
 pub nan-pattern : (n : ℕ) → 0x7ff0_0000_0000_0000 < n % 0x8000_0000_0000_0000 → ofBits binary64 n ≡ nan

@@ -1,6 +1,8 @@
 -- Numbers of bytes, low byte first, as document 01 has them in a job.
-use Prim.Native.Nat.{ℕ, zero, suc, _+_, _*_}
+use mathlib.Core.Path.{_≡_}
+use Prim.Native.Nat.{ℕ, zero, suc, _+_, _*_, _≤_}
 use mathlib.Core.List.{List, [], _∷_, _++_}
+use lib.ListN.{length, drop}
 use lib.Ieee.{Float, binary64, ofBits}
 use Rattle.window.specs.Window.{window}
 
@@ -24,3 +26,8 @@ wholesOf n bytes = eachOf lowFirst n bytes
 
 abbrev pub floatsOf : ℕ → List ℕ → List Float
 floatsOf n bytes = eachOf floatOf n bytes
+
+-- the first i cells are the first i values, the others as they were
+pub record Filled {A : Type 0} (value : List ℕ → A) (bytes : List ℕ) (before : List A) (i : ℕ) (after : List A) : Type 0 where
+  pub within : i ≤ length before
+  pub now : after ≡ eachOf value i bytes ++ drop i before

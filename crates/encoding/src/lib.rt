@@ -1,11 +1,12 @@
 // Numbers as bytes and as text, for the programs: whole numbers and f64 of bytes, low byte first,
 // and an f64 as 16 upper-case hex digits.
 ghost use mathlib.Core.Path.{_≡_};
-ghost use Prim.Native.Nat.{_*_, _≤_, _<_};
+ghost use Prim.Native.Nat.{_+_, _*_, _≤_, _<_};
 ghost use mathlib.Core.List.{[]};
-ghost use lib.ListN.{length, take};
+ghost use lib.ListN.{length, take, set};
 ghost use lib.Ieee.{binary64, ofBits, toBits};
-ghost use Rattle.encoding.specs.Bytes.{lowFirst, wholesOf, floatOf, floatsOf};
+ghost use Rattle.window.specs.Window.{window};
+ghost use Rattle.encoding.specs.Bytes.{lowFirst, wholesOf, floatOf, floatsOf, Filled};
 ghost use Rattle.encoding.specs.Text.{digitOf, hexDigits, floatText};
 
 // The whole number of at most eight bytes, low byte first.
@@ -22,16 +23,41 @@ pub fn whole(bytes: &[u8]) -> u64
     value
 }
 
+// The whole number i, of eight bytes, into its cell.
+fn put_whole(bytes: &[u8], cells: &mut [u64], i: usize)
+    requires { ⌜ (8 * i + 8 ≤ length (now bytes)) × (i < length (now cells)) ⌝ }
+    ensures { λ _. ⌜ now (cells .exit) ≡ set (now (cells .entry)) i (lowFirst (window (8 * i) (8 * i + 8) (now (bytes .entry)))) ⌝ }
+{
+    let from = 8 * i;
+    let to = from + 8;
+    cells[i] = whole(&bytes[from..to]);
+}
+
+// As many fours of whole numbers as `cells` has places for; how many numbers. Four to a turn take half the
+// time of one.
+fn put_fours(bytes: &[u8], cells: &mut [u64]) -> usize
+    requires { ⌜ 8 * length (now cells) ≤ length (now bytes) ⌝ }
+    ensures { λ r. ⌜ Filled lowFirst (now (bytes .entry)) (now (cells .entry)) r (now (cells .exit)) ⌝ }
+{
+    let mut i = 0;
+    while i + 4 <= cells.len() {
+        put_whole(bytes, cells, i);
+        put_whole(bytes, cells, i + 1);
+        put_whole(bytes, cells, i + 2);
+        put_whole(bytes, cells, i + 3);
+        i += 4;
+    }
+    i
+}
+
 // As many whole numbers as `cells` has places, from eight bytes each.
 pub fn wholes(bytes: &[u8], cells: &mut [u64])
     requires { ⌜ 8 * length (now cells) ≤ length (now bytes) ⌝ }
     ensures { λ _. ⌜ now (cells .exit) ≡ wholesOf (length (now (cells .entry))) (now (bytes .entry)) ⌝ }
 {
-    let mut i = 0;
+    let mut i = put_fours(bytes, cells);
     while i < cells.len() {
-        let from = 8 * i;
-        let to = from + 8;
-        cells[i] = whole(&bytes[from..to]);
+        put_whole(bytes, cells, i);
         i += 1;
     }
 }

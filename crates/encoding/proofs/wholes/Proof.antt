@@ -1,48 +1,72 @@
--- `encoding::wholes` meets its contract. The invariant: the first i cells are the whole numbers of the bytes, the others as at entry.
-use mathlib.Core.Path.{_≡_, _∙_}
-use mathlib.Core.List.{_++_, append-nil}
-use Prim.Native.Nat.{_-_, _≤_}
+-- `encoding::wholes` meets its contract. The invariant: what was filled up to i₀ cells is filled up to i.
+use mathlib.Core.Path.{refl}
+use mathlib.Core.List.{List}
+use Prim.Native.Nat.{ℕ, _+_, _-_}
 use native.Mathlib.Omega.{arith}
-use borrow.Author.Needs.{needs}
-use lib.ListN.{length, drop, length-set, length-take}
-use lib.Seq.{drop-length}
-use Rattle.window.proofs.Filling.{write-more}
-use Rattle.encoding.specs.Bytes.{lowFirst, eachOf, wholesOf}
-use Rattle.encoding.proofs.Laws.{length-each, each-more}
+use lib.ListN.{length}
+use Rattle.encoding.specs.Bytes.{lowFirst, Filled}
+use Rattle.encoding.proofs.Laws.{filled-next, filled-length, filled-all}
 use Rattle.encoding.proofs.wholes.Statement.{statement}
 use Rattle.encoding.proofs.wholes.Tie as tie
 
 abbrev Inv-loop : tie.InvT-loop
-Inv-loop bytes cells₀ i₀ cells i = (i ≤ length cells₀) × ((cells ≡ wholesOf i bytes ++ drop i cells₀) × (length cells ≡ length cells₀))
+Inv-loop bytes cells₀ i₀ cells i = (before : List ℕ) → Filled lowFirst bytes before i₀ cells₀ → Filled lowFirst bytes before i cells
 
 abbrev μ-loop : tie.MeasureT-loop
 μ-loop bytes cells₀ i₀ cells i = length cells₀ - i
 
 loop-holds : tie.Need-loop-holds Inv-loop μ-loop
-unfolding eachOf
-loop-holds c = search needs
+loop-holds c before f = f
 
-whole-requires : tie.Need-whole-requires Inv-loop μ-loop
-whole-requires c κs = simp length-take (omega arith)
+module _ (l : tie.At-loop Inv-loop μ-loop) where
+  abbrev start : tie.Start Inv-loop μ-loop
+  start = l .before .before .before .before .before .before .before
+
+  filled : Filled lowFirst (start .args .bytes .now) (start .args .cells .now) (l .loop .i) (l .loop .cells)
+  filled = l .loop .inv (start .args .cells .now) (l .before .before .before .put-fours .ensures)
+
+put-whole-requires : tie.Need-put-whole-requires Inv-loop μ-loop
+put-whole-requires c κs =
+    let l = c .before .before in
+    let s = start l in
+    let n = filled-length lowFirst (s .args .bytes .now) (s .args .cells .now) (l .loop .i) (l .loop .cells) (filled l) in
+    (omega (arith, n, c .before .loop-test .taken, s .pre), omega (arith, c .before .loop-test .taken))
 
 loop-again : tie.Need-loop-again Inv-loop μ-loop
-loop-again c =
-    let l = c .before .before .before .loop in
-    let a = c .before .before .before .before .before .before .args in (
-      omega arith,
-      (
-        rw (l .inv .1 .0, each-more lowFirst (l .i) (a .bytes .now), c .whole .ensures) (write-more (wholesOf (l .i) (a .bytes .now))
-            (a .cells .now) (l .i) _ (length-each lowFirst _ _) (omega arith)),
-        simp length-set (omega arith),
-      ),
-    )
+loop-again c before f =
+    let l = c .before .before .before .before .before in
+    let s = start l in
+    let g = l .loop .inv before f in
+    let n = filled-length lowFirst (s .args .bytes .now) before (l .loop .i) (l .loop .cells) g in
+    filled-next lowFirst (s .args .bytes .now) before (l .loop .i) (l .loop .cells) g (l .loop .i + 1) _ refl
+    (omega (arith, n, c .before .before .before .before .loop-test .taken)) (c .before .before .put-whole .ensures)
+
+add-i : tie.Need-add-i Inv-loop μ-loop
+add-i c =
+    let l = c .before .before .before .before .before in
+    let s = start l in
+    let n = filled-length lowFirst (s .args .bytes .now) (s .args .cells .now) (l .loop .i) (l .loop .cells) (filled l) in
+    omega (arith, n, c .before .before .before .before .loop-test .taken, s .pre)
+
+loop-less : tie.Need-loop-less Inv-loop μ-loop
+loop-less c =
+    let l = c .before .before .before .before .before in
+    let s = start l in
+    let n = filled-length lowFirst (s .args .bytes .now) (s .args .cells .now) (l .loop .i) (l .loop .cells) (filled l) in
+    let p = l .before .before .before in
+    let m = filled-length lowFirst (s .args .bytes .now) (s .args .cells .now) _ _ (p .put-fours .ensures) in
+    omega (arith, n, m, c .before .before .before .before .loop-test .taken)
+
+same-length : tie.Need-same-length Inv-loop μ-loop
+same-length c = let l = c .before in
+    let s = start l in filled-length lowFirst (s .args .bytes .now) (s .args .cells .now) (l .loop .i) (l .loop .cells) (filled l)
 
 returns : tie.Need-returns Inv-loop μ-loop
-returns c =
-    let l = c .before .loop in
-    let cells₀ = c .before .before .before .before .args .cells .now in
-    let e : l .i ≡ length cells₀ = omega arith in
-    l .inv .1 .0 ∙ rw (e, drop-length) (append-nil _)
+returns c = let l = c .before in
+    let s = start l in
+    let n = filled-length lowFirst (s .args .bytes .now) (s .args .cells .now) (l .loop .i) (l .loop .cells) (filled l) in
+    filled-all lowFirst (s .args .bytes .now) (s .args .cells .now) (l .loop .i) (l .loop .cells) (filled l)
+    (omega (arith, n, c .loop-test .left, filled l .within))
 
 pub wholes-spec : {M : Type 1} → statement M
 wholes-spec =
@@ -50,17 +74,11 @@ wholes-spec =
     (tie.spec
     Inv-loop
     μ-loop
+    (λ c κs. omega (arith, c .before .before .before .pre))
     loop-holds
-    (λ c. omega arith)
-    (λ c. omega arith)
-    (λ c. omega arith)
-    (λ c. omega arith)
-    (λ c. omega arith)
-    whole-requires
-    (λ c. omega arith)
-    (λ c. omega arith)
-    (λ c. omega arith)
-    (λ c. omega arith)
+    put-whole-requires
+    add-i
+    loop-less
     loop-again
-    (λ c. omega arith)
+    same-length
     returns)
