@@ -1,7 +1,8 @@
 #!/usr/bin/env bash
 # All tests: the layout, the documents, the unchanged Rust with the stored lists of its answers, the toolchain's
-# gate, the examples through the program `lane` that the gate built, and the library through a program in C and
-# the crate for Rust. The gate's last line, `N passed, 0 failed`, is the last line here too.
+# gate, the examples through the program `lane` that the gate built, and the library through programs in C, a second
+# writer and reader of lane files, and the crate for Rust. The gate's last line, `N passed, 0 failed`, is the last
+# line here too.
 set -euo pipefail
 cd "$(dirname "$0")"
 
@@ -77,7 +78,7 @@ echo "$(ls examples/*.job | wc -l) examples print what they must"
 if [ -n "${SMOOTHING_RS:-}" ] && [ -x oracle/target/release/oracle ]; then
     oracle/target/release/oracle lane target/bin/lane 3 2000 || fail "lane differs from the Rust"
 fi
-echo "== the library: its archive, and the examples in C"
+echo "== the library: its archive, the examples in C, and lane files by a second writer and reader"
 # Every crate below is taken as it was proved; the toolchain checks the library itself once more for this kind of archive.
 rt staticlib pamitoye > "$scratch/log" 2>&1 || {
     cat "$scratch/log" >&2
