@@ -2,7 +2,7 @@
 use mathlib.Core.Path.{ap}
 use native.Mathlib.Omega.{arith}
 use borrow.Author.Needs.{needs}
-use lib.ListN.{set, length-set, length-take}
+use lib.ListN.{set, length-take}
 use Rattle.encoding.proofs.put_whole.Statement.{statement}
 use Rattle.encoding.proofs.put_whole.Tie as tie
 
