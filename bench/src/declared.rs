@@ -10,9 +10,13 @@ pub fn spacing_number(spacing: Spacing) -> u64 {
     }
 }
 
-/// Functions whose first parameters are the curve's numbers and slices, with the others and the answer.
+/// Functions whose first parameters are the curve's numbers and slices, with the others and the answer. Coefficients are cells
+/// of f64, or of the type that stands before the functions.
 macro_rules! declared {
     ($($name:ident($($more:ident: $kind:ty),* $(,)?) -> $answer:ty;)*) => {
+        crate::declared::declared! { f64; $($name($($more: $kind),*) -> $answer;)* }
+    };
+    ($cell:ty; $($name:ident($($more:ident: $kind:ty),* $(,)?) -> $answer:ty;)*) => {
         #[allow(improper_ctypes)]
         unsafe extern "C" {
             $(fn $name(
@@ -26,11 +30,11 @@ macro_rules! declared {
                 other_segments: usize,
                 breaks: *const f64,
                 breaks_len: usize,
-                coefficients: *const f64,
+                coefficients: *const $cell,
                 coefficients_len: usize,
                 other_breaks: *const f64,
                 other_breaks_len: usize,
-                other_coefficients: *const f64,
+                other_coefficients: *const $cell,
                 other_coefficients_len: usize,
                 $($more: $kind,)*
             ) -> $answer;)*

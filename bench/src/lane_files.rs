@@ -9,31 +9,14 @@ use std::time::{Duration, Instant};
 declared! {
     pamitoye_well_formed() -> bool;
 }
+declared! {
+    u64;
+    pamitoye_write_lane(file: *mut u8, file_len: usize, count: *mut usize) -> u64;
+}
 
 #[allow(improper_ctypes)]
 unsafe extern "C" {
     fn memcpy(to: *mut c_void, from: *const c_void, bytes: usize) -> *mut c_void;
-    fn pamitoye_write_lane(
-        d: usize,
-        k: usize,
-        axes: *const [usize; 16],
-        start: f64,
-        end: f64,
-        clamp: bool,
-        segments: usize,
-        other_segments: usize,
-        breaks: *const f64,
-        breaks_len: usize,
-        coefficients: *const u64,
-        coefficients_len: usize,
-        other_breaks: *const f64,
-        other_breaks_len: usize,
-        other_coefficients: *const u64,
-        other_coefficients_len: usize,
-        file: *mut u8,
-        file_len: usize,
-        count: *mut usize,
-    ) -> u64;
     fn pamitoye_read_lane(
         file: *const u8,
         file_len: usize,

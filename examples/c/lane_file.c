@@ -8,6 +8,7 @@
 #include <stdlib.h>
 #include <string.h>
 
+#include "curve.h"
 #include "expect.h"
 #include "pamitoye.h"
 
@@ -16,22 +17,6 @@ enum { D = 1, N = 3, MAX_REFINEMENTS = 20, MAX_SEGMENTS = 100 };
 /* What a byte holds before a call, also of the cells that are lent to the reader. */
 enum { MARK = 0xa5 };
 
-/* A slice of doubles: its cells, and how many of them are lent. */
-struct slice {
-    double *cells;
-    size_t len;
-};
-
-/* A curve: eight numbers and four slices, as the header has them. */
-struct curve {
-    size_t d, k, axes[16];
-    double start, end;
-    bool clamp;
-    size_t segments, other_segments;
-    struct slice breaks, coefficients, other_breaks, other_coefficients;
-};
-
-#define SLICE(s) (s).cells, (s).len
 /* Coefficients are kept as doubles, and the same memory is passed as bit patterns. */
 #define BITS(s) (uint64_t *)(s).cells, (s).len
 #define SLICES_BY_BITS(c)                                                                          \
@@ -63,13 +48,6 @@ static bool all_marked(const void *bytes, size_t n) {
 static struct slice cells(size_t n) {
     struct slice made = {marked(n * sizeof(double)), n};
     return made;
-}
-
-static void give_back(struct curve *c) {
-    free(c->breaks.cells);
-    free(c->coefficients.cells);
-    free(c->other_breaks.cells);
-    free(c->other_coefficients.cells);
 }
 
 static struct curve build(void) {

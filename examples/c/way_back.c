@@ -8,6 +8,7 @@
 #include <stdlib.h>
 #include <string.h>
 
+#include "curve.h"
 #include "expect.h"
 #include "pamitoye.h"
 
@@ -32,35 +33,12 @@ static bool all_marked(const double *cells, size_t n) {
     return true;
 }
 
-/* A slice: its cells, and how many of them are lent. */
-struct slice {
-    double *cells;
-    size_t len;
-};
-
-/* A curve: eight numbers and four slices, as the header has them. */
-struct curve {
-    size_t d, k, axes[16];
-    double start, end;
-    bool clamp;
-    size_t segments, other_segments;
-    struct slice breaks, coefficients, other_breaks, other_coefficients;
-};
-
-#define SLICE(s) (s).cells, (s).len
 #define SLICES(c)                                                                                  \
     SLICE((c).breaks), SLICE((c).coefficients), SLICE((c).other_breaks),                           \
         SLICE((c).other_coefficients)
 #define CURVE(c)                                                                                   \
     (c).d, (c).k, (c).axes, (c).start, (c).end, (c).clamp, (c).segments, (c).other_segments,       \
         SLICES(c)
-
-static void give_back(struct curve *c) {
-    free(c->breaks.cells);
-    free(c->coefficients.cells);
-    free(c->other_breaks.cells);
-    free(c->other_coefficients.cells);
-}
 
 /* The same numbers, and slices of its own for the way back: one marked cell more in each. */
 static struct curve room_for(const struct curve *c) {
