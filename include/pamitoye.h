@@ -1,5 +1,6 @@
-/* Pamitoye: smooths waypoints into a curve, answers queries of it, certifies how far it strays, and
- * writes and reads it as a lane file; and orders lanes that are to be cut.
+/* Pamitoye: smooths waypoints into a curve, answers queries of it, certifies how far it strays, gives
+ * its heights in whole hundredths, and writes and reads it as a lane file; and orders lanes that are
+ * to be cut.
  *
  * The functions are proved: each ends, and does what its comment says, for every input that keeps
  * to what is asked of a caller below. Their code is crates/pamitoye, whose contracts say the same
@@ -11,7 +12,7 @@
  *
  * Memory. The library allocates nothing, frees nothing and keeps no pointer: the caller owns every
  * slice, lends it for the call, and has it back when the call returns. A slice is a pointer and a
- * length in cells (double, uint64_t, size_t, a pair of size_t, or bytes), in this order.
+ * length in cells (double, uint64_t, int32_t, size_t, a pair of size_t, or bytes), in this order.
  *
  * What the caller must keep to. Nothing tests it; a call that breaks it is undefined.
  * - A pointer is not null, also where its length is 0, and is aligned for its type.
@@ -69,7 +70,8 @@ enum pamitoye_number {
     PAMITOYE_BAD_POINTS = 1,
     /* the list of axes is empty */
     PAMITOYE_NO_AXES = 2,
-    /* an axis is repeated or not below d; when certifying, the axis is not selected */
+    /* an axis is repeated or not below d; when certifying, the axis is not selected; of heights, it
+     * is not below d */
     PAMITOYE_BAD_AXES = 3,
     /* wrong count of tolerances, or one that is not finite and above 0 */
     PAMITOYE_BAD_TOLERANCE = 4,
@@ -119,6 +121,9 @@ enum pamitoye_number {
     /* the bytes are no lane file: cut off, too long, damaged, or something else; copy or write the
      * file anew */
     PAMITOYE_DOES_NOT_READ = 27,
+    /* a control of the axis, times 100, is not finite or beyond 2000000 in size: the valve takes
+     * heights of at most 20 m; subtract an offset from this coordinate */
+    PAMITOYE_HEIGHT_TOO_LARGE = 28,
     /* the breaks of a return lane do not rise strictly: 1 minus two old ones is one number, since
      * they are no further apart than 2^-53 in the lane's first half; take parameters that are
      * further apart there, or leave out one waypoint of the two */
@@ -318,6 +323,29 @@ uint64_t pamitoye_return_lane(
     double *lent_coefficients, size_t lent_coefficients_len,
     double *lent_other_breaks, size_t lent_other_breaks_len,
     double *lent_other_coefficients, size_t lent_other_coefficients_len);
+
+/* The heights of an axis for a valve that takes whole hundredths, 256 steps to a segment: with
+ * coordinates in millimetres a height of 1 is a hundredth of a millimetre. The axis is any of the d,
+ * smoothed or not; its set has `segments` segments if it is one of the k selected axes, otherwise
+ * other_segments. On 0 cell 257 * i + j of heights, for each segment i of that set and each j from 0
+ * to 256, is the height at step j, where the local parameter is j / 256; the cells behind are
+ * unchanged. Step 256 of a segment and step 0 of the next are the same place, and their heights may
+ * differ by the rounding of either's controls. A refusal writes nothing.
+ * The six Bernstein controls of the segment's polynomial (as the audit of pamitoye_build computes
+ * them) are multiplied by 100, rounded once, and taken to the nearest whole number, halves away from
+ * zero. A height is the exact polynomial of these whole controls at j / 256, to the nearest whole
+ * number, halves away from zero: it is never further from it than half a hundredth. None is beyond
+ * 2000000 in size.
+ * Numbers: 24, 3, 19 (heights has fewer than 257 cells for each segment of the axis's set), 28 (of
+ * any control of any segment), in this order. */
+uint64_t pamitoye_heights(
+    size_t d, size_t k, const size_t axes[16], double start, double end, bool clamp,
+    size_t segments, size_t other_segments,
+    const double *breaks, size_t breaks_len,
+    const double *coefficients, size_t coefficients_len,
+    const double *other_breaks, size_t other_breaks_len,
+    const double *other_coefficients, size_t other_coefficients_len,
+    size_t axis, int32_t *heights, size_t heights_len);
 
 /* Lane files. A lane file is one curve as bytes. First come whole numbers: d, k, the k axes, the mode
  * (0 Error, 1 Clamp), segments, other_segments, each in groups of seven bits, low group first, the top
