@@ -4,7 +4,7 @@
 // them lie the widths of the segments.
 pub mod count; // count.rt: counts without a branch
 pub mod form; // form.rt: whether a curve is well formed, and one that is not
-pub mod place; // place.rt: where an axis stands in a list of axes
+pub mod place; // place.rt: where an axis stands in a list of axes, and among all
 pub mod widths; // widths.rt: the widths of segments
 
 // What a parameter outside start to end gets: a refusal, or the value at the nearer end, standing still.

@@ -9,4 +9,5 @@ mod queries; // queries.rt: one query, and many in one call
 mod certificates; // certificates.rt: the certified figure
 mod orders; // orders.rt: which lane is cut first
 mod returns; // returns.rt: the lane driven back
+mod axis_heights; // axis_heights.rt: the heights of an axis
 mod lane_files; // lane_files.rt: a curve as a lane file, and from one

@@ -16,6 +16,17 @@ addTerm o powi p u j k v = o .plus v (o .times (o .times (chooseOf o k j) (getD 
 unfoldable pub piecePower : {A : Type 0} → Arith A → (A → ℕ → A) → List A → A → A → ℕ → A
 piecePower o powi p u w j = o .times (each (addTerm o powi p u j) j 6 (o .zero)) (powi w j)
 
+-- all six
+unfoldable pub piecePowers : {A : Type 0} → Arith A → (A → ℕ → A) → List A → A → A → List A
+piecePowers o powi p u w =
+    piecePower o powi p u w 0
+    ∷ piecePower o powi p u w 1
+    ∷ piecePower o powi p u w 2
+    ∷ piecePower o powi p u w 3
+    ∷ piecePower o powi p u w 4
+    ∷ piecePower o powi p u w 5
+    ∷ []
+
 -- the six powers less the line a + b y
 unfoldable pub errorOf : {A : Type 0} → Arith A → (A → ℕ → A) → List A → A → A → A → A → List A
 errorOf o powi p u w a b =
@@ -64,3 +75,7 @@ errorForm o powi p start end q =
     let delta = o .minus end start in
     bernsteinCoefficients o
     (errorOf o powi p (q .u) (q .w) (o .plus start (o .times (q .before) delta)) (o .times (q .part) delta))
+
+-- the Bernstein coefficients of the segment's polynomial on a piece, without the reference line (document 02, request 9)
+unfoldable pub curveForm : {A : Type 0} → Arith A → (A → ℕ → A) → List A → A → A → List A
+curveForm o powi p u w = bernsteinCoefficients o (piecePowers o powi p u w)

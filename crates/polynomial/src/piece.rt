@@ -7,7 +7,7 @@ ghost use lib.ListN.{length};
 ghost use Rattle.arith.specs.Operations.{floats};
 ghost use Rattle.arith.specs.Loop.{each};
 ghost use Rattle.float.specs.Power.{powerOf};
-ghost use Rattle.polynomial.specs.Piece.{piecePower, errorOf, bernsteinOf, bernsteinCoefficients};
+ghost use Rattle.polynomial.specs.Piece.{piecePower, piecePowers, errorOf, bernsteinOf, bernsteinCoefficients, curveForm};
 ghost use Rattle.polynomial.specs.Interval.{errorsOn, allFinite, largestTurn};
 ghost use Rattle.polynomial.specs.Largest.{largerOf, largestOf};
 
@@ -47,6 +47,23 @@ fn power(p: &[f64], u: f64, w: f64, j: usize) -> f64
         k += 1;
     }
     value * float::powi(w, j as u32)
+}
+
+// All six powers.
+fn powers(p: &[f64], u: f64, w: f64) -> Six
+    requires { ⌜ length (now p) ≡ 6 ⌝ }
+    ensures { λ r. ⌜ r .cells ≡ piecePowers floats (powerOf floats) (now (p .entry)) u w ⌝ }
+{
+    Six {
+        cells: [
+            power(p, u, w, 0),
+            power(p, u, w, 1),
+            power(p, u, w, 2),
+            power(p, u, w, 3),
+            power(p, u, w, 4),
+            power(p, u, w, 5),
+        ],
+    }
 }
 
 // All six powers, less the line a + b times the piece's parameter.
@@ -106,6 +123,16 @@ pub fn error_form(p: &[f64], start: f64, end: f64, q: Piece) -> Six
 {
     let delta = end - start;
     let e = error(p, q.u, q.w, start + q.before * delta, q.part * delta);
+    let cells = e.cells;
+    bernsteins(cells)
+}
+
+// The Bernstein coefficients of the segment's polynomial p on the piece from u on, w wide.
+pub fn curve_form(p: &[f64], u: f64, w: f64) -> Six
+    requires { ⌜ length (now p) ≡ 6 ⌝ }
+    ensures { λ r. ⌜ r .cells ≡ curveForm floats (powerOf floats) (now (p .entry)) u w ⌝ }
+{
+    let e = powers(p, u, w);
     let cells = e.cells;
     bernsteins(cells)
 }
