@@ -10,7 +10,7 @@ use Rattle.window.specs.Rows.{join}
 use Rattle.bspline.specs.Choose.{chooseOf, factorials}
 use Rattle.float.specs.Power.{powerIn, powerOf}
 use Rattle.polynomial.specs.Piece.{addShare, addTerm, bernsteinCoefficients, bernsteinOf, curveForm, pieceFrom, piecePower, piecePowers}
-use Rattle.heights.specs.Controls.{anyBeyond, beyond, hundredfold, segmentForm, wholeOf, wholesOf}
+use Rattle.heights.specs.Controls.{anyBeyond, beyond, hundredfold, segmentForm, segmentFormOver, wholeOf, wholesOf}
 use Rattle.heights.specs.Height.{heightOf, nearestWhole, weighted}
 use Rattle.heights.specs.Weights.{weightOf}
 
@@ -22,7 +22,7 @@ halves = refl
 
 -- what the controls of a segment are computed by
 unfoldable pub steps : Unit {0}
-unfolding segmentForm pieceFrom curveForm piecePowers piecePower addTerm bernsteinCoefficients bernsteinOf addShare chooseOf powerOf
+unfolding segmentForm segmentFormOver pieceFrom curveForm piecePowers piecePower addTerm bernsteinCoefficients bernsteinOf addShare chooseOf powerOf
     powerIn factorials each turns add sub mul div sum ofBits ofFields round size span climb units odd
 steps = tt
 

@@ -8,4 +8,5 @@ pub mod Exact
 pub mod Filled
 pub mod Placed
 pub mod Answered
+pub mod Segment
 pub mod Examples

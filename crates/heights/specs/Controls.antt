@@ -6,7 +6,7 @@ use Prim.Native.Nat.{ℕ, _+_, _*_}
 use lib.IntN.{ℤ}
 use lib.Ieee.{Float, binary64, ofBits, mul, lt}
 use lib.Ieee.Scale.{finite}
-use Rattle.arith.specs.Operations.{floats}
+use Rattle.arith.specs.Operations.{Arith, floats}
 use Rattle.arith.specs.Loop.{each}
 use Rattle.arith.specs.First.{every}
 use Rattle.window.specs.Cells.{at}
@@ -17,10 +17,14 @@ use Rattle.polynomial.specs.Piece.{pieceFrom, curveForm}
 use Rattle.polynomial.specs.Interval.{powersAt}
 use Rattle.heights.specs.Height.{nearestWhole}
 
--- the six Bernstein controls of the segment from a to b with the powers p: its piece is the whole of it, from a to b
+-- the six Bernstein controls of the segment from a to b with the powers p, over any arithmetic: its piece is the whole of it, from a to b
+unfoldable pub segmentFormOver : {A : Type 0} → Arith A → (A → ℕ → A) → A → A → List A → List A
+segmentFormOver o powi a b p =
+    let q = pieceFrom o a b a b a b in curveForm o powi p (q .u) (q .w)
+
+-- at f64
 unfoldable pub segmentForm : Float → Float → List Float → List Float
-segmentForm a b p =
-    let q = pieceFrom floats a b a b a b in curveForm floats (powerOf floats) p (q .u) (q .w)
+segmentForm a b p = segmentFormOver floats (powerOf floats) a b p
 
 -- "multiplied by 100, rounded once"
 abbrev pub hundredfold : Float → Float
