@@ -11,7 +11,7 @@ use Rattle.curve.specs.declared.Curve.{Curve}
 use Rattle.curve.specs.Form.{Slices, wellFormed}
 use Rattle.curve.specs.Places.{axisPlace}
 use Rattle.heights.specs.declared.entry.Answer.{Answer}
-use Rattle.heights.specs.declared.entry.Answer.the-variants.{Written, Malformed, NoSuchAxis, TooShort, Beyond}
+use Rattle.heights.specs.declared.entry.Answer.the-variants.{Written, Malformed, NoSuchAxis, TooShort, HeightTooLarge}
 use Rattle.heights.specs.Controls.{AxisSet, controlsOn, wholesOf, allFit}
 use Rattle.heights.specs.Height.{heightOf}
 use Rattle.heights.specs.Exact.{WithinHalf}
@@ -22,7 +22,7 @@ numberOf Written = 0
 numberOf Malformed = 24
 numberOf NoSuchAxis = 3
 numberOf TooShort = 19
-numberOf Beyond = 28
+numberOf HeightTooLarge = 28
 
 -- the answer's number, and the cells of the lent slice after it
 pub record Outcome : Type 0 where

@@ -27,7 +27,7 @@ pub enum Answer {
     // 19: the slice is too short
     TooShort,
     // 28: a control, times 100, is not finite or beyond ±2,000,000
-    Beyond,
+    HeightTooLarge,
 }
 
 // Its number in the papers, 0 where the heights are written.
@@ -39,7 +39,7 @@ pub fn number(answer: Answer) -> u64
         Answer::Malformed => 24,
         Answer::NoSuchAxis => 3,
         Answer::TooShort => 19,
-        Answer::Beyond => 28,
+        Answer::HeightTooLarge => 28,
     }
 }
 
@@ -102,7 +102,7 @@ fn in_set(
         return Answer::TooShort;
     }
     if !all_fit(breaks, coefficients, n, m, at) {
-        return Answer::Beyond;
+        return Answer::HeightTooLarge;
     }
     let table = weights::weight_table();
     let cells = table.cells;
