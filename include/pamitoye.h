@@ -336,6 +336,9 @@ uint64_t pamitoye_return_lane(
  * zero. A height is the exact polynomial of these whole controls at j / 256, to the nearest whole
  * number, halves away from zero: it is never further from it than half a hundredth. None is beyond
  * 2000000 in size.
+ * The figure of pamitoye_certify is of the curve and not of its heights: whole controls and a whole
+ * height are each half a hundredth off at most, beside what the controls lose in rounding, so that a
+ * height may lie a hundredth further from the line than the figure says.
  * Numbers: 24, 3, 19 (heights has fewer than 257 cells for each segment of the axis's set), 28 (of
  * any control of any segment), in this order. */
 uint64_t pamitoye_heights(
