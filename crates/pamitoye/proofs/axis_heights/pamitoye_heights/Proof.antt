@@ -5,8 +5,8 @@ use Rattle.pamitoye.proofs.axis_heights.pamitoye_heights.Tie as tie
 
 returns : tie.Need-returns
 returns c =
-    let q = c .before .before .before in
-    let k = q .before .before .before .before .before .curve .ensures in
+    let q = c .before .before in
+    let k = q .before .before .curve .ensures in
     let e = c .number .ensures in
     rw (← k, e) (q .heights .ensures)
 
