@@ -1,4 +1,4 @@
-//! What a request asks for, and what an accepted one reports.
+//! Sizes; what a request asks for, and what an accepted one reports.
 
 use crate::ffi;
 
@@ -10,6 +10,8 @@ pub const MAX_WAYPOINTS: usize = 20_000;
 pub const MAX_SEGMENTS: usize = 20_000;
 /// The largest [`SmoothingConfig::max_refinements`].
 pub const MAX_REFINEMENTS: usize = 200;
+/// How many heights a segment has: one for each step from 0 to 256, see [`Path::heights`](crate::Path::heights).
+pub const HEIGHTS_PER_SEGMENT: usize = 257;
 
 /// How far a smoothed axis may lie from its line, in the units of its coordinates.
 #[derive(Clone, Debug, PartialEq)]

@@ -2,8 +2,8 @@
 //! here.
 
 use crate::config::{
-    MAX_AXES, MAX_REFINEMENTS, OutOfRangeMode, SmoothingConfig, SmoothingReport,
-    SmoothingTolerance, Spacing,
+    HEIGHTS_PER_SEGMENT, MAX_AXES, MAX_REFINEMENTS, OutOfRangeMode, SmoothingConfig,
+    SmoothingReport, SmoothingTolerance, Spacing,
 };
 use crate::error::PathError;
 use crate::ffi;
@@ -329,6 +329,38 @@ impl Curve {
         }
     }
 
+    /// The heights of an axis, in as many cells as they have.
+    pub(crate) fn heights(&self, axis: usize) -> Result<Vec<i32>, PathError> {
+        let segments = match axis {
+            axis if self.axes().contains(&axis) => self.smoothed.segments(),
+            axis if axis < self.d => self.other.segments(),
+            // 3, whatever the slice.
+            _ => 0,
+        };
+        let mut heights = cells(segments.saturating_mul(HEIGHTS_PER_SEGMENT))?;
+        self.heights_into(axis, &mut heights)?;
+        Ok(heights)
+    }
+
+    /// The library's heights into the first cells of this slice.
+    pub(crate) fn heights_into(&self, axis: usize, heights: &mut [i32]) -> Result<(), PathError> {
+        // SAFETY: the function has no precondition: it refuses what it cannot take. Each pointer with its count is a slice
+        // that is borrowed for the call, the one that is written alone.
+        let number = unsafe {
+            of_curve!(
+                pamitoye_heights,
+                self,
+                axis,
+                heights.as_mut_ptr(),
+                heights.len(),
+            )
+        };
+        match number {
+            0 => Ok(()),
+            number => Err(PathError::of_heights(number)),
+        }
+    }
+
     /// The curve's lane file.
     pub(crate) fn to_lane_file(&self) -> Result<Vec<u8>, PathError> {
         let sets = [&self.smoothed, &self.other].into_iter();
@@ -623,6 +655,42 @@ mod tests {
         }
         assert_eq!(close.reversed().err(), Some(PathError::NotRising));
         assert_eq!(width.reversed().err(), Some(PathError::Malformed));
+    }
+
+    /// Heights test 24, then 3, then 19, then 28, and none of them writes. Cells behind the used ones are unchanged.
+    #[test]
+    fn numbers_of_heights() {
+        let all = 2 * HEIGHTS_PER_SEGMENT;
+        let formed = two_segments(0.25, [0.25, 0.75]);
+        let width = two_segments(0.25, [0.25, 0.75f64.next_up()]);
+        let mut large = formed.clone();
+        if let Some(power) = large.smoothed.coefficients.get_mut(6) {
+            *power = 20_000f64.next_up();
+        }
+        for (curve, axis, room, wanted) in [
+            (&width, 1, 0, 24),
+            (&width, 0, all, 24),
+            (&large, 1, 0, 3),
+            (&large, usize::MAX, all, 3),
+            (&formed, 1, all, 3),
+            (&large, 0, all - 1, 19),
+            (&formed, 0, 0, 19),
+            (&formed, 0, all - 1, 19),
+            (&large, 0, all, 28),
+            (&formed, 0, all, 0),
+            (&formed, 0, all + 9, 0),
+        ] {
+            let mut heights = vec![-7; room];
+            let answer = curve.heights_into(axis, &mut heights);
+            assert_eq!(answer.as_ref().err().map_or(0, PathError::number), wanted);
+            let used = if wanted == 0 { all } else { 0 };
+            let (written, behind) = heights.split_at_checked(used).unwrap_or_default();
+            assert!(written.iter().all(|height| *height == 0));
+            assert!(behind.iter().all(|height| *height == -7));
+        }
+        assert_eq!(formed.heights(0).map(|heights| heights.len()), Ok(all));
+        assert_eq!(formed.heights(1).err(), Some(PathError::NoSuchAxis));
+        assert_eq!(large.heights(0).err(), Some(PathError::HeightTooLarge));
     }
 
     /// How many bytes the lane file of two segments has: six whole numbers, then two, three and twelve of eight bytes.

@@ -19,6 +19,8 @@ pub enum PathError {
     BadAxes,
     /// 3, when certifying: the axis is not one of the smoothed axes.
     NotSelected,
+    /// 3, of heights: there is no such axis.
+    NoSuchAxis,
     /// 4: not one tolerance for each smoothed axis, or one that is not finite and above 0.
     BadTolerance,
     /// 5: parameters of a wrong count, not finite or not strictly rising.
@@ -84,6 +86,9 @@ pub enum PathError {
     /// 27, when a lane file is read: the bytes are none. They are cut off, too long, damaged, or something else; the file
     /// copied again helps, or written anew.
     DoesNotRead,
+    /// 28, of heights: a Bernstein control of the axis, times 100, is not finite or beyond 2,000,000 in size. With coordinates
+    /// in millimetres that is 20 m, the most that the valve takes. An offset that is subtracted from that coordinate helps.
+    HeightTooLarge,
     /// 29, when a path is reversed: its breaks do not rise strictly once each is taken from 1, since two of them in the
     /// first half are no further apart than 2^-53 of the range. Parameters that are further apart there help, or one
     /// waypoint of the two left out.
@@ -98,7 +103,7 @@ impl PathError {
         match *self {
             Self::BadPoints => 1,
             Self::NoAxes => 2,
-            Self::BadAxes | Self::NotSelected => 3,
+            Self::BadAxes | Self::NotSelected | Self::NoSuchAxis => 3,
             Self::BadTolerance => 4,
             Self::BadParameters | Self::BadChords => 5,
             Self::BadRange => 6,
@@ -121,6 +126,7 @@ impl PathError {
             Self::OrderAboveThree | Self::DepthAboveSix => 23,
             Self::Malformed => 24,
             Self::DoesNotRead => 27,
+            Self::HeightTooLarge => 28,
             Self::NotRising => 29,
             Self::Unknown(number) => number,
         }
@@ -161,6 +167,7 @@ impl PathError {
             24 => Self::Malformed,
             26 => Self::ToleranceTooFine,
             27 => Self::DoesNotRead,
+            28 => Self::HeightTooLarge,
             29 => Self::NotRising,
             other => Self::Unknown(other),
         }
@@ -182,6 +189,14 @@ impl PathError {
             other => Self::of_request(other, f64::NAN),
         }
     }
+
+    /// The refusal with this number of the heights of an axis.
+    pub(crate) fn of_heights(number: u64) -> Self {
+        match number {
+            3 => Self::NoSuchAxis,
+            other => Self::of_request(other, f64::NAN),
+        }
+    }
 }
 
 impl fmt::Display for PathError {
@@ -191,6 +206,7 @@ impl fmt::Display for PathError {
             Self::NoAxes => "the list of axes is empty",
             Self::BadAxes => "a listed axis is repeated or does not exist",
             Self::NotSelected => "the axis is not one of the smoothed axes",
+            Self::NoSuchAxis => "there is no such axis",
             Self::BadTolerance => "each smoothed axis needs a tolerance that is finite and above 0",
             Self::BadParameters => {
                 "the parameters must be finite, rise strictly and be as many as the waypoints"
@@ -250,6 +266,10 @@ impl fmt::Display for PathError {
             Self::DoesNotRead => {
                 "the bytes are no lane file: they are cut off, too long, damaged, or something else"
             }
+            Self::HeightTooLarge => {
+                "a control of the axis is beyond 20000, in millimetres 20 m, the most that the valve takes, or not \
+                 finite: subtract an offset from that coordinate"
+            }
             Self::NotRising => "two breaks are too close together to be told apart on the way back",
             Self::Unknown(number) => {
                 return write!(f, "the library refused with the unknown number {number}");
@@ -267,9 +287,10 @@ mod tests {
 
     #[test]
     fn a_number_names_its_case() {
-        for number in (1..=20).chain([24, 26, 27, 29, 77]) {
+        for number in (1..=20).chain([24, 26, 27, 28, 29, 77]) {
             assert_eq!(PathError::of_request(number, 2.5).number(), number);
             assert_eq!(PathError::of_certificate(number).number(), number);
+            assert_eq!(PathError::of_heights(number).number(), number);
             assert_eq!(
                 matches!(PathError::of_request(number, 2.5), PathError::Unknown(_)),
                 number == 77
@@ -281,6 +302,8 @@ mod tests {
         assert_eq!(used_up, PathError::RefinementsUsedUp { ratio: 2.5 });
         assert_eq!(PathError::of_certificate(3), PathError::NotSelected);
         assert_eq!(PathError::of_certificate(23), PathError::DepthAboveSix);
+        assert_eq!(PathError::of_heights(3), PathError::NoSuchAxis);
+        assert_eq!(PathError::of_heights(28), PathError::HeightTooLarge);
         assert!(used_up.to_string().ends_with("2.5"));
         assert_eq!(PathError::of_request(27, 2.5), PathError::DoesNotRead);
         assert_eq!(PathError::of_request(29, 2.5), PathError::NotRising);
@@ -289,7 +312,7 @@ mod tests {
     /// 5 has words of its own where the parameters are by chord length, and no other number has.
     #[test]
     fn chords_have_their_words() {
-        for number in (1..=20).chain([24, 26, 27, 29, 77]) {
+        for number in (1..=20).chain([24, 26, 27, 28, 29, 77]) {
             let error = PathError::of_request(number, 2.5);
             for spacing in [ffi::LISTED, ffi::EVEN] {
                 assert_eq!(error.of_spacing(spacing), error);

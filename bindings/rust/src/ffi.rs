@@ -171,6 +171,28 @@ unsafe extern "C" {
         lent_other_coefficients_len: usize,
     ) -> u64;
 
+    pub(crate) fn pamitoye_heights(
+        d: usize,
+        k: usize,
+        axes: *const [usize; 16],
+        start: f64,
+        end: f64,
+        clamp: bool,
+        segments: usize,
+        other_segments: usize,
+        breaks: *const f64,
+        breaks_len: usize,
+        coefficients: *const f64,
+        coefficients_len: usize,
+        other_breaks: *const f64,
+        other_breaks_len: usize,
+        other_coefficients: *const f64,
+        other_coefficients_len: usize,
+        axis: usize,
+        heights: *mut i32,
+        heights_len: usize,
+    ) -> u64;
+
     pub(crate) fn pamitoye_write_lane(
         d: usize,
         k: usize,

@@ -31,8 +31,9 @@
 //! - Sizes above [`MAX_AXES`], [`MAX_WAYPOINTS`], [`MAX_SEGMENTS`] and [`MAX_REFINEMENTS`] are refused.
 //! - New: [`Path::certify`], [`Path::evaluate_into`] and [`Path::evaluate_at`], the breaks, the coefficients and the
 //!   widths, [`Workspace`]; [`Spacing::Chord`], parameters by chord length, with [`chord_parameters`];
-//!   [`Path::reversed`], the lane driven back, with [`reversed_waypoints`]; [`Path::to_lane_file`] and
-//!   [`Path::from_lane_file`], the curve as bytes; and [`cutting_order`], which lane is cut first.
+//!   [`Path::reversed`], the lane driven back, with [`reversed_waypoints`]; [`Path::heights`], an axis in whole hundredths
+//!   for a valve; [`Path::to_lane_file`] and [`Path::from_lane_file`], the curve as bytes; and [`cutting_order`], which lane
+//!   is cut first.
 //!
 //! # What is relied on
 //!
@@ -59,8 +60,8 @@ mod path;
 mod workspace;
 
 pub use config::{
-    MAX_AXES, MAX_REFINEMENTS, MAX_SEGMENTS, MAX_WAYPOINTS, OutOfRangeMode, SmoothingConfig,
-    SmoothingReport, SmoothingTolerance, Spacing,
+    HEIGHTS_PER_SEGMENT, MAX_AXES, MAX_REFINEMENTS, MAX_SEGMENTS, MAX_WAYPOINTS, OutOfRangeMode,
+    SmoothingConfig, SmoothingReport, SmoothingTolerance, Spacing,
 };
 pub use error::PathError;
 pub use order::{MAX_LANES, MAX_PAIRS, OrderError, cutting_order, cutting_order_into};

@@ -1,4 +1,4 @@
-//! A smoothed path: built, asked, certified, reversed, written and read.
+//! A smoothed path: built, asked, certified, reversed, given in heights, written and read.
 
 use crate::config::{OutOfRangeMode, SmoothingConfig, SmoothingReport, Spacing};
 use crate::curve::Curve;
@@ -144,6 +144,74 @@ impl Path {
             report: None,
             spacing: self.spacing,
         })
+    }
+
+    /// The heights of an axis, for a valve that takes whole hundredths, 256 steps to a segment: with coordinates in
+    /// millimetres a height of 1 is a hundredth of a millimetre.
+    ///
+    /// The axis is any of the path's, smoothed or not. Cell `257 * i + j` is the height at step j of segment i, where the local
+    /// parameter is j/256; the segments are those of the axis's set, between [`breaks`](Path::breaks) where it is smoothed,
+    /// otherwise between [`other_breaks`](Path::other_breaks). Each has [`HEIGHTS_PER_SEGMENT`](crate::HEIGHTS_PER_SEGMENT)
+    /// heights, for j from 0 to 256. Step 256 of a segment and step 0 of the next are the same place, and their heights may
+    /// differ by the rounding of either's controls.
+    ///
+    /// The six Bernstein controls of a segment, as the build's audit computes them, are multiplied by 100, rounded once, and
+    /// taken to the nearest whole number, halves away from zero. A height is the exact polynomial of these whole controls at
+    /// j/256, to the nearest whole number, halves away from zero: it is never further from it than half a hundredth, and never
+    /// beyond 2,000,000 in size, which is proved. Whole controls move the polynomial by half a hundredth at most, so that a
+    /// height lies within a hundredth of the curve, but for what rounding in f64 does to controls and to a query.
+    ///
+    /// # Memory
+    ///
+    /// 1,028 bytes for each segment: 21 MB for 20,000.
+    ///
+    /// # Errors
+    ///
+    /// - [`PathError::NoSuchAxis`] (3): the axis is not below [`dim`](Path::dim).
+    /// - [`PathError::ShortSlice`] (19): there is no memory for them.
+    /// - [`PathError::HeightTooLarge`] (28): a control of any segment, times 100, is not finite or beyond 2,000,000 in size.
+    ///   In millimetres that is 20 m; an offset that is subtracted from that coordinate helps.
+    ///
+    /// ```
+    /// use pamitoye::{HEIGHTS_PER_SEGMENT, Path, PathError, SmoothingConfig};
+    ///
+    /// // Height and speed of three waypoints; height is smoothed, speed passes through each of them.
+    /// let points = [0.0, 1.2, 0.95, 1.4, 0.5, 1.3];
+    /// let config = SmoothingConfig {
+    ///     tolerance: 1.0.into(),
+    ///     axes: Some(vec![0]),
+    ///     ..Default::default()
+    /// };
+    /// let path = Path::from_waypoints_fitting(&points, (2, 3), config.clone())?;
+    ///
+    /// // One segment of height, from 0 to 0.5; a quarter of the way it is 0.125, which is 12.5 hundredths.
+    /// let heights = path.heights(0)?;
+    /// assert_eq!(heights.len(), HEIGHTS_PER_SEGMENT);
+    /// assert_eq!([heights[0], heights[64], heights[128], heights[256]], [0, 13, 25, 50]);
+    ///
+    /// // Two of speed: the second waypoint is step 256 of the first, and step 0 of the second.
+    /// let speed = path.heights(1)?;
+    /// assert_eq!(speed.len(), 2 * HEIGHTS_PER_SEGMENT);
+    /// assert_eq!([speed[0], speed[256], speed[257], speed[513]], [120, 140, 140, 130]);
+    ///
+    /// assert_eq!(path.heights(2).err(), Some(PathError::NoSuchAxis));
+    /// let far = points.map(|x| x + 20_000.0);
+    /// let far = Path::from_waypoints_fitting(&far, (2, 3), config)?;
+    /// assert_eq!(far.heights(0).err(), Some(PathError::HeightTooLarge));
+    /// # Ok::<(), PathError>(())
+    /// ```
+    pub fn heights(&self, axis: usize) -> Result<Vec<i32>, PathError> {
+        self.curve.heights(axis)
+    }
+
+    /// [`heights`](Path::heights) into the first cells of a slice of the caller's. The cells behind them are unchanged.
+    /// Nothing is allocated.
+    ///
+    /// # Errors
+    ///
+    /// No such axis (3), a slice that is too short (19), a control that is too large (28). Then nothing is written.
+    pub fn heights_into(&self, axis: usize, heights: &mut [i32]) -> Result<(), PathError> {
+        self.curve.heights_into(axis, heights)
     }
 
     /// The path's lane file: its curve as bytes, as the second harvester loads it from a card.

@@ -1,7 +1,8 @@
 //! Sizes above the domain are refused before anything is allocated, and so are lane files.
 
 use pamitoye::{
-    MAX_AXES, MAX_REFINEMENTS, MAX_SEGMENTS, MAX_WAYPOINTS, Path, PathError, SmoothingConfig,
+    HEIGHTS_PER_SEGMENT, MAX_AXES, MAX_REFINEMENTS, MAX_SEGMENTS, MAX_WAYPOINTS, Path, PathError,
+    SmoothingConfig,
 };
 use std::alloc::{GlobalAlloc, Layout, System};
 use std::cell::Cell;
@@ -110,15 +111,19 @@ fn refused_lane_files() {
     assert!(error.is_none() && taken > 0);
 }
 
-/// Queries into slices of the caller's do not allocate.
+/// Queries and heights into slices of the caller's do not allocate, and neither do heights of no axis.
 #[test]
 fn queries_into_slices() {
     let path = Path::from_waypoints_fitting(&[0., 1.], (1, 2), Default::default()).unwrap();
     let (mut q, mut dq) = ([0.; 3], [0.; 3]);
+    let mut heights = [0; HEIGHTS_PER_SEGMENT];
     let before = CALLS.get();
     path.evaluate_into(&[0., 0.5, 1.], &mut [&mut q, &mut dq])
         .unwrap();
     path.evaluate_at(0.25, &mut [&mut dq]).unwrap();
+    path.heights_into(0, &mut heights).unwrap();
+    assert_eq!(path.heights(1), Err(PathError::NoSuchAxis));
     assert_eq!(CALLS.get(), before);
     assert_eq!((q, dq[0]), ([0., 0.5, 1.], 0.25));
+    assert_eq!((heights[0], heights[128], heights[256]), (0, 50, 100));
 }
