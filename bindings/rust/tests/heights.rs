@@ -236,7 +236,7 @@ fn rows_of(axis: usize) -> [usize; 2] {
 fn halves() {
     let (mut r, weights) = (Random::new(28), weights());
     let (mut whole_halves, mut step_halves) = (0, 0);
-    for _ in 0..1000 {
+    for _ in 0..2000 {
         let most = r.pick(&[3, 40, 159_999]);
         let mut draw = || r.below(2 * most + 1) as i64 - most as i64;
         let eighths: [[i64; 6]; 6] = std::array::from_fn(|_| std::array::from_fn(|_| draw()));

@@ -1,5 +1,6 @@
 //! A lane: the columns of a table that are axes, and the one with the parameters, or the rule that spaces them.
 
+use crate::columns::{Columns, Named};
 use crate::csv::Table;
 use crate::names::{self, Names};
 use crate::options::Options;
@@ -7,9 +8,6 @@ use pamitoye::{
     Path, PathError, SmoothingConfig, SmoothingTolerance, Spacing, chord_parameters,
     reversed_waypoints,
 };
-
-/// The rules of spacing, by the words of `--parameters`.
-const RULES: [(&str, Spacing); 2] = [("even", Spacing::Even), ("chord", Spacing::Chord)];
 
 /// Where the parameters of a lane come from.
 #[derive(Clone, Copy)]
@@ -36,6 +34,8 @@ pub struct Lane {
     pub tolerance: SmoothingTolerance,
     /// The depth at which it is certified.
     pub depth: usize,
+    /// The axis whose heights are asked for, if they are.
+    pub height_axis: Option<usize>,
     /// Whether it is driven back.
     pub back: bool,
 }
@@ -51,9 +51,10 @@ impl Lane {
             .filter(|c| named != Named::Column(*c))
             .collect();
         let axes = match &options.axes {
-            Some(list) => Some(selected(&columns, list, &axis_columns)?),
+            Some(list) => Some(columns.selected(list, &axis_columns)?),
             None => None,
         };
+        let height_axis = columns.height_axis(options, &axis_columns)?;
         let smoothed = axes.as_ref().map_or(axis_columns.len(), Vec::len);
         let tolerance = options.config.tolerance.clone();
         if let SmoothingTolerance::PerAxis(list) = &tolerance
@@ -97,6 +98,7 @@ impl Lane {
             lines: table.rows.iter().map(|row| row.line).collect(),
             tolerance,
             depth: options.depth,
+            height_axis,
             back: false,
         })
     }
@@ -169,91 +171,4 @@ impl Lane {
 fn even_parameters(n: usize) -> Vec<f64> {
     let last = n.saturating_sub(1) as f64;
     (0..n).map(|i| i as f64 / last).collect()
-}
-
-/// What `--parameters` names.
-#[derive(PartialEq)]
-enum Named {
-    /// The column with this place from 0.
-    Column(usize),
-    Rule(Spacing),
-}
-
-/// The columns of a table, by header and by number.
-struct Columns<'a> {
-    header: Option<&'a [String]>,
-    count: usize,
-}
-
-impl<'a> Columns<'a> {
-    fn new(table: &'a Table) -> Self {
-        Self {
-            header: table.header.as_deref(),
-            count: table.columns,
-        }
-    }
-
-    fn name(&self, column: usize) -> String {
-        match self.header.and_then(|header| header.get(column)) {
-            Some(name) if !name.is_empty() => name.clone(),
-            _ => names::column(column),
-        }
-    }
-
-    /// The column with this header.
-    fn headed(&self, wanted: &str) -> Option<usize> {
-        let header = self.header.unwrap_or_default();
-        header.iter().position(|name| name == wanted)
-    }
-
-    /// The column with this header or, if there is none, this number from 1.
-    fn find(&self, option: &str, wanted: &str) -> Result<usize, String> {
-        if let Some(column) = self.headed(wanted) {
-            return Ok(column);
-        }
-        match wanted.parse::<usize>() {
-            Ok(number) if (1..=self.count).contains(&number) => Ok(number - 1),
-            _ => Err(format!(
-                "{option}: there is no column \"{wanted}\"; there are {}",
-                self.listed()
-            )),
-        }
-    }
-
-    /// The column with the parameters, or the rule that spaces them. A word that is both is refused.
-    fn parameters(&self, wanted: &str) -> Result<Named, String> {
-        let option = "--parameters";
-        let Some((word, rule)) = RULES.into_iter().find(|(word, _)| *word == wanted) else {
-            let words = RULES.map(|(word, _)| word).join(" and ");
-            let found = self.find(option, wanted).map(Named::Column);
-            return found.map_err(|wrong| format!("{wrong}; the rules are {words}"));
-        };
-        match self.headed(word).map(|column| column + 1) {
-            None => Ok(Named::Rule(rule)),
-            Some(number) => Err(format!(
-                "{option}: \"{word}\" is a rule, and column {number} is called so too; \
-                 write {number} for the column, or rename it for the rule"
-            )),
-        }
-    }
-
-    fn listed(&self) -> String {
-        let names: Vec<String> = (0..self.count).map(|c| self.name(c)).collect();
-        names.join(", ")
-    }
-}
-
-/// The places of these columns among the axes.
-fn selected(columns: &Columns, list: &[String], axes: &[usize]) -> Result<Vec<usize>, String> {
-    let mut places = Vec::new();
-    for wanted in list {
-        let column = columns.find("--axes", wanted)?;
-        let place = axes.iter().position(|c| *c == column);
-        let place = place.ok_or_else(|| format!("--axes: \"{wanted}\" holds the parameters"))?;
-        if places.contains(&place) {
-            return Err(format!("--axes: \"{wanted}\" is named twice"));
-        }
-        places.push(place);
-    }
-    Ok(places)
 }

@@ -1,9 +1,12 @@
 //! A lane file: a curve without the waypoints that it was made of, and what can be told of it.
 
+use crate::columns::Columns;
+use crate::heights;
 use crate::names::{self, Names};
+use crate::options::Options;
 use crate::report::{advice, reason, table};
 use crate::sampled::Sampled;
-use crate::sets::sets;
+use crate::sets::{set_of, sets};
 use crate::{counted, number};
 use pamitoye::{OutOfRangeMode, Path, PathError};
 use std::fmt::Write;
@@ -13,6 +16,8 @@ pub struct LaneFile {
     pub path: Path,
     /// How many bytes it has.
     bytes: usize,
+    /// The axis whose heights are asked for, if they are.
+    pub height_axis: Option<usize>,
     /// Whether it is driven back.
     pub back: bool,
 }
@@ -33,7 +38,18 @@ impl LaneFile {
             },
             path,
             bytes: count,
+            height_axis: None,
             back: false,
+        })
+    }
+
+    /// The same with the axis whose heights are asked for.
+    pub fn with_heights(self, options: &Options) -> Result<Self, String> {
+        let axes: Vec<usize> = (0..self.path.dim()).collect();
+        let height_axis = Columns::numbered(axes.len()).height_axis(options, &axes)?;
+        Ok(Self {
+            height_axis,
+            ..self
         })
     }
 
@@ -52,6 +68,7 @@ impl LaneFile {
     pub fn refusal(&self, error: &PathError) -> String {
         let remedy = match error {
             PathError::NotRising => self.too_close(),
+            PathError::HeightTooLarge => self.too_high(),
             _ => remedy(error),
         };
         self.head() + &reason(error) + &advice(remedy)
@@ -133,6 +150,27 @@ impl LaneFile {
             "warning: coefficients that are not finite: {count} of {all}, in {names}; \
              no value of their segments is finite\n"
         )
+    }
+
+    /// The first end of a segment where the valve does not take the coordinate.
+    fn too_high(&self) -> Option<String> {
+        let axis = self.height_axis?;
+        let sets = sets(&self.path);
+        let ends = set_of(&sets, axis)?.ends(&self.path);
+        let values = self.path.evaluate_q(&ends).ok()?.q;
+        let values = values.iter().skip(axis).step_by(self.path.dim().max(1));
+        let end = ends
+            .iter()
+            .zip(values)
+            .find(|(_, it)| heights::too_large(**it));
+        let known = match end {
+            Some((x, it)) => {
+                let (x, it) = (number(*x), number(*it));
+                format!("at {} {x} it is {it}", self.names.parameter)
+            }
+            None => "where segments end it is, but not every control between".to_string(),
+        };
+        Some(heights::remedy(self.names.axis(axis), &known))
     }
 
     /// The first two breaks that are one number on the way back.

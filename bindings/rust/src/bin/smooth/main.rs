@@ -1,5 +1,5 @@
-//! `smooth`: waypoints from a CSV file, smoothed; a report in words, and on request segments, samples, a picture and a lane
-//! file. Or a lane file: what it holds, and the same on request.
+//! `smooth`: waypoints from a CSV file, smoothed; a report in words, and on request segments, samples, heights, a picture and a
+//! lane file. Or a lane file: what it holds, and the same on request.
 
 #![deny(unsafe_code)]
 #![deny(
@@ -9,7 +9,9 @@
     clippy::indexing_slicing
 )]
 
+mod columns;
 mod csv;
+mod heights;
 mod lane;
 mod lane_file;
 mod names;
@@ -22,6 +24,7 @@ mod sets;
 mod svg;
 mod tables;
 
+use heights::Heights;
 use lane::Lane;
 use lane_file::LaneFile;
 use names::Names;
@@ -59,7 +62,7 @@ fn run() -> Result<Outcome, String> {
     };
     let bytes = input(&options)?;
     let made = match options.from_lane_file {
-        true => made_of_file(&options, &bytes),
+        true => made_of_file(&options, &bytes)?,
         false => made_of_csv(&options, &bytes)?,
     };
     let (report, files) = match made {
@@ -113,30 +116,53 @@ fn smoothed<'a>(options: &'a Options, lane: &Lane) -> Result<(String, Files<'a>)
     let back = back.as_ref().map(|(lane, path)| (lane, path));
     let report = report::accepted((lane, path), back)?;
     let (shown, driven) = back.unwrap_or((lane, path));
-    let picture = || picture::of_lane(shown, driven, &report::build(path));
-    Ok((report, files(options, &shown.names, driven, picture)?))
+    let heights = Heights::of(driven, lane.height_axis)?;
+    let picture = || picture::of_lane((shown, driven), &report::build(path), heights.as_ref());
+    let files = files(options, &shown.names, driven, heights.as_ref(), picture)?;
+    Ok((
+        report + &heights_in_words(&shown.names, heights.as_ref()),
+        files,
+    ))
 }
 
-/// What is made of the bytes of a lane file, or of its lane driven back.
-fn made_of_file<'a>(options: &'a Options, bytes: &[u8]) -> Made<'a> {
-    let out = LaneFile::read(&options.input_name(), bytes)?;
+/// What is made of the bytes of a lane file.
+fn made_of_file<'a>(options: &'a Options, bytes: &[u8]) -> Result<Made<'a>, String> {
+    match LaneFile::read(&options.input_name(), bytes) {
+        Ok(file) => Ok(shown(options, file.with_heights(options)?)),
+        Err(words) => Ok(Err(words)),
+    }
+}
+
+/// The report and the files of a lane file, or of its lane driven back.
+fn shown(options: &Options, out: LaneFile) -> Made<'_> {
     let shown = match options.back {
         true => out.reversed()?,
         false => out,
     };
     let made = || {
-        let picture = || picture::of_file(&shown);
-        let files = files(options, &shown.names, &shown.path, picture)?;
-        Ok((shown.report()?, files))
+        let (names, path) = (&shown.names, &shown.path);
+        let heights = Heights::of(path, shown.height_axis)?;
+        let picture = || picture::of_file(&shown, heights.as_ref());
+        let files = files(options, names, path, heights.as_ref(), picture)?;
+        Ok((
+            shown.report()? + &heights_in_words(names, heights.as_ref()),
+            files,
+        ))
     };
     made().map_err(|error| shown.refusal(&error))
 }
 
-/// The files that are asked for, of this path.
+/// What the report says of the heights, if they are asked for.
+fn heights_in_words(names: &Names, heights: Option<&Heights>) -> String {
+    heights.map_or_else(String::new, |heights| heights.report(names))
+}
+
+/// The files that are asked for, of this path and the heights of its axis.
 fn files<'a>(
     options: &'a Options,
     names: &Names,
     path: &Path,
+    heights: Option<&Heights>,
     picture: impl Fn() -> Result<String, PathError>,
 ) -> Result<Files<'a>, PathError> {
     let mut files = Files::new();
@@ -145,6 +171,9 @@ fn files<'a>(
     }
     if let Some(file) = &options.samples {
         files.push((file, tables::samples(options, names, path)?.into_bytes()));
+    }
+    if let (Some(file), Some(heights)) = (&options.heights, heights) {
+        files.push((file, heights.table(names).into_bytes()));
     }
     if let Some(file) = &options.picture {
         files.push((file, picture()?.into_bytes()));

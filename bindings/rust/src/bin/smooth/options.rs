@@ -30,16 +30,23 @@ standard input is read.
       --mode error|clamp   samples outside that of the parameters: refused, or standing still at the nearer end (error);
                            a lane file that is written keeps the mode
       --depth N            halvings of a piece of the curve, 6 at most, that may tighten the certified figure (0)
-      --picture FILE       writes a picture as SVG: waypoints, curve, tolerance, and the distance between curve and line
+      --heights FILE       writes the heights of an axis for the blade valve as CSV: segment, step, parameter, and the
+                           height in whole hundredths; a segment has steps 0 to 256, a coordinate is taken as millimetres
+      --height-axis COLUMN the axis of --heights, smoothed or not, by header or by number from 1 (the first axis)
+      --picture FILE       writes a picture as SVG: waypoints, curve, tolerance, and the distance between curve and line;
+                           with --heights, these too
       --back               the lane driven back: report, picture and files are those of the way back, which is certified
                            anew against the waypoints in reverse; the report has the figure of the way out beside it
       --lane-file FILE     writes a lane file: the curve as bytes, for a machine to load
       --from-lane-file     FILE is a lane file, not a CSV file: the report says what it holds, and --segments, --samples,
-                           --picture, --back and --lane-file work as above. It has no waypoints, so that nothing is
-                           smoothed or certified; its columns are called by their numbers, and its mode is its own
+                           --heights, --picture, --back and --lane-file work as above. It has no waypoints, so that
+                           nothing is smoothed or certified; its columns are called by their numbers, and its mode is
+                           its own
   -h, --help               prints this
 
 Of a segment: u = (parameter - first) / (last - first), v = (u - left) / (right - left), value = p0 + p1 v + .. + p5 v^5.
+At a step v = step / 256, and the height is 100 times the value as a whole number, within one hundredth of it. The valve takes
+20 m: where the axis goes further, heights are refused (28), and an offset subtracted from its column helps.
 On the way back the parameter of a waypoint is first + (last - its parameter), so that it rises from first to last again.
 By chord length the parameter goes from 0 to the length of the line through the waypoints; --from and --to are in it too.
 
@@ -52,6 +59,7 @@ examples:
   smooth --tolerance 0.05,0.2 --axes x,z --parameters time --picture lane.svg lane.csv
   smooth --tolerance 0.05 --parameters chord lane.csv
   smooth -t 1 --segments segments.csv --samples samples.csv --count 1001 < lane.csv
+  smooth --tolerance 0.05 --heights valve.csv --height-axis z --picture lane.svg lane.csv
   smooth --tolerance 0.05 --lane-file card.lane lane.csv
   smooth --from-lane-file --picture card.svg card.lane
 
@@ -76,6 +84,9 @@ pub struct Options {
     pub config: SmoothingConfig,
     pub segments: Option<PathBuf>,
     pub samples: Option<PathBuf>,
+    pub heights: Option<PathBuf>,
+    /// The column whose heights they are; none for the first axis.
+    pub height_axis: Option<String>,
     pub picture: Option<PathBuf>,
     pub lane_file: Option<PathBuf>,
     /// Whether the input is a lane file.
@@ -115,6 +126,8 @@ pub fn read(arguments: impl Iterator<Item = OsString>) -> Result<Command, String
         config: SmoothingConfig::default(),
         segments: None,
         samples: None,
+        heights: None,
+        height_axis: None,
         picture: None,
         lane_file: None,
         from_lane_file: false,
@@ -158,6 +171,9 @@ pub fn read(arguments: impl Iterator<Item = OsString>) -> Result<Command, String
     if options.from_lane_file {
         names.iter().try_for_each(|name| without_waypoints(name))?;
     }
+    if options.height_axis.is_some() && options.heights.is_none() {
+        return Err("--height-axis names the axis of --heights, which is missing".to_string());
+    }
     let mut files = files.into_iter();
     options.input = files.next().filter(|f| f != "-").map(PathBuf::from);
     match files.next() {
@@ -179,7 +195,7 @@ fn flag<'a>(options: &'a mut Options, name: &str) -> Option<&'a mut bool> {
 }
 
 /// The options that have a value.
-const NAMES: [&str; 17] = [
+const NAMES: [&str; 19] = [
     "-t",
     "--tolerance",
     "-a",
@@ -195,6 +211,8 @@ const NAMES: [&str; 17] = [
     "--to",
     "--mode",
     "--depth",
+    "--heights",
+    "--height-axis",
     "--picture",
     "--lane-file",
 ];
@@ -223,6 +241,8 @@ fn set(options: &mut Options, name: &str, value: OsString) -> Result<(), String>
         "--max-segments" => config.max_segments = whole(name, &text)?,
         "--segments" => options.segments = Some(value.into()),
         "--samples" => options.samples = Some(value.into()),
+        "--heights" => options.heights = Some(value.into()),
+        "--height-axis" => options.height_axis = Some(text.trim().to_string()),
         "--picture" => options.picture = Some(value.into()),
         "--lane-file" => options.lane_file = Some(value.into()),
         "--depth" => options.depth = depth(name, &text)?,

@@ -1,14 +1,16 @@
 //! The pictures. Of a lane: for each axis the waypoints, the curve and the tolerance around the line, and below it the
 //! distance between curve and line, with tolerance and certified figure. Of a lane file, which has no waypoints: the curve of
-//! each axis. They read in print and on a dark screen, and no line is told from another by its colour alone.
+//! each axis. Where heights are asked for, their steps are stairs over the curve of their axis. The pictures read in print and on
+//! a dark screen, and no line is told from another by its colour alone.
 
+use crate::heights::Heights;
 use crate::lane::Lane;
 use crate::lane_file::LaneFile;
 use crate::plot::{Frame, Place, Range, columns, exponent, straightened, ten_to};
 use crate::report::{self, Margin};
 use crate::sampled::{Sampled, Spot};
-use crate::sets::{Set, sets};
-use crate::svg::{STYLE, Svg, escaped, length};
+use crate::sets::{Set, set_of, sets};
+use crate::svg::{HEIGHT_STYLE, STYLE, Svg, escaped, length};
 use crate::{counted, number};
 use pamitoye::{Path, PathError};
 
@@ -27,7 +29,7 @@ struct Picture<'a> {
     /// The line below the title.
     made: String,
     /// What the legend shows: classes of the style.
-    legend: &'static [&'static str],
+    legend: Vec<&'static str>,
     /// The parameter's name and range.
     parameter: &'a str,
     across: Range,
@@ -44,6 +46,7 @@ struct Block<'a> {
     /// The parameters at which segments end.
     ends: Vec<f64>,
     up: Range,
+    heights: Option<&'a Heights>,
     /// Of a smoothed axis of a lane.
     distance: Option<Distance<'a>>,
 }
@@ -53,16 +56,31 @@ struct Distance<'a> {
     margin: &'a Margin,
     curve: Vec<(f64, f64)>,
     furthest: Option<Spot>,
+    heights: Option<Steps<'a>>,
+}
+
+/// The heights of an axis beside its line.
+struct Steps<'a> {
+    heights: &'a Heights,
+    lane: &'a Lane,
+    /// The largest distance of a height from the line.
+    furthest: f64,
+}
+
+impl<'a> Steps<'a> {
+    fn new(heights: &'a Heights, lane: &'a Lane) -> Self {
+        let distances = heights.distances(lane).flatten();
+        Self {
+            heights,
+            lane,
+            furthest: distances.fold(0., |most, place| place.1.max(most)),
+        }
+    }
 }
 
 /// The range of these numbers, or from 0 to 1 where none is finite.
 fn range(numbers: impl Iterator<Item = f64>) -> Range {
     Range::of(numbers).unwrap_or(Range { low: 0., high: 1. })
-}
-
-/// The set that has this axis.
-fn set_of<'a, 'b>(sets: &'b [Set<'a>], axis: usize) -> Option<&'b Set<'a>> {
-    sets.iter().find(|set| set.axes.contains(&axis))
 }
 
 impl<'a> Block<'a> {
@@ -71,8 +89,10 @@ impl<'a> Block<'a> {
         (lane, path): (&'a Lane, &Path),
         sampled: &Sampled,
         margins: &'a [Margin],
+        heights: Option<&'a Heights>,
         axis: usize,
     ) -> Self {
+        let heights = heights.filter(|heights| heights.axis == axis);
         let margin = margins.iter().find(|margin| margin.axis == axis);
         let around = margin.map_or(0., |margin| margin.tolerance);
         let curve = sampled.curve(axis);
@@ -80,16 +100,19 @@ impl<'a> Block<'a> {
             .map(|i| (lane.parameter(i), lane.point(i, axis)))
             .collect();
         let band = waypoints.iter().flat_map(|(_, y)| [y - around, y + around]);
-        let up = range(band.chain(curve.iter().map(|place| place.1)));
+        let up = range(band.chain(shown(&curve, heights)));
         let distance = margin.map(|margin| Distance {
             margin,
             curve: sampled.distance(lane, axis),
             furthest: sampled.furthest(lane, axis),
+            heights: heights.map(|heights| Steps::new(heights, lane)),
         });
-        let words = match &distance {
+        let mut words = match &distance {
             Some(distance) => distance.words(lane),
             None => vec!["not smoothed: through every waypoint".to_string()],
         };
+        let steps = distance.as_ref().and_then(|d| d.heights.as_ref());
+        words.extend(heights.map(|heights| in_words(heights, steps)));
         Self {
             name: lane.names.axis(axis),
             words,
@@ -97,14 +120,21 @@ impl<'a> Block<'a> {
             curve,
             ends: set_of(&sets(path), axis).map_or_else(Vec::new, |set| set.ends(path)),
             up: up.widened(0.05),
+            heights,
             distance,
         }
     }
 
     /// An axis of a lane file.
-    fn of_file(file: &'a LaneFile, sampled: &Sampled, axis: usize) -> Self {
+    fn of_file(
+        file: &'a LaneFile,
+        sampled: &Sampled,
+        heights: Option<&'a Heights>,
+        axis: usize,
+    ) -> Self {
+        let heights = heights.filter(|heights| heights.axis == axis);
         let curve = sampled.curve(axis);
-        let up = range(curve.iter().map(|place| place.1));
+        let up = range(shown(&curve, heights));
         let sets = sets(&file.path);
         let set = set_of(&sets, axis);
         let segments = counted(set.map_or(0, Set::segments), "segment");
@@ -116,6 +146,7 @@ impl<'a> Block<'a> {
         if curve.iter().any(|place| !place.1.is_finite()) {
             words.push("not drawn where its values are not finite".to_string());
         }
+        words.extend(heights.map(|heights| in_words(heights, None)));
         Self {
             name: file.names.axis(axis),
             words,
@@ -123,6 +154,7 @@ impl<'a> Block<'a> {
             curve,
             ends: set.map_or_else(Vec::new, |set| set.ends(&file.path)),
             up: up.widened(0.05),
+            heights,
             distance: None,
         }
     }
@@ -140,6 +172,22 @@ impl<'a> Block<'a> {
         };
         self.head() + UPPER + lower + 56.
     }
+}
+
+/// The numbers that an axis's scale has to show: those of the curve and the heights.
+fn shown(curve: &[(f64, f64)], heights: Option<&Heights>) -> impl Iterator<Item = f64> {
+    let heights = heights.into_iter().flat_map(Heights::places).flatten();
+    let places = curve.iter().copied().chain(heights);
+    places.map(|place| place.1)
+}
+
+/// The range of the heights and, of a smoothed axis of a lane, their largest distance from the line.
+fn in_words(heights: &Heights, steps: Option<&Steps>) -> String {
+    let from_line = steps.map(|steps| {
+        let furthest = rounded_up(steps.furthest);
+        format!("; at most {furthest} from the line")
+    });
+    heights.range() + &from_line.unwrap_or_default()
 }
 
 impl Distance<'_> {
@@ -162,7 +210,7 @@ impl Distance<'_> {
         words
     }
 
-    /// The scale: the certified figure is in it unless it is far above the tolerance.
+    /// The scale: the certified figure is in it unless it is far above the tolerance, and all heights are.
     fn scale(&self) -> Range {
         let tolerance = self.margin.tolerance;
         let figure = self.margin.figure.unwrap_or(0.);
@@ -171,6 +219,10 @@ impl Distance<'_> {
         } else {
             tolerance
         };
+        let high = self
+            .heights
+            .iter()
+            .fold(high, |high, steps| steps.furthest.max(high));
         let high = if high * 1.22 < f64::MAX {
             high * 1.22
         } else {
@@ -185,27 +237,40 @@ fn back(driven_back: bool) -> &'static str {
     if driven_back { ", driven back" } else { "" }
 }
 
+/// What the legend shows of a lane.
+const OF_LANE: [&str; 9] = [
+    "point",
+    "line",
+    "curve",
+    "break",
+    "band",
+    "distance",
+    "tolerance",
+    "certified",
+    "mark",
+];
+
+/// The legend with the heights, if there are any.
+fn with_heights(shown: &[&'static str], heights: Option<&Heights>) -> Vec<&'static str> {
+    let heights = heights.map(|_| "height");
+    shown.iter().copied().chain(heights).collect()
+}
+
 /// The picture of a lane and its path, with what the build did in words.
-pub fn of_lane(lane: &Lane, path: &Path, built: &str) -> Result<String, PathError> {
+pub fn of_lane(
+    (lane, path): (&Lane, &Path),
+    built: &str,
+    heights: Option<&Heights>,
+) -> Result<String, PathError> {
     let sampled = Sampled::of_lane(lane, path)?;
     let margins = Margin::all(lane, path)?;
     let blocks = (0..lane.d())
-        .map(|axis| Block::of_lane((lane, path), &sampled, &margins, axis))
+        .map(|axis| Block::of_lane((lane, path), &sampled, &margins, heights, axis))
         .collect();
     let picture = Picture {
         title: format!("{}, smoothed{}", lane.names.file_name(), back(lane.back)),
         made: format!("{}, {built}", counted(lane.n(), "waypoint")),
-        legend: &[
-            "point",
-            "line",
-            "curve",
-            "break",
-            "band",
-            "distance",
-            "tolerance",
-            "certified",
-            "mark",
-        ],
+        legend: with_heights(&OF_LANE, heights),
         parameter: &lane.names.parameter,
         across: range(sampled.parameters.iter().copied()),
         blocks,
@@ -214,15 +279,15 @@ pub fn of_lane(lane: &Lane, path: &Path, built: &str) -> Result<String, PathErro
 }
 
 /// The picture of a lane file.
-pub fn of_file(file: &LaneFile) -> Result<String, PathError> {
+pub fn of_file(file: &LaneFile, heights: Option<&Heights>) -> Result<String, PathError> {
     let sampled = file.sampled()?;
     let blocks = (0..file.path.dim())
-        .map(|axis| Block::of_file(file, &sampled, axis))
+        .map(|axis| Block::of_file(file, &sampled, heights, axis))
         .collect();
     let picture = Picture {
         title: format!("{}{}", file.names.file_name(), back(file.back)),
         made: file.made(),
-        legend: &["curve", "break"],
+        legend: with_heights(&["curve", "break"], heights),
         parameter: &file.names.parameter,
         across: range(sampled.parameters.iter().copied()),
         blocks,
@@ -236,7 +301,7 @@ impl Picture<'_> {
         let mut body = Svg(String::new());
         body.text((20., 34.), "class=\"title\"", &self.title);
         body.text((20., 56.), "", &self.made);
-        let mut top = legend(&mut body, 76., self.legend);
+        let mut top = legend(&mut body, 76., &self.legend);
         for block in &self.blocks {
             let upper = Frame {
                 left,
@@ -263,7 +328,11 @@ impl Picture<'_> {
         ));
         svg.add(format_args!("<title>{}</title>", escaped(&self.title)));
         svg.add(format_args!("<desc>{}</desc>", escaped(&self.made)));
-        svg.add(format_args!("<style>\n{STYLE}</style>"));
+        let more = match self.legend.contains(&"height") {
+            true => HEIGHT_STYLE,
+            false => "",
+        };
+        svg.add(format_args!("<style>\n{STYLE}{more}</style>"));
         svg.rectangle("paper", (0., 0.), (WIDTH, top));
         svg.0 + &body.0 + "</svg>\n"
     }
@@ -293,6 +362,7 @@ fn legend(svg: &mut Svg, top: f64, shown: &[&str]) -> f64 {
         ("tolerance", "tolerance"),
         ("certified", "certified: no point lies further away"),
         ("mark", "furthest from the line"),
+        ("height", "height for the valve, in whole hundredths"),
     ];
     let (mut x, mut y) = (20., top);
     for (class, text) in items.into_iter().filter(|item| shown.contains(&item.0)) {
@@ -305,6 +375,18 @@ fn legend(svg: &mut Svg, top: f64, shown: &[&str]) -> f64 {
             "point" => svg.circle(middle, 3.2),
             "break" => svg.line(class, (x + 16., y - 5.), (x + 16., y + 5.)),
             "mark" => svg.diamond(middle),
+            "height" => {
+                let stairs = [
+                    (0., 5.),
+                    (8., 5.),
+                    (8., 0.),
+                    (20., 0.),
+                    (20., -5.),
+                    (32., -5.),
+                ];
+                let stairs = stairs.map(|(right, down)| (x + right, y + down));
+                svg.path(class, &[stairs.to_vec()], "");
+            }
             "band" => {
                 svg.rectangle(class, (x, y - 6.), (32., 12.));
                 svg.line("edge", (x, y - 6.), (x + 32., y - 6.));
@@ -389,6 +471,9 @@ fn upper_frame(svg: &mut Svg, block: &Block, frame: &Frame) {
     }
     svg.path("line", &frame.lines(&block.waypoints), "");
     svg.path("curve", &frame.lines(&block.curve), "");
+    if let Some(heights) = block.heights {
+        svg.path("height", &[frame.stairs(heights.places())], "");
+    }
     let places: Vec<Place> = block
         .ends
         .iter()
@@ -433,6 +518,10 @@ fn lower_frame(svg: &mut Svg, distance: &Distance, upper: &Frame) -> Frame {
         .collect();
     svg.path("area", &areas, "Z");
     svg.path("distance", &lines, "");
+    if let Some(steps) = &distance.heights {
+        let distances = steps.heights.distances(steps.lane);
+        svg.path("height", &[frame.stairs(distances)], "");
+    }
     levels(svg, &frame, distance.margin);
     if let Some(spot) = &distance.furthest {
         let place = (frame.x(spot.parameter), frame.y(spot.distance));
@@ -529,8 +618,12 @@ mod tests {
                 let numbers = [&range[..], &breaks, &[0.; 6], &second].concat();
                 let bytes = numbers.iter().flat_map(|x| x.to_le_bytes());
                 let bytes: Vec<u8> = [1, 1, 0, 0, 2, 0].into_iter().chain(bytes).collect();
-                let file = LaneFile::read("f", &bytes);
-                let svg = file.map(|file| of_file(&file).unwrap_or_default());
+                let svg = LaneFile::read("f", &bytes).map(|file| {
+                    let heights = Heights::of(&file.path, Some(0)).unwrap_or_default();
+                    let small = number.abs() < 1.;
+                    assert_eq!(heights.is_some(), small);
+                    of_file(&file, heights.as_ref()).unwrap_or_default()
+                });
                 let body = svg.as_ref().map(|svg| svg.rsplit("</style>").next());
                 let mut words = body.ok().flatten().into_iter().flat_map(words);
                 assert!(words.clone().any(|word| word == "curve"));

@@ -144,11 +144,31 @@ impl Frame {
             .map(|part| {
                 let places: Vec<Place> =
                     part.iter().map(|(x, y)| (self.x(*x), self.y(*y))).collect();
-                straightened(&columns(&places, 0.5))
+                straightened(&columns(&places, COLUMN))
             })
             .collect()
     }
+
+    /// The stairs through these numbers, part after part, without what can't be seen. They rise halfway between numbers.
+    pub fn stairs(&self, parts: impl Iterator<Item = Vec<(f64, f64)>>) -> Vec<Place> {
+        let mut before: Option<Place> = None;
+        let places = parts.flat_map(|part| {
+            let places = part.iter().map(|(x, y)| (self.x(*x), self.y(*y)));
+            let steps = places.flat_map(|(x, y)| {
+                let rise = before.replace((x, y)).map(|(left, last)| {
+                    let middle = (left + x) / 2.;
+                    [(middle, last), (middle, y)]
+                });
+                rise.into_iter().flatten().chain([(x, y)])
+            });
+            columns(&steps.collect::<Vec<Place>>(), COLUMN)
+        });
+        straightened(&columns(&places.collect::<Vec<Place>>(), COLUMN))
+    }
 }
+
+/// The width of the columns in which a line is thinned out.
+const COLUMN: f64 = 0.5;
 
 /// Of the places in each column of this width the first, the lowest, the highest and the last, in their order.
 pub fn columns(places: &[Place], width: f64) -> Vec<Place> {
@@ -239,6 +259,36 @@ mod tests {
         assert_eq!(texts(1.5e308, f64::MAX), ["1.5e308", "1.6e308", "1.7e308"]);
         assert!(texts(5e-324, 1e-323).len() < 12);
         assert!(texts(f64::NAN, f64::NAN).len() < 12);
+    }
+
+    #[test]
+    fn stairs_rise_halfway() {
+        let unit = Range { low: 0., high: 1. };
+        let frame = Frame {
+            left: 0.,
+            top: 0.,
+            width: 100.,
+            height: 10.,
+            across: unit,
+            up: unit,
+        };
+        let parts = [
+            vec![(0., 0.), (0.2, 0.), (0.4, 1.)],
+            vec![(0.4, 1.), (1., 0.5)],
+        ];
+        let wanted = [
+            (0., 10.),
+            (30., 10.),
+            (30., 0.),
+            (70., 0.),
+            (70., 5.),
+            (100., 5.),
+        ];
+        assert_eq!(frame.stairs(parts.into_iter()), wanted);
+        // As many parts as there may be segments: a few places for each column.
+        let part = |i: u32| (0..257).map(move |j| f64::from(i * 257 + j) / 5_140_000.);
+        let parts = (0..20_000).map(|i| part(i).map(|x| (x, (x * 9e5) % 1.)).collect());
+        assert!(frame.stairs(parts).len() < 4 * 2 * 101);
     }
 
     #[test]

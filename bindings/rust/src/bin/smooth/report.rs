@@ -1,5 +1,6 @@
 //! The report in words and numbers.
 
+use crate::heights;
 use crate::lane::{Lane, Source};
 use crate::options::Options;
 use crate::sampled::Sampled;
@@ -298,8 +299,23 @@ fn remedy(options: &Options, lane: &Lane, error: &PathError) -> Option<String> {
         PathError::OutOfRangeS { .. } => {
             "--from and --to within the parameters, or --mode clamp".to_string()
         }
+        PathError::HeightTooLarge => too_high(lane)?,
         _ => return None,
     })
+}
+
+/// The first line whose coordinate the valve does not take.
+fn too_high(lane: &Lane) -> Option<String> {
+    let axis = lane.height_axis?;
+    let line = (0..lane.n()).find(|i| heights::too_large(lane.point(*i, axis)));
+    let known = match line {
+        Some(i) => {
+            let (line, it) = (lane.lines.get(i)?, number(lane.point(i, axis)));
+            format!("in line {line} it is {it}")
+        }
+        None => "every waypoint is within it, but not every control of the curve".to_string(),
+    };
+    Some(heights::remedy(lane.names.axis(axis), &known))
 }
 
 /// The first line whose parameter is not above the one before.

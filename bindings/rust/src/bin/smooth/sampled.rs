@@ -103,6 +103,16 @@ impl Spot {
     }
 }
 
+/// An axis's line through the lane's waypoints at this parameter, which is within theirs.
+pub fn line_at(lane: &Lane, axis: usize, x: f64) -> f64 {
+    let above = lane.parameters.partition_point(|p| *p <= x);
+    let right = above.clamp(1, lane.n().saturating_sub(1).max(1));
+    let left = right - 1;
+    let (from, to) = (lane.parameter(left), lane.parameter(right));
+    let part = (x - from) / (to - from);
+    between(lane.point(left, axis), lane.point(right, axis), part)
+}
+
 /// The number so far from `a` to `b`; the ends exactly.
 fn between(a: f64, b: f64, part: f64) -> f64 {
     if part == 0. {

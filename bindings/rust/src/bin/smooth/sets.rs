@@ -63,8 +63,22 @@ impl<'a> Set<'a> {
 
     /// The parameters at which the segments end.
     pub fn ends(&self, path: &Path) -> Vec<f64> {
-        let (start, end) = path.s_range();
-        let ends = self.breaks.iter().map(|b| start + b * (end - start));
+        let ends = self.breaks.iter().map(|b| parameter(path, *b));
         ends.collect()
+    }
+}
+
+/// The set that has this axis.
+pub fn set_of<'a, 'b>(sets: &'b [Set<'a>], axis: usize) -> Option<&'b Set<'a>> {
+    sets.iter().find(|set| set.axes.contains(&axis))
+}
+
+/// The parameter at a place between the breaks, from 0 to 1: at 0 exactly the first one, at 1 the last, and none beyond it.
+pub fn parameter(path: &Path, place: f64) -> f64 {
+    let (start, end) = path.s_range();
+    if place < 1. {
+        (start + place * (end - start)).min(end)
+    } else {
+        end
     }
 }

@@ -40,6 +40,14 @@ text { fill: #e6edf3 }
 }
 ";
 
+/// The style of the steps of heights, in pictures that have them.
+pub const HEIGHT_STYLE: &str = "\
+.height { fill: none; stroke: #d1570c; stroke-width: 1.2 }
+@media (prefers-color-scheme: dark) {
+.height { stroke: #ffa657 }
+}
+";
+
 /// The text of a picture that grows.
 pub struct Svg(pub String);
 
