@@ -267,8 +267,8 @@ impl fmt::Display for PathError {
                 "the bytes are no lane file: they are cut off, too long, damaged, or something else"
             }
             Self::HeightTooLarge => {
-                "a control of the axis is beyond 20000, in millimetres 20 m, the most that the valve takes, or not \
-                 finite: subtract an offset from that coordinate"
+                "a control of the axis is not finite or beyond 20000 (in millimetres 20 m), the most that the valve takes: \
+                 subtract an offset from that coordinate"
             }
             Self::NotRising => "two breaks are too close together to be told apart on the way back",
             Self::Unknown(number) => {

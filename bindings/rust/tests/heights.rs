@@ -91,12 +91,9 @@ struct Seen {
     heights: usize,
     /// Heights that are not 0.
     not_zero: usize,
-    /// Places where two segments meet, and those where their heights differ.
+    /// Places where two segments meet.
     joints: usize,
-    apart: usize,
     reversed: usize,
-    /// Heights whose like on the way back is another.
-    turned: usize,
     /// The largest distance of a height from the curve, in hundredths.
     furthest: f64,
 }
@@ -123,10 +120,8 @@ fn joints(path: &Path, axis: usize, heights: &[i32], seen: &mut Seen) {
     for (p, pair) in rows.iter().zip(segments.windows(2)) {
         // With larger coefficients rounding may move a value by a hundredth.
         if p.iter().all(|p| p.abs() < 1e9) {
-            let differ = pair[0][256].abs_diff(pair[1][0]);
-            assert!(differ <= 1);
+            assert!(pair[0][256].abs_diff(pair[1][0]) <= 1);
             seen.joints += 1;
-            seen.apart += usize::from(differ != 0);
         }
     }
 }
@@ -163,10 +158,8 @@ fn check_back(path: &Path, back: &Path, seen: &mut Seen) {
     for axis in 0..path.dim() {
         if let (Ok(out), Ok(back)) = (path.heights(axis), back.heights(axis)) {
             assert_eq!(out.len(), back.len());
-            for (out, back) in out.iter().rev().zip(&back) {
-                assert!(out.abs_diff(*back) <= 2);
-                seen.turned += usize::from(out != back);
-            }
+            let mut pairs = out.iter().rev().zip(&back);
+            assert!(pairs.all(|(out, back)| out.abs_diff(*back) <= 2));
         }
     }
     seen.reversed += 1;
@@ -197,7 +190,7 @@ fn drawn_paths() {
     println!("{seen:?}");
     assert!(seen.paths > 900 && seen.others > 500 && seen.refused > 300);
     assert!(seen.heights > 5_000_000 && seen.not_zero > 2_000_000);
-    assert!(seen.joints > 10_000 && seen.apart > 10 && seen.reversed > 800);
+    assert!(seen.joints > 10_000 && seen.reversed > 800);
     assert!(seen.furthest > 0.9);
 }
 
@@ -299,6 +292,11 @@ fn equal_controls() {
             );
         }
     }
+    // The same place, rounded down at the end of one segment and up at the start of the next.
+    let flat = |x: f64| [x, 0., 0., 0., 0., 0.];
+    let (below, half) = (flat(0.125f64.next_down()), flat(0.125));
+    let heights = two_segments([below, below, half, half, below, half]).heights(0);
+    assert_eq!(heights, Ok([[12; 257], [13; 257]].concat()));
     // A straight line of 512 hundredths: two for each step.
     let path = two_segments([[0., 5.12, 0., 0., 0., 0.]; 6]);
     let line: Vec<i32> = (0..257).map(|j| 2 * j).collect();

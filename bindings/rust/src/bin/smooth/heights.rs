@@ -155,11 +155,11 @@ pub fn too_large(coordinate: f64) -> bool {
     !(-MOST..=MOST).contains(&coordinate)
 }
 
-/// What helps where a height is too large: for this axis, of which this much is known.
-pub fn remedy(axis: &str, known: &str) -> String {
+/// What helps where a height of this axis is too large, and where that is.
+pub fn remedy(axis: &str, place: &str) -> String {
     let most = number(MOST);
     format!(
-        "an offset subtracted from {axis}, which is taken as millimetres, so that it stays within {most} (20 m); {known}"
+        "an offset subtracted from {axis}, taken as millimetres, so that it stays within {most} (20 m); {place}"
     )
 }
 

@@ -152,25 +152,30 @@ impl LaneFile {
         )
     }
 
-    /// The first end of a segment where the valve does not take the coordinate.
+    /// The first end of a segment where the valve does not take the coordinate. No offset helps against one that is not finite.
     fn too_high(&self) -> Option<String> {
-        let axis = self.height_axis?;
-        let sets = sets(&self.path);
-        let ends = set_of(&sets, axis)?.ends(&self.path);
+        let (axis, sets) = (self.height_axis?, sets(&self.path));
+        let set = set_of(&sets, axis)?;
+        let name = self.names.axis(axis);
+        let mut pieces = set.pieces().filter(|piece| piece.axis == axis);
+        if let Some(piece) = pieces.find(|piece| wrong(piece.powers) > 0) {
+            let segment = piece.segment;
+            return Some(format!(
+                "the lane smoothed anew; coefficients of {name} on segment {segment} are not finite"
+            ));
+        }
+        let ends = set.ends(&self.path);
         let values = self.path.evaluate_q(&ends).ok()?.q;
         let values = values.iter().skip(axis).step_by(self.path.dim().max(1));
-        let end = ends
-            .iter()
-            .zip(values)
-            .find(|(_, it)| heights::too_large(**it));
-        let known = match end {
+        let mut ends = ends.iter().zip(values);
+        let place = match ends.find(|(_, it)| heights::too_large(**it)) {
             Some((x, it)) => {
                 let (x, it) = (number(*x), number(*it));
                 format!("at {} {x} it is {it}", self.names.parameter)
             }
-            None => "where segments end it is, but not every control between".to_string(),
+            None => "where segments end it is, but not all controls between".to_string(),
         };
-        Some(heights::remedy(self.names.axis(axis), &known))
+        Some(heights::remedy(name, &place))
     }
 
     /// The first two breaks that are one number on the way back.

@@ -45,8 +45,8 @@ standard input is read.
   -h, --help               prints this
 
 Of a segment: u = (parameter - first) / (last - first), v = (u - left) / (right - left), value = p0 + p1 v + .. + p5 v^5.
-At a step v = step / 256, and the height is 100 times the value as a whole number, within one hundredth of it. The valve takes
-20 m: where the axis goes further, heights are refused (28), and an offset subtracted from its column helps.
+At a step v = step / 256, and the height is 100 times the value as a whole number, within one hundredth of it. The
+valve takes 20 m: where the axis goes further, heights are refused (28), and an offset subtracted from its column helps.
 On the way back the parameter of a waypoint is first + (last - its parameter), so that it rises from first to last again.
 By chord length the parameter goes from 0 to the length of the line through the waypoints; --from and --to are in it too.
 

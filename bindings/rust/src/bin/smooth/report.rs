@@ -308,14 +308,14 @@ fn remedy(options: &Options, lane: &Lane, error: &PathError) -> Option<String> {
 fn too_high(lane: &Lane) -> Option<String> {
     let axis = lane.height_axis?;
     let line = (0..lane.n()).find(|i| heights::too_large(lane.point(*i, axis)));
-    let known = match line {
+    let place = match line {
         Some(i) => {
             let (line, it) = (lane.lines.get(i)?, number(lane.point(i, axis)));
             format!("in line {line} it is {it}")
         }
-        None => "every waypoint is within it, but not every control of the curve".to_string(),
+        None => "its waypoints are within it, but not all controls of its curve".to_string(),
     };
-    Some(heights::remedy(lane.names.axis(axis), &known))
+    Some(heights::remedy(lane.names.axis(axis), &place))
 }
 
 /// The first line whose parameter is not above the one before.
