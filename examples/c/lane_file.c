@@ -3,16 +3,11 @@
  * travel; and shows what is refused. To compile: as lane95.c; it writes examples/c/lane_file.txt,
  * and ends with 1 where something is not as the header says.
  */
-#include <inttypes.h>
 #include <stdio.h>
 #include <stdlib.h>
 #include <string.h>
 
 #include "curve.h"
-#include "expect.h"
-#include "pamitoye.h"
-
-enum { D = 1, N = 3, MAX_REFINEMENTS = 20, MAX_SEGMENTS = 100 };
 
 /* What a byte holds before a call, also of the cells that are lent to the reader. */
 enum { MARK = 0xa5 };
@@ -48,34 +43,6 @@ static bool all_marked(const void *bytes, size_t n) {
 static struct slice cells(size_t n) {
     struct slice made = {marked(n * sizeof(double)), n};
     return made;
-}
-
-static struct curve build(void) {
-    const double points[D * N] = {0, 0.95, 0};
-    const double no_list[1] = {0}; /* for slices of length 0 */
-    const size_t no_axes[1] = {0};
-    struct curve c = {.d = D, .clamp = false};
-    size_t room[6] = {0}, counts[5] = {0};
-    double ratio = 0;
-    expect("room", pamitoye_room(D, N, MAX_SEGMENTS, room), PAMITOYE_DONE);
-    struct slice work = cells(room[0]), errors = cells(room[5]);
-    c.breaks = cells(room[1]);
-    c.coefficients = cells(room[2]);
-    c.other_breaks = cells(room[3]);
-    c.other_coefficients = cells(room[4]);
-    expect("build", pamitoye_build(points, D * N, D, N, true, no_axes, 0, true, 1.0, no_list, 0,
-        PAMITOYE_EVEN, no_list, 0, MAX_REFINEMENTS, MAX_SEGMENTS, c.clamp, SLICE(work),
-        SLICE(c.breaks), SLICE(c.coefficients), SLICE(c.other_breaks), SLICE(c.other_coefficients),
-        SLICE(errors), counts, &ratio, &c.k, c.axes, &c.start, &c.end), PAMITOYE_DONE);
-    /* the used cells; all axes are smoothed, so that the other set is empty */
-    c.segments = counts[0];
-    c.other_segments = counts[1];
-    c.breaks.len = c.segments + 1;
-    c.coefficients.len = (6 * c.k + 1) * c.segments;
-    c.other_breaks.len = c.other_coefficients.len = 0;
-    free(work.cells);
-    free(errors.cells);
-    return c;
 }
 
 /* A length that is never too short for the curve's file. */
@@ -179,13 +146,6 @@ static void nans(struct curve *c) {
     memcpy(c->coefficients.cells, kept, sizeof kept);
 }
 
-static void turn_a_bit(double *cell) {
-    uint64_t bits;
-    memcpy(&bits, cell, sizeof bits);
-    bits ^= 1;
-    memcpy(cell, &bits, sizeof bits);
-}
-
 /* Writing tests 24, then 19; neither changes a byte. */
 static void write_refusals(struct curve *c, size_t needed) {
     uint8_t *file = marked(needed);
@@ -234,7 +194,10 @@ static void read_refusals(uint8_t *file, size_t count) {
 }
 
 int main(void) {
-    struct curve c = build();
+    const double points[3] = {0, 0.95, 0};
+    const struct lane lane = {.d = 1, .n = 3, .points = points, .tolerance = 1.0};
+    double error = 0;
+    struct curve c = build(&lane, &error);
     if (failures)
         return 1;
     size_t count = 0;

@@ -3,16 +3,12 @@
  * compile: as lane95.c; it writes examples/c/way_back.txt, and ends with 1 where something is not
  * as the header says.
  */
-#include <inttypes.h>
 #include <stdio.h>
 #include <stdlib.h>
-#include <string.h>
 
 #include "curve.h"
-#include "expect.h"
-#include "pamitoye.h"
 
-enum { D = 2, N = 9, HEIGHT = 0, MAX_REFINEMENTS = 20, MAX_SEGMENTS = 100 };
+enum { D = 2, N = 9, HEIGHT = 0 };
 
 /* What a lent cell holds before a call. */
 #define MARK (-7.0)
@@ -33,13 +29,6 @@ static bool all_marked(const double *cells, size_t n) {
     return true;
 }
 
-#define SLICES(c)                                                                                  \
-    SLICE((c).breaks), SLICE((c).coefficients), SLICE((c).other_breaks),                           \
-        SLICE((c).other_coefficients)
-#define CURVE(c)                                                                                   \
-    (c).d, (c).k, (c).axes, (c).start, (c).end, (c).clamp, (c).segments, (c).other_segments,       \
-        SLICES(c)
-
 /* The same numbers, and slices of its own for the way back: one marked cell more in each. */
 static struct curve room_for(const struct curve *c) {
     struct curve back = *c;
@@ -55,37 +44,6 @@ static bool none_written(const struct curve *c) {
         && all_marked(c->coefficients.cells, c->coefficients.len + 1)
         && all_marked(c->other_breaks.cells, c->other_breaks.len + 1)
         && all_marked(c->other_coefficients.cells, c->other_coefficients.len + 1);
-}
-
-static struct curve build(const double *points, const double *parameters) {
-    const size_t axis_list[1] = {HEIGHT};
-    const double no_list[1] = {0}; /* for a slice of length 0 */
-    struct curve c = {.d = D, .clamp = false};
-    size_t room[6] = {0}, counts[5] = {0};
-    double ratio = 0;
-    expect("room", pamitoye_room(D, N, MAX_SEGMENTS, room), PAMITOYE_DONE);
-    double *work = marked(room[0]), *errors = marked(room[5]);
-    c.breaks.cells = marked(room[1]);
-    c.coefficients.cells = marked(room[2]);
-    c.other_breaks.cells = marked(room[3]);
-    c.other_coefficients.cells = marked(room[4]);
-    expect("build", pamitoye_build(points, D * N, D, N, false, axis_list, 1, true, 0.4, no_list, 0,
-        PAMITOYE_LISTED, parameters, N, MAX_REFINEMENTS, MAX_SEGMENTS, c.clamp, work, room[0],
-        c.breaks.cells, room[1], c.coefficients.cells, room[2], c.other_breaks.cells, room[3],
-        c.other_coefficients.cells, room[4], errors, room[5], counts, &ratio, &c.k, c.axes,
-        &c.start, &c.end), PAMITOYE_DONE);
-    /* the used cells: coefficients, and behind them a width for each segment */
-    c.segments = counts[0];
-    c.other_segments = counts[1];
-    c.breaks.len = c.segments + 1;
-    c.coefficients.len = (6 * c.k + 1) * c.segments;
-    c.other_breaks.len = c.other_segments + 1;
-    c.other_coefficients.len = (6 * (D - c.k) + 1) * c.other_segments;
-    printf("  %zu segments of height, %zu of speed, error %.17g\n", c.segments, c.other_segments,
-        errors[0]);
-    free(work);
-    free(errors);
-    return c;
 }
 
 /* The widths stand behind the coefficients: each is the difference of its breaks. */
@@ -149,13 +107,6 @@ static void figures(const struct curve *out, const struct curve *back, const dou
     }
 }
 
-static void turn_a_bit(double *cell) {
-    uint64_t bits;
-    memcpy(&bits, cell, sizeof bits);
-    bits ^= 1;
-    memcpy(cell, &bits, sizeof bits);
-}
-
 /* 24, 19 and 29, each before the next; none writes a cell. */
 static void refusals(const struct curve *out) {
     struct curve lent = room_for(out);
@@ -199,7 +150,13 @@ int main(void) {
     const double points[D * N] = {0, 1.2, 0, 1.25, 8, 1.1, 8, 1.3, 3, 1.28, 3, 1.2, 9, 1.22, 9,
         1.26, 1, 1.2};
     const double parameters[N] = {0, 6, 10, 16, 18, 24, 30, 34, 40};
-    struct curve out = build(points, parameters), back = room_for(&out);
+    const size_t smoothed[1] = {HEIGHT};
+    const struct lane lane = {.d = D, .n = N, .points = points, .tolerance = 0.4, .axis_count = 1,
+        .axes = smoothed, .parameters = parameters};
+    double error = 0;
+    struct curve out = build(&lane, &error), back = room_for(&out);
+    printf("  %zu segments of height, %zu of speed, error %.17g\n", out.segments,
+        out.other_segments, error);
     widths(&out);
     expect("return lane", pamitoye_return_lane(CURVE(out), SLICES(back)), PAMITOYE_DONE);
     const bool formed = pamitoye_well_formed(CURVE(back));
