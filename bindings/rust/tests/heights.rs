@@ -260,6 +260,40 @@ fn halves() {
     assert!(whole_halves > 10_000 && step_halves > 200);
 }
 
+/// The same controls with their fractions rounded first: another order of roundings.
+fn fractions_first(p: &[f64]) -> [f64; 6] {
+    let fraction = |k, j| choose(k, j) as f64 / choose(5, j) as f64;
+    std::array::from_fn(|k| (0..=k).fold(0., |sum, j| sum + p[j] * fraction(k, j)))
+}
+
+/// Controls that are a half after the multiplication, to about the last bit: there every rounding on the way to them shows.
+#[test]
+fn roundings() {
+    let (mut r, weights) = (Random::new(100), weights());
+    let mut shown = 0;
+    for _ in 0..4000 {
+        let rows = std::array::from_fn(|_| {
+            let mut p: [f64; 6] = std::array::from_fn(|_| 10. * r.signed());
+            let half = (r.below(4000) as f64 - 1999.5) / 100.;
+            p[0] = 0.;
+            p[0] = half - controls(&p, 0., 1.)[r.between(1, 5)];
+            for _ in 0..r.below(4) {
+                p[0] = p[0].next_up();
+            }
+            let whole_controls = |controls: [f64; 6]| controls.map(whole);
+            let other = whole_controls(fractions_first(&p));
+            shown += usize::from(whole_controls(controls(&p, 0., 1.)) != other);
+            p
+        });
+        let path = two_segments(rows);
+        for axis in 0..3 {
+            assert_eq!(path.heights(axis).ok(), wanted(&path, axis, &weights));
+        }
+    }
+    println!("{shown} of 24000 segments show another order of roundings");
+    assert!(shown > 300);
+}
+
 /// The weights of a step total 2^40, so that equal controls are the height at every step: zeros, halves and both limits.
 #[test]
 fn equal_controls() {
