@@ -185,7 +185,7 @@ fn shown(curve: &[(f64, f64)], heights: Option<&Heights>) -> impl Iterator<Item 
 fn in_words(heights: &Heights, steps: Option<&Steps>) -> String {
     let from_line = steps.map(|steps| {
         let furthest = rounded_up(steps.furthest);
-        format!("; at most {furthest} from the line")
+        format!(", each at most {furthest} from the line")
     });
     heights.range() + &from_line.unwrap_or_default()
 }
