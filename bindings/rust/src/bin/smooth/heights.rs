@@ -76,7 +76,7 @@ impl Heights {
         Some([lowest, highest])
     }
 
-    /// How many there are, the lowest and the highest.
+    /// How many there are, the lowest and the highest, and what no certified figure counts.
     pub fn report(&self, names: &Names) -> String {
         let segments = self.cells.len() / HEIGHTS_PER_SEGMENT;
         let mut text = format!(
@@ -100,6 +100,7 @@ impl Heights {
                 at.step
             );
         }
+        text += "a height may lie a hundredth from the curve: a certified figure, which is of the curve, does not count that\n";
         text
     }
 
