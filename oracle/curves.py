@@ -136,8 +136,8 @@ class Lent:
             raise Difference(f"number {got}, and not {wanted}")
         if self.buffer != self.after:
             at = next(i for i, (x, y) in enumerate(zip(self.buffer, self.after)) if x != y)
-            part = [name for place, name in [(0, "the first cells"), *zip(self.places, self.names)] if place <= at][-1]
-            raise Difference(f"number {got}, but a cell of {part}, or behind it, is not as it must be")
+            place, part = [found for found in [(0, "the first cells"), *zip(self.places, self.names)] if found[0] <= at][-1]
+            raise Difference(f"number {got}, but a cell of {part}, or behind it, is not as it must be, at byte {at - place}")
 
 
 SLICES = ["breaks", "coefficients", "other_breaks", "other_coefficients"]
