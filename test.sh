@@ -1,14 +1,25 @@
 #!/usr/bin/env bash
 # All tests: the layout, the documents, the unchanged Rust with the stored lists of its answers, the toolchain's
 # gate, the examples through the program `lane` that the gate built, and the library through programs in C, a second
-# writer and reader of lane files, and the crate for Rust. The gate's last line, `N passed, 0 failed`, is the last
-# line here too.
+# writer and reader of lane files, a second computation of heights, and the crate for Rust. The gate's last line,
+# `N passed, 0 failed`, is the last line here too.
 set -euo pipefail
 cd "$(dirname "$0")"
 
 fail() {
     echo "test.sh: $1" >&2
     exit 1
+}
+
+# The library against a second computation, oracle/NAME.py: its stored list, and so many turns of drawn cases.
+compare_second() {
+    python3 "oracle/$1.py" store | cmp - "oracle/$1.txt" || fail "oracle/$1.txt is not what 'oracle/$1.py store' prints"
+    python3 "oracle/$1.py" replay "$scratch/pamitoye.so" "oracle/$1.txt" || fail "the library differs from oracle/$1.txt"
+    python3 "oracle/$1.py" compare "$scratch/pamitoye.so" "$2" > "$scratch/log" || {
+        cat "$scratch/log" >&2
+        fail "the library differs from oracle/$1.py"
+    }
+    tail -n 1 "$scratch/log"
 }
 
 SECONDS=0
@@ -78,7 +89,7 @@ echo "$(ls examples/*.job | wc -l) examples print what they must"
 if [ -n "${SMOOTHING_RS:-}" ] && [ -x oracle/target/release/oracle ]; then
     oracle/target/release/oracle lane target/bin/lane 3 2000 || fail "lane differs from the Rust"
 fi
-echo "== the library: its archive, the examples in C, and lane files by a second writer and reader"
+echo "== the library: its archive, the examples in C, lane files and heights by a second computation"
 # Every crate below is taken as it was proved; the toolchain checks the library itself once more for this kind of archive.
 rt staticlib pamitoye > "$scratch/log" 2>&1 || {
     cat "$scratch/log" >&2
@@ -96,17 +107,12 @@ else
     echo "skipped: cc for x86-64 is not at hand; the examples in C are not compiled"
 fi
 if command -v cc > /dev/null && command -v python3 > /dev/null && [ "$(uname -m)" = x86_64 ]; then
-    python3 oracle/lane_files.py store | cmp - oracle/lane_files.txt ||
-        fail "oracle/lane_files.txt is not what 'oracle/lane_files.py store' prints"
     cc -shared -o "$scratch/pamitoye.so" -Wl,--whole-archive target/staticlib/libpamitoye.a -Wl,--no-whole-archive ||
         fail "the archive does not become a shared object"
-    python3 oracle/lane_files.py replay "$scratch/pamitoye.so" oracle/lane_files.txt ||
-        fail "a lane file differs from the stored list"
-    python3 oracle/lane_files.py compare "$scratch/pamitoye.so" 1500 > "$scratch/log" ||
-        fail "a lane file differs from the second writer or reader"
-    tail -n 1 "$scratch/log"
+    compare_second lane_files 1500
+    compare_second heights 400
 else
-    echo "skipped: cc for x86-64 or python3 is not at hand; lane files are not compared with the second writer and reader"
+    echo "skipped: cc for x86-64 or python3 is not at hand; lane files and heights are not computed a second time"
 fi
 
 echo "== the crate for Rust, and the program smooth"

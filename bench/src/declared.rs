@@ -1,4 +1,5 @@
 //! How the library's functions are declared here: those that take a curve have the same first parameters.
+use crate::handed::HandedCurve;
 use crate::spacing::Spacing;
 
 /// The number of a spacing in the header, `enum pamitoye_spacing`.
@@ -42,3 +43,38 @@ macro_rules! declared {
     };
 }
 pub(crate) use declared;
+
+/// A call whose first arguments are the curve's numbers and slices.
+macro_rules! of_curve {
+    ($function:ident, $curve:expr $(, $rest:expr)* $(,)?) => {
+        $function(
+            $curve.d,
+            $curve.k,
+            &crate::declared::axes($curve),
+            $curve.start,
+            $curve.end,
+            false,
+            $curve.segments,
+            $curve.other_segments,
+            $curve.breaks.as_ptr(),
+            $curve.breaks.len(),
+            $curve.coefficients.as_ptr(),
+            $curve.coefficients.len(),
+            $curve.other_breaks.as_ptr(),
+            $curve.other_breaks.len(),
+            $curve.other_coefficients.as_ptr(),
+            $curve.other_coefficients.len(),
+            $($rest),*
+        )
+    };
+}
+pub(crate) use of_curve;
+
+/// The axes, and 0 behind them.
+pub fn axes(curve: &HandedCurve) -> [usize; 16] {
+    let mut axes = [0; 16];
+    for (to, from) in axes.iter_mut().zip(&curve.axes) {
+        *to = *from;
+    }
+    axes
+}

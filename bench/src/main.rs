@@ -7,11 +7,13 @@ pub(crate) use standin::DMatrixView;
 mod builds;
 mod certificates;
 mod declared;
+mod heights;
 mod lane_files;
 mod leaves;
 mod numbers;
 mod queries;
 mod spacings;
+mod times;
 mod ways_back;
 
 // The oracle's: what the source takes from elsewhere, requests with their generator, and what its appendix hands out.
@@ -92,5 +94,8 @@ fn main() {
     }
     if asked("lane_files") {
         lane_files::run();
+    }
+    if asked("heights") {
+        heights::run();
     }
 }

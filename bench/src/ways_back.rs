@@ -2,7 +2,7 @@
 //! lanes that come back against the unchanged source's `evaluate`, bit for bit; widths that are damaged; then the time
 //! of a return lane, beside that of copying its cells.
 use crate::case::Pieces;
-use crate::declared::declared;
+use crate::declared::{declared, of_curve};
 use crate::handed::HandedCurve;
 use crate::numbers::same;
 use crate::query::{MARK, Queries, Told};
@@ -25,39 +25,6 @@ declared! {
         ddq: *mut f64, ddq_len: usize, dddq: *mut f64, dddq_len: usize,
         refused_at: *mut usize,
     ) -> u64;
-}
-
-/// A call whose first arguments are the curve's numbers and slices.
-macro_rules! of_curve {
-    ($function:ident, $curve:expr $(, $rest:expr)* $(,)?) => {
-        $function(
-            $curve.d,
-            $curve.k,
-            &axes($curve),
-            $curve.start,
-            $curve.end,
-            false,
-            $curve.segments,
-            $curve.other_segments,
-            $curve.breaks.as_ptr(),
-            $curve.breaks.len(),
-            $curve.coefficients.as_ptr(),
-            $curve.coefficients.len(),
-            $curve.other_breaks.as_ptr(),
-            $curve.other_breaks.len(),
-            $curve.other_coefficients.as_ptr(),
-            $curve.other_coefficients.len(),
-            $($rest),*
-        )
-    };
-}
-
-fn axes(curve: &HandedCurve) -> [usize; 16] {
-    let mut axes = [0; 16];
-    for (to, from) in axes.iter_mut().zip(&curve.axes) {
-        *to = *from;
-    }
-    axes
 }
 
 /// The port's number, with all cells of the four lent slices after the call.
@@ -208,7 +175,7 @@ impl Counts {
 }
 
 /// A curve of n segments and d smoothed axes.
-fn long(random: &mut Random, n: usize, d: usize) -> HandedCurve {
+pub fn long(random: &mut Random, n: usize, d: usize) -> HandedCurve {
     let pieces = Pieces {
         breaks: (0..=n).map(|i| i as f64 / n as f64).collect(),
         coefficients: (0..6 * n * d).map(|_| random.plain()).collect(),
