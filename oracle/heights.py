@@ -130,20 +130,17 @@ def answer(c, axis, room):
 
 # What is to hold of heights beside: they are near the exact polynomial, which is not taken from the weights here.
 
-def exact(controls, t):
-    """The polynomial with these Bernstein controls at t: de Casteljau."""
+def exact(controls, j):
+    """The polynomial with these Bernstein controls at j / 256, over 2^40: de Casteljau, each of five steps over 256."""
     while len(controls) > 1:
-        controls = [(1 - t) * x + t * y for x, y in zip(controls, controls[1:])]
+        controls = [(STEPS - j) * x + j * y for x, y in zip(controls, controls[1:])]
     return controls[0]
 
 
-@functools.lru_cache(4096)
-def check_near(controls, steps):
-    """Heights are within a half of the exact polynomial."""
+def far(controls, steps):
+    """The steps whose heights are further than a half from the exact polynomial."""
     heights = heights_of(controls)
-    for j in steps:
-        if abs(heights[j] - exact(controls, Fraction(j, STEPS))) > Fraction(1, 2):
-            raise Difference(f"step {j} of the controls {controls} is further than a half from the polynomial")
+    return [j for j in steps if 2 * abs(heights[j] * ONE - exact(controls, j)) > ONE]
 
 
 # The library.
@@ -230,27 +227,38 @@ def drawn_wholes(r):
     return [r.pick([-LIMIT, LIMIT]) if r.chance(3) else r.between(-size, size) for _ in range(6)]
 
 
-# Whole controls with which a step that is no multiple of 8 is a half exactly; found by trying.
-HALFWAY = {1: [1500496, 1171064, -225870, -1680135, 1715922, -676788], 255: [-193713, 1988717, 120537, -428592, 965138, 1789154],
-           101: [443750, 616924, 201105, -1112671, -454388, -1368906], 114: [-1260343, 1375443, -1051745, 1424627, 1183688, -1815862],
-           132: [-1535769, 480163, 131960, -731601, -1341097, -853307]}
+def shortened(a, b):
+    """Two short vectors of the plane with the whole multiples of a and b and their sums: Lagrange's reduction."""
+    while True:
+        if a[0]**2 + a[1]**2 > b[0]**2 + b[1]**2:
+            a, b = b, a
+        n = nearest(a[0] * b[0] + a[1] * b[1], a[0]**2 + a[1]**2)
+        if n == 0:
+            return a, b
+        b = (b[0] - n * a[0], b[1] - n * a[1])
 
 
-def halfway(r, j):
-    """Whole controls with which step j, a multiple of 8 or one of those above, is a half exactly."""
-    sign = r.pick([-1, 1])
-    if j in HALFWAY:
-        return [sign * c for c in HALFWAY[j]]
-    # Both j and 256 - j are an odd number times 2^e, so that 2^(5e) is in every weight, and the last one odd but for it.
+def halfway(r, j, less=0):
+    """Whole controls with which step j, 1 to 255, is a half exactly, or by `less` times the least that its sum may change below."""
+    # Both j and 256 - j are an odd number times 2^e, so that 2^(5e) is in every weight.
     e = (j & -j).bit_length() - 1
     modulus, row = 2**(40 - 5 * e), [weight >> 5 * e for weight in WEIGHTS[j]]
     size = r.pick([60, LIMIT])
     while True:
-        controls = [r.between(-size, size) for _ in range(5)]
-        last = (modulus // 2 - sum(map(operator.mul, controls, row))) * pow(row[5], -1, modulus) % modulus
-        last -= modulus * (last > modulus // 2)
-        if abs(last) <= LIMIT:
-            return [sign * c for c in [*controls, last]]
+        controls = [r.between(-size, size) for _ in range(6)]
+        # Two with odd weights are chosen last: of all pairs that are due, a small one.
+        k, l = r.pick([(0, 5), (1, 4), (0, 4), (1, 5), (4, 5), (0, 1)])
+        controls[k] = controls[l] = 0
+        inverse = pow(row[l], -1, modulus)
+        due = (modulus // 2 - less - sum(map(operator.mul, controls, row))) * inverse % modulus
+        a, b = shortened((1, -row[k] * inverse % modulus), (0, modulus))
+        if a[0] * b[1] < a[1] * b[0]:
+            a, b = b, a
+        x, y = nearest(-due * b[0], modulus), nearest(due * a[0], modulus)
+        controls[k], controls[l] = -x * a[0] - y * b[0], due - x * a[1] - y * b[1]
+        if max(map(abs, controls)) <= LIMIT:
+            sign = r.pick([-1, 1])
+            return [sign * c for c in controls]
 
 
 def near_hundredth(r):
@@ -284,7 +292,8 @@ def half_control(r):
 
 
 def half_height(r):
-    return in_hundredths(halfway(r, r.pick([128, 64, 192, 16 * r.between(1, 15), 8 * r.between(1, 31), *HALFWAY])))
+    """A step that is a half, or next to one."""
+    return in_hundredths(halfway(r, r.pick([128, 64, 192, 16 * r.between(1, 15), r.between(1, 255)]), r.pick([0, 0, 1, -1])))
 
 
 def hundredths(r):
@@ -394,18 +403,23 @@ class Comparison:
         heights = None
         if controls is not None:
             heights = [height for row in controls for height in heights_of(row)]
-            steps = (0, 1, 128, 255, 256, *(self.r.below(ROW) for _ in range(3)))
-            for i, row in enumerate(controls):
-                check_near(row, tuple(range(ROW)) if self.r.below(50 + i) == 0 else steps)
+            for row in controls:
+                steps = range(ROW) if self.r.chance(10) else [self.r.below(ROW) for _ in range(8)]
+                self.seen["heights beside the polynomial"] += len(steps)
+                for j in far(row, steps):
+                    self.differs(f"step {j} of the controls {row} is further than a half from the polynomial")
             self.count(c, axis, controls)
         self.counts.add("asked", kind, number)
         try:
             self.library.heights(c, axis, room, self.r.below(32), (number, heights))
         except Difference as difference:
-            self.differences += 1
-            if self.differences <= 5:
-                print(f"{kind}: {difference}:", " ".join(map(str, [*curve_words(c), axis, room]))[:2000])
+            self.differs(f"{kind}: {difference}: " + " ".join(map(str, [*curve_words(c), axis, room])))
         return heights
+
+    def differs(self, what):
+        self.differences += 1
+        if self.differences <= 5:
+            print(what[:3000])
 
     def count(self, c, axis, controls):
         self.seen["heights"] += ROW * len(controls)
@@ -434,6 +448,8 @@ class Comparison:
         self.ask(name, spoiled, r.pick([axis, axis, outside_axis(r, d)]), r.pick([needed, needed, needed - 1, 0]))
         if turn % 10 == 3:
             self.lane()
+        if turn % 400 == 100:
+            self.halves()
         if turn == 1000:
             self.longest()
 
@@ -463,7 +479,15 @@ class Comparison:
         for (s, j), value in zip(steps, values):
             self.seen["values"] += 1
             if abs(heights[ROW * s + j] - 100 * value) > 1.001:
-                raise Difference(f"step {j} of segment {s} is {heights[ROW * s + j]}, and the curve's value {value}")
+                self.differs(f"step {j} of segment {s} is {heights[ROW * s + j]}, and the curve's value {value}")
+
+    def halves(self):
+        """Each step a half, and next to one: a weight that were off by 1 is found."""
+        r = self.r
+        for less in (0, 1):
+            c = made(r, 1, 1, 2 * 255, 1)
+            c = with_axis(c, 0, [in_hundredths(halfway(r, j, less)) for j in range(1, STEPS) for _ in range(2)])
+            self.ask("halves of every step", c, 0, needed_of(c, 0))
 
     def longest(self):
         """As many segments as there may be, in either set; then one too large a control in the last; then one segment more."""
@@ -514,7 +538,7 @@ def single(segment):
 
 def store_segments(r):
     segments = [SEGMENTS[kind](r) for kind in SEGMENTS for _ in range(4)]
-    segments += [in_hundredths(halfway(r, j)) for j in (*HALFWAY, 8, 248, 48, 208, 96, 160, 64, 192, 128, 128)]
+    segments += [in_hundredths(halfway(r, j, less)) for less in (0, 1) for j in (1, 255, 101, 114, 132, 8, 48, 96, 192, 128)]
     segments += [in_hundredths(c) for c in ([1, 0, 0, 0, 0, -1], [3, 2, 1, -1, -2, -3], [1, 0, 0, 0, 0, 15], [-1, 0, 0, 0, 0, -15])]
     # All controls alike: halves of a hundredth and numbers beside them, and 20 m, the limit.
     for x in (0.005, -0.005, math.nextafter(0.005, 0), 0.015, -0.015, 0.025, 0.145, 1.005, -1.005, 12.5, -0.125, 0.375, 19999.995,
