@@ -99,6 +99,12 @@ def heights_of(controls):
     return [nearest(total(controls, j), ONE) for j in range(ROW)]
 
 
+@functools.lru_cache(4096)
+def halves_of(controls):
+    """How many steps of a segment with these whole controls are halves."""
+    return sum(is_half(total(controls, j), ONE) for j in range(ROW))
+
+
 def place_of(c, axis):
     """Which slice has the coefficients of an axis of a well-formed curve, of how many axes they are, and its place among them."""
     selected = c.axes[:c.k]
@@ -425,7 +431,7 @@ class Comparison:
         self.seen["heights"] += ROW * len(controls)
         self.seen["halves of controls"] += sum(is_half(*(v * 100.0).as_integer_ratio()) for segment in segments_of(c, axis)
                                                for v in controls_of(*segment))
-        self.seen["halves of heights"] += sum(is_half(total(row, j), ONE) for row in controls for j in range(ROW))
+        self.seen["halves of heights"] += sum(map(halves_of, controls))
         self.seen["at the limit"] += sum(abs(x) == LIMIT for row in controls for x in row)
 
     def turn(self, turn):
@@ -538,7 +544,8 @@ def single(segment):
 
 def store_segments(r):
     segments = [SEGMENTS[kind](r) for kind in SEGMENTS for _ in range(4)]
-    segments += [in_hundredths(halfway(r, j, less)) for less in (0, 1) for j in (1, 255, 101, 114, 132, 8, 48, 96, 192, 128)]
+    segments += [in_hundredths(halfway(r, j, less)) for less in (0, 1, -1)
+                 for j in (1, 255, 101, 114, 132, 8, 48, 96, 192, 128)]
     segments += [in_hundredths(c) for c in ([1, 0, 0, 0, 0, -1], [3, 2, 1, -1, -2, -3], [1, 0, 0, 0, 0, 15], [-1, 0, 0, 0, 0, -15])]
     # All controls alike: halves of a hundredth and numbers beside them, and 20 m, the limit.
     for x in (0.005, -0.005, math.nextafter(0.005, 0), 0.015, -0.015, 0.025, 0.145, 1.005, -1.005, 12.5, -0.125, 0.375, 19999.995,
@@ -554,7 +561,7 @@ def store_segments(r):
 def store_axes(r):
     for d, k in [(1, 1), (2, 1), (3, 2), (5, 2), (16, 1), (16, 8), (16, 15), (16, 16)]:
         c = made(r, d, k, 1, 1)
-        for axis in {0, d - 1, c.axes[0], c.axes[k - 1]}:
+        for axis in sorted({0, d - 1, c.axes[0], c.axes[k - 1]}):
             yield line(with_axis(c, axis, [whole(r)]), axis, ROW)
     for counts in [(1, 3), (3, 1), (2, 2)]:
         c = made(r, 3, 2, *counts).with_(axes=[2, 0])
@@ -571,13 +578,13 @@ def store_refusals(r):
         yield line(c, 0, ROW * 3)
     good, bad = whole(r), [20000.01, 0.0, 0.0, 0.0, 0.0, 0.0]
     c = made(r, 3, 2, 2, 2).with_(axes=[2, 0])
-    malformed = c.with_(end=c.start)
-    # Too large a control in either segment of the axis; in another axis, which does not matter.
     for axis in range(3):
-        whole_lane = functools.reduce(lambda made_so_far, a: with_axis(made_so_far, a, [bad if a != axis else good] * 2), range(3), c)
+        c = with_axis(c, axis, [bad, bad])
+    # Too large a control in either segment of the axis; those of other axes do not matter.
+    for axis in range(3):
         for parts in ([good, good], [good, bad], [bad, good]):
-            yield line(with_axis(whole_lane, axis, parts), axis, 2 * ROW)
-    c, malformed = (with_axis(x, 0, [bad, bad]) for x in (c, malformed))
+            yield line(with_axis(c, axis, parts), axis, 2 * ROW)
+    malformed = c.with_(end=c.start)
     for axis in (0, 1, 3, 4, 16, (1 << 64) - 1):
         for room in (2 * ROW, 2 * ROW - 1, ROW, 0):
             yield line(c, axis, room)
