@@ -362,12 +362,10 @@ def with_axis(c, axis, segments):
 
 def drawn_curve(r, d, k, kind, most):
     """A curve with an axis of so many segments at most, all of a kind; one with too large a control among others that fit."""
-    axis = r.below(d)
-    segments, others = r.pick([1, 1, 2, r.between(1, most)]), r.pick([1, 2, r.between(1, 9)])
-    c = made(r, d, k, segments, others)
-    if place_of(c, axis)[0] == 3:
-        c = made(r, d, k, others, segments)
-        axis = next(a for a in range(d) if a not in c.axes[:k])
+    counts = [r.pick([1, 1, 2, r.between(1, most)]), r.pick([1, 2, r.between(1, 9)])]
+    selected = k == d or r.chance(50)
+    c = made(r, d, k, *(counts if selected else counts[::-1]))
+    axis = r.pick([a for a in range(d) if (a in c.axes[:k]) == selected])
     count = len(segments_of(c, axis))
     parts = [SEGMENTS[kind](r) for _ in range(count)]
     if kind in ("over the limit", "odd numbers"):
