@@ -559,7 +559,8 @@ def store_segments(r):
 def store_axes(r):
     for d, k in [(1, 1), (2, 1), (3, 2), (5, 2), (16, 1), (16, 8), (16, 15), (16, 16)]:
         c = made(r, d, k, 1, 1)
-        for axis in sorted({0, d - 1, c.axes[0], c.axes[k - 1]}):
+        others = [a for a in range(d) if a not in c.axes[:k]]
+        for axis in sorted({0, d - 1, c.axes[0], c.axes[k - 1], *others[len(others) // 2:][:1]}):
             yield line(with_axis(c, axis, [whole(r)]), axis, ROW)
     for counts in [(1, 3), (3, 1), (2, 2)]:
         c = made(r, 3, 2, *counts).with_(axes=[2, 0])
