@@ -584,7 +584,7 @@ def store_refusals(r):
         for parts in ([good, good], [good, bad], [bad, good]):
             yield line(with_axis(c, axis, parts), axis, 2 * ROW)
     malformed = c.with_(end=c.start)
-    for axis in (0, 1, 3, 4, 16, (1 << 64) - 1):
+    for axis in (0, 1, 3, 4, 16, 1 << 32, (1 << 64) - 1):
         for room in (2 * ROW, 2 * ROW - 1, ROW, 0):
             yield line(c, axis, room)
             yield line(malformed, axis, room)
