@@ -245,7 +245,7 @@ def shortened(a, b):
 
 
 def halfway(r, j, less=0):
-    """Whole controls with which step j, 1 to 255, is a half exactly, or by `less` times the least that its sum may change below."""
+    """Whole controls with which step j, 1 to 255, is a half exactly, or in size below one by `less` times the least possible."""
     # Both j and 256 - j are an odd number times 2^e, so that 2^(5e) is in every weight.
     e = (j & -j).bit_length() - 1
     modulus, row = 2**(40 - 5 * e), [weight >> 5 * e for weight in WEIGHTS[j]]
@@ -262,7 +262,7 @@ def halfway(r, j, less=0):
             a, b = b, a
         x, y = nearest(-due * b[0], modulus), nearest(due * a[0], modulus)
         controls[k], controls[l] = -x * a[0] - y * b[0], due - x * a[1] - y * b[1]
-        if max(map(abs, controls)) <= LIMIT:
+        if max(map(abs, controls)) <= LIMIT and total(controls, j) > 0:
             sign = r.pick([-1, 1])
             return [sign * c for c in controls]
 
@@ -542,8 +542,7 @@ def single(segment):
 
 def store_segments(r):
     segments = [SEGMENTS[kind](r) for kind in SEGMENTS for _ in range(4)]
-    segments += [in_hundredths(halfway(r, j, less)) for less in (0, 1, -1)
-                 for j in (1, 255, 101, 114, 132, 8, 48, 96, 192, 128)]
+    segments += [in_hundredths(halfway(r, j, less)) for less in (0, 1) for j in (1, 255, 101, 114, 132, 8, 48, 96, 192, 128)]
     segments += [in_hundredths(c) for c in ([1, 0, 0, 0, 0, -1], [3, 2, 1, -1, -2, -3], [1, 0, 0, 0, 0, 15], [-1, 0, 0, 0, 0, -15])]
     # All controls alike: halves of a hundredth and numbers beside them, and 20 m, the limit.
     for x in (0.005, -0.005, math.nextafter(0.005, 0), 0.015, -0.015, 0.025, 0.145, 1.005, -1.005, 12.5, -0.125, 0.375, 19999.995,
