@@ -497,6 +497,7 @@ class Comparison:
         """As many segments as there may be, in either set; then one too large a control in the last; then one segment more."""
         r = self.r
         drawn = [FITTING[kind](r) for kind in FITTING for _ in range(20)]
+        drawn = [p for p in drawn if not any(beyond(control * 100.0) for control in controls_of(0.0, 1.0, p))]
         for counts, axis in (((20000, 1), 0), ((1, 20000), 1)):
             c = made(r, 2, 1, *counts).with_(axes=[0])
             parts = [r.pick(drawn) for _ in range(20000)]
