@@ -486,11 +486,11 @@ class Comparison:
                 self.differs(f"step {j} of segment {s} is {heights[ROW * s + j]}, and the curve's value {value}")
 
     def halves(self):
-        """Each step a half, and next to one: a weight that were off by 1 is found."""
+        """Each step a half, and next to one, four times: a weight that is off by 1 shows."""
         r = self.r
         for less in (0, 1):
-            c = made(r, 1, 1, 2 * 255, 1)
-            c = with_axis(c, 0, [in_hundredths(halfway(r, j, less)) for j in range(1, STEPS) for _ in range(2)])
+            parts = [in_hundredths(halfway(r, j, less)) for j in range(1, STEPS) for _ in range(4)]
+            c = with_axis(made(r, 1, 1, len(parts), 0), 0, parts)
             self.ask("halves of every step", c, 0, needed_of(c, 0))
 
     def longest(self):
