@@ -8,6 +8,7 @@ use native.Mathlib.Omega.{arith}
 use native.Mathlib.Nat.{le-refl, mul-le-mul-right}
 use native.Mathlib.Numerals.{add-one}
 use native.Mathlib.Decide.{decLt}
+use borrow.Author.Tests.{lt-ltb, le-ltb}
 use lib.Dec.{T, ltb, ltb→lt, nltb→le}
 use lib.IntN.{ℤ, pos, negsuc, negℤ, _+ℤ_, _-ℤ_, _*ℤ_}
 use lib.ListN.{getD, length}
@@ -71,12 +72,14 @@ module _ (weights c : List ℕ) (j : ℕ) (is : weights ≡ weightTable) (hj : j
   pub product-fits : (k : ℕ) → k < 6 → getD c k 0 * getD weights (6 * j + k) 0 ≤ 4398046511104000000
   product-fits k h = rw (at-table k h) (omega (arith, room c j hj hc k h))
 
-  pub sum-room : (k s : ℕ) → k < 6 → s ≡ liftedSum c j k → s + getD c k 0 * getD weights (6 * j + k) 0 ≤ 4398046511104000000
-  sum-room k s h e = rw (at-table k h, e) (room c j hj hc k h)
+  pub sum-room : (k s : ℕ) → k < 6 → s ≡ 549755813888 + liftedSum c j k
+      → s + getD c k 0 * getD weights (6 * j + k) 0 ≤ 4398047060859813888
+  sum-room k s h e = rw (at-table k h) (omega (arith, e, room c j hj hc k h))
 
-  pub sum-next : (k s : ℕ) → k < 6 → s ≡ liftedSum c j k → s + getD c k 0 * getD weights (6 * j + k) 0 ≡ liftedSum c j (k + 1)
+  pub sum-next : (k s : ℕ) → k < 6 → s ≡ 549755813888 + liftedSum c j k
+      → s + getD c k 0 * getD weights (6 * j + k) 0 ≡ 549755813888 + liftedSum c j (k + 1)
   unfolding liftedSum
-  sum-next k s h e = rw (at-table k h, add-one, e)
+  sum-next k s h e = rw (at-table k h, add-one) (omega (arith, e))
 
 -- a control as it stands
 pub lowered-at : (c : List ℕ) (k : ℕ) → k < length c → getD (map lowered c) k (pos 0) ≡ lowered (getD c k 0)
@@ -123,16 +126,24 @@ rounds s b e = go (ltb s 2199023255552000000) (ltb→lt s 2199023255552000000) (
         lowered-above ((s + 549755813888 - b) / 1099511627776)
         ((2 * (s - 2199023255552000000) + 1099511627776) / (2 * 1099511627776)) (omega (arith, e, h))
 
--- the height of lifted controls
-pub lifted-height : (c : List ℕ) (j s b : ℕ) → j ≤ 256 → Lifted c → s ≡ liftedSum c j 6 → b ≡ cond (ltb s 2199023255552000000) 1 0
-    → lowered ((s + 549755813888 - b) / 1099511627776) ≡ heightOf (map lowered c) j
-lifted-height c j s b hj hc e g =
-    let p : 2000000 * partial j 6 ≡ 2199023255552000000 = omega (arith, partial-all j hj) in
-    rounds s b g
-    ∙ ap (λ (z : ℤ). nearestWhole z 1099511627776)
-    (ap (λ (n : ℕ). pos n -ℤ pos 2199023255552000000) e
-    ∙ ap (λ (n : ℕ). pos (liftedSum c j 6) -ℤ pos n) (sym p)
-    ∙ sym (sums-apart c j 6 (omega (arith, hc .0))))
+-- a sum with half of 2 ^ 40 added is below 0 where the sum is
+same-side : (s t : ℕ) → t ≡ 549755813888 + s → ltb t 2199023805307813888 ≡ ltb s 2199023255552000000
+same-side s t e = elim (decLt s 2199023255552000000) [
+  | yes l ↦ lt-ltb t 2199023805307813888 (omega (arith, e)) ∙ sym (lt-ltb s 2199023255552000000 l)
+  | no l ↦ le-ltb t 2199023805307813888 (omega (arith, e)) ∙ sym (le-ltb s 2199023255552000000 (omega arith))
+]
 
-pub lifted-small : (s b : ℕ) → s ≤ 4398046511104000000 → (s + 549755813888 - b) / 1099511627776 ≤ 4000000
-lifted-small s b h = omega (arith, h)
+-- the height of lifted controls
+pub lifted-height : (c : List ℕ) (j t b : ℕ) → j ≤ 256 → Lifted c → t ≡ 549755813888 + liftedSum c j 6
+    → b ≡ cond (ltb t 2199023805307813888) 1 0 → lowered ((t - b) / 1099511627776) ≡ heightOf (map lowered c) j
+lifted-height c j t b hj hc e g =
+    let s = liftedSum c j 6 in
+    let p : 2000000 * partial j 6 ≡ 2199023255552000000 = omega (arith, partial-all j hj) in
+    let q : t - b ≡ s + 549755813888 - b = omega (arith, e) in
+    ap (λ (n : ℕ). lowered (n / 1099511627776)) q
+    ∙ rounds s b (g ∙ ap (λ (x : Bool). cond x 1 0) (same-side s t e))
+    ∙ ap (λ (z : ℤ). nearestWhole z 1099511627776)
+    (ap (λ (n : ℕ). pos s -ℤ pos n) (sym p) ∙ sym (sums-apart c j 6 (omega (arith, hc .0))))
+
+pub lifted-small : (t b : ℕ) → t ≤ 4398047060859813888 → (t - b) / 1099511627776 ≤ 4000000
+lifted-small t b h = omega (arith, h)

@@ -1,13 +1,13 @@
--- `steps::height` meets its contract. The invariant: the sum is that of the first k controls.
+-- `steps::height` meets its contract. The invariant: the sum is that of the first k controls, and half of 2 ^ 40.
 use mathlib.Core.Path.{_≡_, refl, ap, _∙_}
-use Prim.Native.Nat.{_-_, _≤_}
+use Prim.Native.Nat.{ℕ, _+_, _-_, _≤_}
 use native.Mathlib.Omega.{arith}
 use Rattle.heights.proofs.Sums.{liftedSum, sum-fits, index-fits, product-fits, sum-room, sum-next, lifted-height, lifted-small}
 use Rattle.heights.proofs.steps.height.Statement.{statement}
 use Rattle.heights.proofs.steps.height.Tie as tie
 
 abbrev Inv-loop : tie.InvT-loop
-Inv-loop weights controls j sum₀ k₀ sum k = (k ≤ 6) × (sum ≡ liftedSum controls j k)
+Inv-loop weights controls j sum₀ k₀ sum k = (k ≤ 6) × (sum ≡ 549755813888 + liftedSum controls j k)
 
 abbrev μ-loop : tie.MeasureT-loop
 μ-loop weights controls j sum₀ k₀ sum k = 6 - k
@@ -57,22 +57,19 @@ loop-again c =
 
 -- the sum of all six
 whole : (c : tie.After-loop Inv-loop μ-loop) → c .before .loop .sum
-    ≡ liftedSum (c .before .before .before .before .args .controls .now) (c .before .before .before .before .args .j) 6
+    ≡ 549755813888 + liftedSum (c .before .before .before .before .args .controls .now) (c .before .before .before .before .args .j) 6
 whole c =
     let s = c .before .before .before .before in
     let e : c .before .loop .k ≡ 6 = omega (arith, c .before .loop .inv .0, c .loop-test .left) in
-    c .before .loop .inv .1 ∙ ap (liftedSum (s .args .controls .now) (s .args .j)) e
+    c .before .loop .inv .1 ∙ ap (λ (n : ℕ). 549755813888 + liftedSum (s .args .controls .now) (s .args .j) n) e
 
-small : (c : tie.After-loop Inv-loop μ-loop) → c .before .loop .sum ≤ 4398046511104000000
+small : (c : tie.After-loop Inv-loop μ-loop) → c .before .loop .sum ≤ 4398047060859813888
 small c =
     let s = c .before .before .before .before in
-    rw (whole c) (sum-fits (s .args .controls .now) (s .args .j) (s .pre .0) (s .pre .2))
-
-add-result : tie.Need-add-result Inv-loop μ-loop
-add-result c = omega (arith, small c)
+    omega (arith, whole c, sum-fits (s .args .controls .now) (s .args .j) (s .pre .0) (s .pre .2))
 
 sub-result : tie.Need-sub-result Inv-loop μ-loop
-sub-result c = omega (arith, c .one-below .ensures .1)
+sub-result c = omega (arith, c .one-below .ensures .1, whole (c .before))
 
 returns : tie.Need-returns Inv-loop μ-loop
 returns c =
@@ -101,7 +98,6 @@ height-spec =
     (λ c. omega arith)
     (λ c. omega arith)
     loop-again
-    add-result
     (λ c κs. omega arith)
     sub-result
     returns)
