@@ -1,16 +1,15 @@
 -- Worked examples, by computation: what document 02's request 9 asks at the edges.
 use mathlib.Core.Path.{_≡_, refl}
-use mathlib.Core.Bool.{Bool, true, false}
-use mathlib.Core.List.{List, [], _∷_, map}
-use Prim.Native.Nat.{ℕ, _*_, _^_}
-use lib.IntN.{ℤ, pos, negsuc}
+use mathlib.Core.Bool.{true, false}
+use mathlib.Core.List.{[], _∷_, map}
+use Prim.Native.Nat.{_*_, _^_}
+use lib.IntN.{pos, negsuc}
 use lib.Ieee.{Float, add, binary64, climb, div, fin, inf, lt, mul, nan, odd, ofBits, ofFields, round, size, span, sub, sum, units}
 use Rattle.arith.specs.Loop.{each, turns}
-use Rattle.window.specs.Rows.{join}
 use Rattle.bspline.specs.Choose.{chooseOf, factorials}
 use Rattle.float.specs.Power.{powerIn, powerOf}
 use Rattle.polynomial.specs.Piece.{addShare, addTerm, bernsteinCoefficients, bernsteinOf, curveForm, pieceFrom, piecePower, piecePowers}
-use Rattle.heights.specs.Controls.{anyBeyond, beyond, hundredfold, segmentForm, segmentFormOver, wholeOf, wholesOf}
+use Rattle.heights.specs.Controls.{beyond, hundredfold, segmentForm, segmentFormOver, wholeOf}
 use Rattle.heights.specs.Height.{heightOf, nearestWhole, weighted}
 use Rattle.heights.specs.Weights.{weightOf}
 
@@ -22,8 +21,8 @@ halves = refl
 
 -- what the controls of a segment are computed by
 unfoldable pub steps : Unit {0}
-unfolding segmentForm segmentFormOver pieceFrom curveForm piecePowers piecePower addTerm bernsteinCoefficients bernsteinOf addShare chooseOf powerOf
-    powerIn factorials each turns add sub mul div sum ofBits ofFields round size span climb units odd
+unfolding segmentForm segmentFormOver pieceFrom curveForm piecePowers piecePower addTerm bernsteinCoefficients bernsteinOf addShare
+    chooseOf powerOf powerIn factorials each turns add sub mul div sum ofBits ofFields round size span climb units odd
 steps = tt
 
 abbrev zero : Float

@@ -1,6 +1,6 @@
 -- Over exact fractions the six controls of a segment are those of its polynomial: what lies between the curve of the stored
 -- coefficients and its controls is rounding alone.
-use mathlib.Core.Path.{_≡_, refl, ap, _∙_}
+use mathlib.Core.Path.{_≡_, ap, _∙_}
 use mathlib.Core.List.{List, [], _∷_}
 use lib.IntN.{pos}
 use lib.ListN.{getD}
