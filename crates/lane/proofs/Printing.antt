@@ -1,11 +1,11 @@
 -- Texts put together.
 use mathlib.Core.Path.{_≡_, refl, sym, ap, _∙_}
 use mathlib.Core.List.{List, [], _∷_, _++_, append-assoc, append-nil}
-use Prim.Native.Nat.{ℕ, suc, _+_, _-_, _≤_, _<_}
+use Prim.Native.Nat.{ℕ, _+_, _<_}
 use native.Mathlib.Omega.{arith}
 use native.Mathlib.Numerals.{add-one}
-use lib.ListN.{length, take, getD, length-append}
-use lib.Seq.{take-at, take-suc, take-length, length-take-le}
+use lib.ListN.{length, take, getD}
+use lib.Seq.{take-suc}
 use lib.Ieee.{Float}
 use types.Run.{OneOf, miss}
 use denote.Enum.Declared.{tagOf}
@@ -19,27 +19,10 @@ use Rattle.building.specs.declared.Answer.{Answer as Told}
 use Rattle.building.specs.declared.Answer.the-variants.{Accepted, RefinementsUsedUp, BadPoints, NoAxes, BadAxes, BadTolerance, BadParameters, BadRange, Overflow, InitialSegments, BadDiagonal, BadPivot, BadSolution, NotAbove, NotFinite, SegmentsUsedUp, BadMidpoint, ErrorAboveTolerance, AboveDomain, ShortSlice, PointCells, ToleranceTooFine}
 use Rattle.building.proofs.Answer.{the-type}
 use Rattle.building.specs.Outcome.{outcomeOf, reportOf, reported}
-use Rattle.lane.specs.Printed.{decimalOf, field, acceptedWord, refusedWord, newline, countsText, errorLine, errorLines, refusalText, printedOf}
-
--- ---- a text in a buffer
--- what is put behind the first bytes of a buffer, as `bytes::copy` leaves it
-pub put-there : (out words v rest : List ℕ) (at n : ℕ) → n ≤ length words → at ≤ length out
-    → (x : List ℕ) → v ≡ take (length (take (n - 0) words)) (take (n - 0) words) ++ x
-    → take (at + n) (take at out ++ (v ++ rest)) ≡ take at out ++ take n words
-put-there out words v rest at n h k x e =
-    let z : n - 0 ≡ n = omega arith in
-    let f : v ≡ take n words ++ x =
-    e ∙ ap (λ (t : List ℕ). t ++ x) (take-length (take (n - 0) words) ∙ ap (λ (i : ℕ). take i words) z) in
-    let g : length (take at out ++ take n words) ≡ at + n =
-    length-append (take at out) (take n words) ∙ omega (arith, length-take-le at out k, length-take-le n words h) in
-    ap (λ (t : List ℕ). take (at + n) (take at out ++ (t ++ rest))) f
-    ∙ ap (λ (t : List ℕ). take (at + n) (take at out ++ t)) (append-assoc (take n words) x rest)
-    ∙ ap (λ (t : List ℕ). take (at + n) t) (sym (append-assoc (take at out) (take n words) (x ++ rest)))
-    ∙ take-at (take at out ++ take n words) (x ++ rest) (at + n) g
-
--- two texts, one after the other
-pub both-there : (o₀ o₁ o₂ a b : List ℕ) → o₁ ≡ o₀ ++ a → o₂ ≡ o₁ ++ b → o₂ ≡ o₀ ++ (a ++ b)
-both-there o₀ o₁ o₂ a b e f = f ∙ ap (λ (t : List ℕ). t ++ b) e ∙ append-assoc o₀ a b
+use Rattle.text.specs.Decimal.{decimalOf}
+use Rattle.text.specs.Lines.{newline, field, refusedWord}
+use Rattle.text.proofs.Putting.{both-there}
+use Rattle.lane.specs.Printed.{acceptedWord, countsText, errorLine, errorLines, refusalText, printedOf}
 
 -- a blank and a text
 pub field-there : (o₀ o₁ o₂ d t : List ℕ) → o₁ ≡ o₀ ++ (32 ∷ []) → o₂ ≡ o₁ ++ d → d ≡ t → o₂ ≡ o₀ ++ field t

@@ -1,41 +1,21 @@
 -- The text of an answer: document 01, "Fields: segments, interpolated segments, refinements, fitting rows, checked intervals; then a line
 -- of 16 upper-case hex digits for each axis's max error. A refusal prints one line, `refused` and its number, for 14 also the 16 digits of
 -- the ratio, one blank between". Text is a list of ASCII codes.
-use Prim.Native.Nat.{ℕ, zero, suc, _+_, _/_, _%_}
-use mathlib.Core.Bool.{cond}
+use Prim.Native.Nat.{ℕ}
 use mathlib.Core.List.{List, [], _∷_, _++_}
-use lib.Dec.{ltb}
 use lib.Ieee.{Float}
 use Rattle.encoding.specs.Text.{floatText}
+use Rattle.text.specs.Decimal.{decimalOf}
+use Rattle.text.specs.Lines.{newline, field, refusedWord}
 use Rattle.smoothing.specs.Answer.{Answer}
 use Rattle.smoothing.specs.Answer.Answer.{done, refused, exhausted}
 use Rattle.smoothing.specs.Build.{Result}
 use Rattle.building.specs.declared.Report.{Report}
 use Rattle.building.specs.Outcome.{reportOf}
 
--- a whole number in decimal, without zeros in front, of at most k digits
-unfoldable pub decimalIn : ℕ → ℕ → List ℕ
-decimalIn zero n = []
-decimalIn (suc k) n = cond (ltb n 10) ((48 + n) ∷ []) (decimalIn k (n / 10) ++ ((48 + n % 10) ∷ []))
-
--- 64 bits have at most 20 digits
-abbrev pub decimalOf : ℕ → List ℕ
-decimalOf n = decimalIn 20 n
-
--- "one blank between"
-abbrev pub field : List ℕ → List ℕ
-field text = 32 ∷ text
-
--- `accepted` and `refused`
+-- `accepted`
 abbrev pub acceptedWord : List ℕ
 acceptedWord = 97 ∷ (99 ∷ (99 ∷ (101 ∷ (112 ∷ (116 ∷ (101 ∷ (100 ∷ [])))))))
-
-abbrev pub refusedWord : List ℕ
-refusedWord = 114 ∷ (101 ∷ (102 ∷ (117 ∷ (115 ∷ (101 ∷ (100 ∷ []))))))
-
--- the end of a line
-abbrev pub newline : List ℕ
-newline = 10 ∷ []
 
 -- the first line of an accepted lane
 unfoldable pub countsText : Report → List ℕ

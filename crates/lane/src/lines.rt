@@ -9,7 +9,7 @@ ghost use Rattle.smoothing.specs.Answer.Answer.{done, refused as Refused, exhau
 ghost use Rattle.smoothing.specs.Build.{Result};
 ghost use Rattle.building.specs.Outcome.{outcomeOf, reported};
 ghost use Rattle.lane.specs.Printed.{countsText, errorLine, errorLines, refusalText, printedOf};
-use crate::text;
+use crate::fields;
 use building::Answer;
 use building::Report;
 
@@ -19,7 +19,7 @@ fn refusal(number: u64, out: &mut [u8]) -> usize
     ensures { λ r. ⌜ (r ≤ 64) × (take r (now (out .exit)) ≡ refusalText number) ⌝ }
 {
     let at = text::put(out, 0, b"refused", 7);
-    text::number(out, at, number)
+    fields::number(out, at, number)
 }
 
 // The line of a refusal.
@@ -38,7 +38,7 @@ fn exhausted(ratio: f64, out: &mut [u8]) -> usize
 {
     let at = refusal(14, out);
     let at = text::put(out, at, b" ", 1);
-    let at = text::float(out, at, ratio);
+    let at = fields::float(out, at, ratio);
     text::newline(out, at)
 }
 
@@ -48,11 +48,11 @@ fn counts(report: Report, out: &mut [u8]) -> usize
     ensures { λ r. ⌜ (r ≤ 128) × (take r (now (out .exit)) ≡ countsText report) ⌝ }
 {
     let at = text::put(out, 0, b"accepted", 8);
-    let at = text::number(out, at, report.segments as u64);
-    let at = text::number(out, at, report.interpolated_segments as u64);
-    let at = text::number(out, at, report.refinements as u64);
-    let at = text::number(out, at, report.fitting_rows as u64);
-    let at = text::number(out, at, report.checked_intervals as u64);
+    let at = fields::number(out, at, report.segments as u64);
+    let at = fields::number(out, at, report.interpolated_segments as u64);
+    let at = fields::number(out, at, report.refinements as u64);
+    let at = fields::number(out, at, report.fitting_rows as u64);
+    let at = fields::number(out, at, report.checked_intervals as u64);
     text::newline(out, at)
 }
 
@@ -62,7 +62,7 @@ fn error_line(error: f64, out: &mut [u8], at: usize) -> usize
     ensures { λ r. ⌜ r ≤ at + 17 ⌝ }
     ensures { λ r. ⌜ take r (now (out .exit)) ≡ take at (now (out .entry)) ++ errorLine error ⌝ }
 {
-    let at = text::float(out, at, error);
+    let at = fields::float(out, at, error);
     text::newline(out, at)
 }
 

@@ -1,7 +1,7 @@
 // The program `lane`: reads a job from standard input, smooths it, and writes its report to standard output.
 mod answer; // answer.rt: from the bytes of a job to the text of its answer
 mod lines; // lines.rt: the lines of an answer
-mod text; // text.rt: words and numbers in a buffer
+mod fields; // fields.rt: the fields of a line
 
 ghost use lib.ListN.{length};
 ghost use Rattle.lane.specs.Room.{Lent};

@@ -3,8 +3,8 @@ use lib.ListN.{take}
 use native.Mathlib.Omega.{arith}
 use borrow.Author.Needs.{needs}
 use Rattle.encoding.specs.Text.{floatText}
-use Rattle.lane.specs.Printed.{newline}
-use Rattle.lane.proofs.Printing.{both-there}
+use Rattle.text.specs.Lines.{newline}
+use Rattle.text.proofs.Putting.{both-there}
 use Rattle.lane.proofs.lines.error_line.Statement.{statement}
 use Rattle.lane.proofs.lines.error_line.Tie as tie
 

@@ -1,10 +1,10 @@
--- `text::put` meets its contract.
+-- `put` meets its contract.
 use mathlib.Core.Path.{refl}
 use native.Mathlib.Omega.{arith}
 use borrow.Author.Needs.{needs}
-use Rattle.lane.proofs.Printing.{put-there}
-use Rattle.lane.proofs.text.put.Statement.{statement}
-use Rattle.lane.proofs.text.put.Tie as tie
+use Rattle.text.proofs.Putting.{put-there}
+use Rattle.text.proofs.put.Statement.{statement}
+use Rattle.text.proofs.put.Tie as tie
 
 returns : tie.Need-returns
 returns c =

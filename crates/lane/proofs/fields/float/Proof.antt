@@ -1,12 +1,12 @@
--- `text::float` meets its contract.
-use mathlib.Core.Path.{_≡_, ap, _∙_}
+-- `fields::float` meets its contract.
+use mathlib.Core.Path.{ap, _∙_}
 use mathlib.Core.List.{List, _++_}
 use Prim.Native.Nat.{ℕ}
 use native.Mathlib.Omega.{arith}
 use borrow.Author.Needs.{needs}
 use lib.ListN.{take}
-use Rattle.lane.proofs.text.float.Statement.{statement}
-use Rattle.lane.proofs.text.float.Tie as tie
+use Rattle.lane.proofs.fields.float.Statement.{statement}
+use Rattle.lane.proofs.fields.float.Tie as tie
 
 returns : tie.Need-returns
 returns c =
