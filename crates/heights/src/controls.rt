@@ -39,7 +39,7 @@ fn wholes(b: [f64; 6]) -> Controls
 }
 
 // The whole controls of the segment from a to b with the powers p.
-fn of_segment(p: &[f64], a: f64, b: f64) -> Controls
+pub fn of_segment(p: &[f64], a: f64, b: f64) -> Controls
     requires { ⌜ length (now p) ≡ 6 ⌝ }
     ensures { λ r. ⌜ ControlsFrom (segmentForm a b (now (p .entry))) r ⌝ }
 {

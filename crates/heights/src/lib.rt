@@ -8,3 +8,9 @@ mod entry; // entry.rt: the heights of an axis in a lent slice
 pub use entry::Answer;
 pub use entry::heights;
 pub use entry::number;
+// a segment at a time, for the totals of request 13
+pub use controls::Controls;
+pub use controls::of_segment;
+pub use steps::height;
+pub use weights::Weights;
+pub use weights::weight_table;

@@ -21,7 +21,7 @@ fn one_below(sum: u64) -> u64
 
 // The height at step j, as the number by which it lies above -2,000,000; so do the six controls. Halves go
 // away from zero: up, and from a sum below 0 down.
-fn height(weights: &[u64], controls: &[u64], j: usize) -> u64
+pub fn height(weights: &[u64], controls: &[u64], j: usize) -> u64
     requires { ⌜ (j ≤ 256) × (now weights ≡ weightTable) × Lifted (now controls) ⌝ }
     ensures { λ r. ⌜ (lowered r ≡ heightOf (map lowered (now (controls .entry))) j) × (r ≤ 4000000) ⌝ }
 {

@@ -1555,7 +1555,7 @@ pub struct Weights {
 }
 
 // The table by value: whoever reads it lends its cells. Each row totals 2^40.
-pub(crate) fn weight_table() -> Weights
+pub fn weight_table() -> Weights
     ensures { λ r. ⌜ r .cells ≡ weightTable ⌝ }
     ensures { λ r. ⌜ ((j : ℕ) → j ≤ 256 → rowTotal (r .cells) j ≡ 2 ^ 40) ⌝ }
 {
