@@ -1,0 +1,5 @@
+-- Laws.
+pub mod Merging
+pub mod Keeping
+pub mod Answers
+pub mod Examples
