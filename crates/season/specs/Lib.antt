@@ -1,0 +1,5 @@
+-- Definitions that the contracts cite.
+pub mod Files
+pub mod Printed
+pub mod Next
+pub mod Run
