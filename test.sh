@@ -1,8 +1,8 @@
 #!/usr/bin/env bash
 # All tests: the layout, the documents, the unchanged Rust with the stored lists of its answers, the toolchain's
-# gate, the examples through the program `lane` that the gate built, and the library through programs in C, a second
-# writer and reader of lane files, a second computation of heights, and the crate for Rust. The gate's last line,
-# `N passed, 0 failed`, is the last line here too.
+# gate, the examples through the programs `lane` and `totals` that the gate built, season totals by a second
+# computation, and the library through programs in C, a second writer and reader of lane files, a second computation
+# of heights, and the crate for Rust. The gate's last line, `N passed, 0 failed`, is the last line here too.
 set -euo pipefail
 cd "$(dirname "$0")"
 
@@ -11,13 +11,14 @@ fail() {
     exit 1
 }
 
-# The library against a second computation, oracle/NAME.py: its stored list, and so many turns of drawn cases.
-compare_second() {
+# A program, or the library as a shared object, against a second computation, oracle/NAME.py: its stored list, and so
+# many turns of drawn cases.
+compare_second() { # NAME FILE TURNS
     python3 "oracle/$1.py" store | cmp - "oracle/$1.txt" || fail "oracle/$1.txt is not what 'oracle/$1.py store' prints"
-    python3 "oracle/$1.py" replay "$scratch/pamitoye.so" "oracle/$1.txt" || fail "the library differs from oracle/$1.txt"
-    python3 "oracle/$1.py" compare "$scratch/pamitoye.so" "$2" > "$scratch/log" || {
+    python3 "oracle/$1.py" replay "$2" "oracle/$1.txt" || fail "${2##*/} differs from oracle/$1.txt"
+    python3 "oracle/$1.py" compare "$2" "$3" > "$scratch/log" || {
         cat "$scratch/log" >&2
-        fail "the library differs from oracle/$1.py"
+        fail "${2##*/} differs from oracle/$1.py"
     }
     tail -n 1 "$scratch/log"
 }
@@ -80,7 +81,7 @@ echo "== proofs, must-fail edits and programs"
 # with more in a batch less time is spent waiting for the last.
 RT_JOBS=${RT_JOBS:-6} rt ci | tee "$scratch/gate" || fail "the gate fails"
 
-echo "== the examples, through the program that was built"
+echo "== the examples, through the programs that were built, and season totals by a second computation"
 for job in examples/*.job; do
     target/bin/lane < "$job" > "$scratch/printed" || fail "lane does not end well on $job"
     cmp "$scratch/printed" "${job%.job}.txt" || fail "lane does not print ${job%.job}.txt"
@@ -88,6 +89,16 @@ done
 echo "$(ls examples/*.job | wc -l) examples print what they must"
 if [ -n "${SMOOTHING_RS:-}" ] && [ -x oracle/target/release/oracle ]; then
     oracle/target/release/oracle lane target/bin/lane 3 2000 || fail "lane differs from the Rust"
+fi
+for season in examples/seasons/*.season; do
+    target/bin/totals < "$season" > "$scratch/printed" || fail "totals does not end well on $season"
+    cmp "$scratch/printed" "${season%.season}.txt" || fail "totals does not print ${season%.season}.txt"
+done
+echo "$(ls examples/seasons/*.season | wc -l) seasons print what they must"
+if command -v python3 > /dev/null; then
+    compare_second totals target/bin/totals 1500
+else
+    echo "skipped: python3 is not at hand; season totals are not computed a second time"
 fi
 echo "== the library: its archive, the examples in C, lane files and heights by a second computation"
 # Every crate below is taken as it was proved; the toolchain checks the library itself once more for this kind of archive.
@@ -109,8 +120,8 @@ fi
 if command -v cc > /dev/null && command -v python3 > /dev/null && [ "$(uname -m)" = x86_64 ]; then
     cc -shared -o "$scratch/pamitoye.so" -Wl,--whole-archive target/staticlib/libpamitoye.a -Wl,--no-whole-archive ||
         fail "the archive does not become a shared object"
-    compare_second lane_files 1500
-    compare_second heights 400
+    compare_second lane_files "$scratch/pamitoye.so" 1500
+    compare_second heights "$scratch/pamitoye.so" 400
 else
     echo "skipped: cc for x86-64 or python3 is not at hand; lane files and heights are not computed a second time"
 fi

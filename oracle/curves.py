@@ -1,4 +1,4 @@
-"""Curves that are handed to the library and compared, well formed or not: what lane_files.py and heights.py share.
+"""Curves that are handed to the library and compared, well formed or not: what lane_files.py, heights.py and totals.py share.
 
 Bit patterns and cells, when a curve is well formed, memory that is lent with marks around it, drawn curves, what spoils them, and
 how a curve stands in a stored list."""

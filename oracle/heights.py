@@ -360,18 +360,23 @@ def with_axis(c, axis, segments):
     return c.with_slice(i, bytes(content))
 
 
-def drawn_curve(r, d, k, kind, most):
-    """A curve with an axis of so many segments at most, all of a kind; one with too large a control among others that fit."""
-    counts = [r.pick([1, 1, 2, r.between(1, most)]), r.pick([1, 2, r.between(1, 9)])]
-    selected = k == d or r.chance(50)
-    c = made(r, d, k, *(counts if selected else counts[::-1]))
-    axis = r.pick([a for a in range(d) if (a in c.axes[:k]) == selected])
+def filled(r, c, axis, kind):
+    """The curve with an axis whose segments are all of a kind; one with too large a control among others that fit."""
     count = len(segments_of(c, axis))
     parts = [SEGMENTS[kind](r) for _ in range(count)]
     if kind in ("over the limit", "odd numbers"):
         where = r.pick([0, count - 1, r.below(count)])
         parts = [part if s == where else r.pick(list(FITTING.values()))(r) for s, part in enumerate(parts)]
-    return with_axis(c, axis, parts), axis
+    return with_axis(c, axis, parts)
+
+
+def drawn_curve(r, d, k, kind, most):
+    """A curve with an axis of so many segments at most, filled with a kind."""
+    counts = [r.pick([1, 1, 2, r.between(1, most)]), r.pick([1, 2, r.between(1, 9)])]
+    selected = k == d or r.chance(50)
+    c = made(r, d, k, *(counts if selected else counts[::-1]))
+    axis = r.pick([a for a in range(d) if (a in c.axes[:k]) == selected])
+    return filled(r, c, axis, kind), axis
 
 
 def outside_axis(r, d):
