@@ -87,7 +87,7 @@ impl Lane {
         };
         Ok(Self {
             names: Names {
-                input: options.input_name(),
+                input: options.input.name(),
                 axes: axis_columns.iter().map(|c| columns.name(*c)).collect(),
                 parameter,
             },

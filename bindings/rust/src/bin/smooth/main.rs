@@ -1,5 +1,5 @@
 //! `smooth`: waypoints from a CSV file, smoothed; a report in words, and on request segments, samples, heights, a picture and a
-//! lane file. Or a lane file: what it holds, and the same on request.
+//! lane file. Or a lane file: what it holds, and the same on request. Or lane files that are put together to a season.
 
 #![deny(unsafe_code)]
 #![deny(
@@ -20,6 +20,7 @@ mod picture;
 mod plot;
 mod report;
 mod sampled;
+mod season;
 mod sets;
 mod svg;
 mod tables;
@@ -28,8 +29,9 @@ use heights::Heights;
 use lane::Lane;
 use lane_file::LaneFile;
 use names::Names;
-use options::{Command, Options};
+use options::{Command, Input, Options, SeasonFiles};
 use pamitoye::{Path, PathError, SmoothingTolerance};
+use season::Season;
 use std::io::{Read, Write};
 use std::process::ExitCode;
 
@@ -56,14 +58,17 @@ fn main() -> ExitCode {
 }
 
 fn run() -> Result<Outcome, String> {
-    let options = match options::read(std::env::args_os().skip(1))? {
+    let command = options::read(std::env::args_os().skip(1))?;
+    let made = match &command {
         Command::Help => return Ok(Outcome::Done(options::help())),
-        Command::Smooth(options) => options,
-    };
-    let bytes = input(&options)?;
-    let made = match options.from_lane_file {
-        true => made_of_file(&options, &bytes)?,
-        false => made_of_csv(&options, &bytes)?,
+        Command::Season(files) => made_of_season(files)?,
+        Command::Smooth(options) => {
+            let bytes = read(&options.input)?;
+            match options.from_lane_file {
+                true => made_of_file(options, &bytes)?,
+                false => made_of_csv(options, &bytes)?,
+            }
+        }
     };
     let (report, files) = match made {
         Ok(made) => made,
@@ -75,14 +80,14 @@ fn run() -> Result<Outcome, String> {
     Ok(Outcome::Done(report))
 }
 
-/// The bytes of the file, or of standard input.
-fn input(options: &Options) -> Result<Vec<u8>, String> {
+/// The bytes of a file, or of standard input.
+fn read(input: &Input) -> Result<Vec<u8>, String> {
     let mut bytes = Vec::new();
-    let read = match &options.input {
+    let read = match &input.0 {
         Some(file) => std::fs::read(file).map(|read| bytes = read),
         None => std::io::stdin().read_to_end(&mut bytes).map(|_| ()),
     };
-    read.map_err(|e| format!("{}: {e}", options.input_name()))?;
+    read.map_err(|e| format!("{}: {e}", input.name()))?;
     Ok(bytes)
 }
 
@@ -95,7 +100,7 @@ type Files<'a> = Vec<(&'a std::path::Path, Vec<u8>)>;
 /// What is made of the bytes of a CSV file, if they are one.
 fn made_of_csv<'a>(options: &'a Options, bytes: &[u8]) -> Result<Made<'a>, String> {
     let table =
-        csv::read(&options.input_name(), bytes).map_err(|wrong| {
+        csv::read(&options.input.name(), bytes).map_err(|wrong| {
             match Path::from_lane_file(bytes) {
                 Ok(_) => format!("{wrong}; it is a lane file, which --from-lane-file reads"),
                 Err(_) => wrong,
@@ -127,10 +132,23 @@ fn smoothed<'a>(options: &'a Options, lane: &Lane) -> Result<(String, Files<'a>)
 
 /// What is made of the bytes of a lane file.
 fn made_of_file<'a>(options: &'a Options, bytes: &[u8]) -> Result<Made<'a>, String> {
-    match LaneFile::read(&options.input_name(), bytes) {
+    match LaneFile::read(&options.input.name(), bytes) {
         Ok(file) => Ok(shown(options, file.with_heights(options)?)),
         Err(words) => Ok(Err(words)),
     }
+}
+
+/// What is made of lane files that are put together.
+fn made_of_season(files: &SeasonFiles) -> Result<Made<'_>, String> {
+    season::keep_lane_file(&files.file)?;
+    let mut season = Season::default();
+    for lane in &files.lanes {
+        if let Err(words) = season.add(&lane.name(), &read(lane)?) {
+            return Ok(Err(words));
+        }
+    }
+    let report = season.report(&files.file.display().to_string());
+    Ok(Ok((report, vec![(&files.file, season.bytes)])))
 }
 
 /// The report and the files of a lane file, or of its lane driven back.

@@ -8,6 +8,7 @@ const HELP: &str = "\
 smooth: waypoints from a CSV file, smoothed into quintic segments within a tolerance
 
 usage: smooth [OPTIONS] [FILE]
+       smooth --season SEASON [LANE..]
 
 FILE has a line for each waypoint and a column for each axis, parted by commas, semicolons or tabs. A first line
 without a number is a header; blank lines and lines that begin with # are passed over. Without FILE, or with -,
@@ -42,6 +43,11 @@ standard input is read.
                            --heights, --picture, --back and --lane-file work as above. It has no waypoints, so that
                            nothing is smoothed or certified; its columns are called by their numbers, and its mode is
                            its own
+      --season SEASON      puts lane files together for the program totals, which adds up the heights of the first axis over
+                           all of them: writes SEASON, every LANE in turn, each led by its byte count. Without LANE, or
+                           with -, standard input is a lane file. The report says which lanes totals will count and
+                           which it will turn away, and why. Lane files of more than 60000 bytes, and more than 65535
+                           of them, are refused (30). No other option goes with it
   -h, --help               prints this
 
 Of a segment: u = (parameter - first) / (last - first), v = (u - left) / (right - left), value = p0 + p1 v + .. + p5 v^5.
@@ -62,20 +68,44 @@ examples:
   smooth --tolerance 0.05 --heights valve.csv --height-axis z --picture lane.svg lane.csv
   smooth --tolerance 0.05 --lane-file card.lane lane.csv
   smooth --from-lane-file --picture card.svg card.lane
+  smooth --season all.season north.lane south.lane
 
-status: 0 smoothed or read; 1 refused, with the reason; 2 wrong input, or a file that cannot be read or written
+status: 0 smoothed, read or put together; 1 refused, with the reason; 2 wrong input, or a file that cannot be read or written
 ";
 
 /// What is asked for.
 pub enum Command {
     Help,
     Smooth(Box<Options>),
+    Season(SeasonFiles),
+}
+
+/// The lane files that are put together, and the file that they are written to.
+pub struct SeasonFiles {
+    pub file: PathBuf,
+    pub lanes: Vec<Input>,
+}
+
+/// Where bytes are read from: a file, none for standard input.
+pub struct Input(pub Option<PathBuf>);
+
+impl Input {
+    fn named(argument: OsString) -> Self {
+        Self((argument != "-").then(|| PathBuf::from(argument)))
+    }
+
+    /// What messages call it.
+    pub fn name(&self) -> String {
+        match &self.0 {
+            Some(file) => file.display().to_string(),
+            None => "standard input".to_string(),
+        }
+    }
 }
 
 /// The options of a run.
 pub struct Options {
-    /// The file; none for standard input.
-    pub input: Option<PathBuf>,
+    pub input: Input,
     /// Columns by header or number; none for all.
     pub axes: Option<Vec<String>>,
     /// The column with the parameters, or the rule that spaces them; none for even ones.
@@ -91,6 +121,8 @@ pub struct Options {
     pub lane_file: Option<PathBuf>,
     /// Whether the input is a lane file.
     pub from_lane_file: bool,
+    /// Where a season is written that lane files are put together to.
+    season: Option<PathBuf>,
     /// Whether the lane is driven back.
     pub back: bool,
     /// The depth of the certificate.
@@ -98,16 +130,6 @@ pub struct Options {
     pub count: usize,
     pub from: Option<f64>,
     pub to: Option<f64>,
-}
-
-impl Options {
-    /// What messages call the input.
-    pub fn input_name(&self) -> String {
-        match &self.input {
-            Some(file) => file.display().to_string(),
-            None => "standard input".to_string(),
-        }
-    }
 }
 
 pub fn help() -> String {
@@ -120,7 +142,7 @@ const MOST_SAMPLES: usize = 1_000_000;
 /// Reads the arguments.
 pub fn read(arguments: impl Iterator<Item = OsString>) -> Result<Command, String> {
     let mut options = Options {
-        input: None,
+        input: Input(None),
         axes: None,
         parameters: None,
         config: SmoothingConfig::default(),
@@ -131,6 +153,7 @@ pub fn read(arguments: impl Iterator<Item = OsString>) -> Result<Command, String
         picture: None,
         lane_file: None,
         from_lane_file: false,
+        season: None,
         back: false,
         depth: 0,
         count: 201,
@@ -157,6 +180,7 @@ pub fn read(arguments: impl Iterator<Item = OsString>) -> Result<Command, String
                 return Err(format!("{name} takes no value"));
             }
             *flag = true;
+            names.push(name.to_string());
             continue;
         }
         if !NAMES.contains(&name) {
@@ -168,6 +192,10 @@ pub fn read(arguments: impl Iterator<Item = OsString>) -> Result<Command, String
         set(&mut options, name, value)?;
         names.push(name.to_string());
     }
+    if let Some(file) = options.season {
+        names.iter().try_for_each(|name| beside_season(name))?;
+        return season(file, files);
+    }
     if options.from_lane_file {
         names.iter().try_for_each(|name| without_waypoints(name))?;
     }
@@ -175,13 +203,41 @@ pub fn read(arguments: impl Iterator<Item = OsString>) -> Result<Command, String
         return Err("--height-axis names the axis of --heights, which is missing".to_string());
     }
     let mut files = files.into_iter();
-    options.input = files.next().filter(|f| f != "-").map(PathBuf::from);
+    options.input = files.next().map_or(Input(None), Input::named);
     match files.next() {
         Some(second) => Err(format!(
             "one file at a time: {} is too many",
             second.to_string_lossy()
         )),
         None => Ok(Command::Smooth(Box::new(options))),
+    }
+}
+
+/// The lane files of a season; none named is standard input, as a single one.
+fn season(file: PathBuf, files: Vec<OsString>) -> Result<Command, String> {
+    let mut lanes: Vec<Input> = files.into_iter().map(Input::named).collect();
+    if lanes.is_empty() {
+        lanes.push(Input(None));
+    }
+    if lanes.iter().filter(|lane| lane.0.is_none()).count() > 1 {
+        return Err("standard input is one lane file: - is there more than once".to_string());
+    }
+    if lanes.iter().any(|lane| lane.0.as_ref() == Some(&file)) {
+        let name = file.display();
+        return Err(format!(
+            "{name} is the season that is written, and can't be one of its lane files"
+        ));
+    }
+    Ok(Command::Season(SeasonFiles { file, lanes }))
+}
+
+/// Refuses the options that have no meaning beside --season.
+fn beside_season(name: &str) -> Result<(), String> {
+    match name {
+        "--season" => Ok(()),
+        _ => Err(format!(
+            "{name} is not for a season: its lane files are taken as they are"
+        )),
     }
 }
 
@@ -195,7 +251,7 @@ fn flag<'a>(options: &'a mut Options, name: &str) -> Option<&'a mut bool> {
 }
 
 /// The options that have a value.
-const NAMES: [&str; 19] = [
+const NAMES: [&str; 20] = [
     "-t",
     "--tolerance",
     "-a",
@@ -215,6 +271,7 @@ const NAMES: [&str; 19] = [
     "--height-axis",
     "--picture",
     "--lane-file",
+    "--season",
 ];
 
 /// Refuses the options that have no meaning for a lane file.
@@ -245,6 +302,7 @@ fn set(options: &mut Options, name: &str, value: OsString) -> Result<(), String>
         "--height-axis" => options.height_axis = Some(text.trim().to_string()),
         "--picture" => options.picture = Some(value.into()),
         "--lane-file" => options.lane_file = Some(value.into()),
+        "--season" => options.season = Some(value.into()),
         "--depth" => options.depth = depth(name, &text)?,
         "--count" => options.count = samples(name, &text)?,
         "--from" => options.from = Some(finite(name, &text)?),
