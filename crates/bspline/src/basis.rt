@@ -6,19 +6,19 @@ ghost use Rattle.bspline.specs.Values.{inner_loop, values_of};
 ghost use Rattle.bspline.specs.Powers.{previous_of, expand, put_row, degree_turn, powers_of};
 
 // A value for each function.
-#[derive(Drop)]
+#[derive(Clone, Copy)]
 pub struct Basis {
     pub values: [f64; 6],
 }
 
 // Six coefficients for each function, those of function i from 6 * i on.
-#[derive(Drop)]
+#[derive(Clone, Copy)]
 pub struct Taylor {
     pub rows: [f64; 36],
 }
 
 // What a row gives to the row in its place, and to the one after it.
-#[derive(Drop)]
+#[derive(Clone, Copy)]
 struct Expanded {
     next: [f64; 6],
     upper: [f64; 6],

@@ -9,7 +9,7 @@ ghost use Rattle.bspline.specs.Placed.{inserted_at};
 use crate::Spline;
 
 // The weights of the five controls that a knot mixes.
-#[derive(Drop)]
+#[derive(Clone, Copy)]
 struct Weights {
     alpha: [f64; 5],
 }

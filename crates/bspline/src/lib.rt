@@ -8,7 +8,7 @@ pub mod choose; // choose.rt: binomial coefficients
 
 // Where a spline lies in a lent slice: its knots, `count` + 6 of them, start at `knots`, and its
 // controls, `count` of them with `axes` cells each, at `controls`.
-#[derive(Drop)]
+#[derive(Clone, Copy)]
 pub struct Spline {
     pub knots: usize,
     pub controls: usize,

@@ -7,7 +7,7 @@ ghost use Rattle.bspline.specs.Search.{pick_of, partition_point, span_of};
 ghost use Rattle.bspline.specs.Side.{passes};
 
 // Which elements pass: those at or below x, or those below it.
-#[derive(Drop)]
+#[derive(Clone, Copy)]
 enum Side {
     AtOrBelow,
     Below,

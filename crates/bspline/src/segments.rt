@@ -12,7 +12,7 @@ use crate::Spline;
 use crate::basis::Taylor;
 
 // The six coefficients of one axis.
-#[derive(Drop)]
+#[derive(Clone, Copy)]
 struct Coefficients {
     powers: [f64; 6],
 }

@@ -17,7 +17,7 @@ use selected_axes::course::{Ending, Smoothed};
 
 // How it ended; where it is done, the number of controls, the report, the errors, and how many segments
 // the other axes have.
-#[derive(Drop)]
+#[derive(Clone, Copy)]
 pub struct Computed {
     pub ending: Ending,
     pub count: usize,

@@ -33,7 +33,7 @@ fn room_of(n: usize, segments: usize) -> usize
 }
 
 // The selected axes, k of them, how many other axes there are, and what was computed.
-#[derive(Drop)]
+#[derive(Clone, Copy)]
 pub struct Run {
     pub axes: [usize; 16],
     pub k: usize,
@@ -148,7 +148,7 @@ fn checked(
 }
 
 // The answer to a request, and the curve. The curve holds an array, so that it stands beside the enum.
-#[derive(Drop)]
+#[derive(Clone, Copy)]
 pub struct Built {
     pub answer: Answer,
     pub curve: Curve,

@@ -10,7 +10,7 @@ pub use entry::{Built, build};
 
 // The report of an accepted request: the segments of the selected axes and of the other axes, the
 // rounds made, the rows of all fits and the intervals of all audits.
-#[derive(Drop)]
+#[derive(Clone, Copy)]
 pub struct Report {
     pub segments: usize,
     pub interpolated_segments: usize,
@@ -21,7 +21,7 @@ pub struct Report {
 
 // The answer to a request. Each refusal has document 01's number, given in `specs/Outcome`; that of the
 // refinements, 14, carries the worst ratio of error to tolerance.
-#[derive(Drop)]
+#[derive(Clone, Copy)]
 pub enum Answer {
     Accepted(Report),
     BadPoints,

@@ -14,7 +14,7 @@ use request::parameters::Spacing;
 use request::{parameters, points};
 
 // Why a call is refused: 23, 18, 20, 1, 5, 6, 24, 3.
-#[derive(Drop)]
+#[derive(Clone, Copy)]
 pub enum Refusal {
     TooDeep,
     AboveDomain,
@@ -27,7 +27,7 @@ pub enum Refusal {
 }
 
 // A figure, or none; or a refusal.
-#[derive(Drop)]
+#[derive(Clone, Copy)]
 pub enum Certificate {
     Figure(f64),
     None,

@@ -18,7 +18,7 @@ use pairs::ends;
 use pairs::ends::Ends;
 
 // Both halves.
-#[derive(Drop)]
+#[derive(Clone, Copy)]
 struct Halves {
     left: Six,
     right: Six,

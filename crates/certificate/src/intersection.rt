@@ -18,20 +18,20 @@ use pairs::ends;
 use pairs::ends::Ends;
 
 // A figure, or none.
-#[derive(Drop)]
+#[derive(Clone, Copy)]
 pub enum Figure {
     Known(f64),
     None,
 }
 
 // The powers of curve minus line.
-#[derive(Drop)]
+#[derive(Clone, Copy)]
 struct Powers {
     ends: [Ends; 6],
 }
 
 // Six Bernstein coefficients of curve minus line: on an intersection, or on a part of it.
-#[derive(Drop)]
+#[derive(Clone, Copy)]
 pub struct Six {
     pub ends: [Ends; 6],
 }

@@ -21,7 +21,7 @@ use pairs::spread::Spread;
 use pairs::{ends, spread};
 
 // u^1 .. u^5
-#[derive(Drop)]
+#[derive(Clone, Copy)]
 pub struct Powers {
     pub one: Spread,
     pub two: Spread,
@@ -135,7 +135,7 @@ fn largest(x: f64, s: Spread) -> f64
 }
 
 // Six spreads: the powers of curve minus line.
-#[derive(Drop)]
+#[derive(Clone, Copy)]
 pub struct Row {
     pub zero: Spread,
     pub one: Spread,
@@ -187,7 +187,7 @@ fn curve_powers(q: Row, w: Powers) -> Row
 }
 
 // What power 0 and power 1 lose.
-#[derive(Drop)]
+#[derive(Clone, Copy)]
 pub struct Line {
     pub left: Spread,
     pub rise: Spread,
@@ -304,7 +304,7 @@ fn difference(a: f64, b: f64) -> Spread
 
 // The differences of parameters: b - a and s_(i+1) - s_i, which are divided by; left - a, right - left and
 // left - s_i.
-#[derive(Drop)]
+#[derive(Clone, Copy)]
 pub struct Lengths {
     pub segment: Spread,
     pub interval: Spread,

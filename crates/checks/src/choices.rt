@@ -10,14 +10,14 @@ use crate::{Axes, Tolerance};
 use curve::place::position;
 
 // The first `count` cells are axes; the others are 0.
-#[derive(Drop)]
+#[derive(Clone, Copy)]
 pub struct AxisList {
     pub axes: [usize; 16],
     pub count: usize,
 }
 
 // Values of up to 16 axes.
-#[derive(Drop)]
+#[derive(Clone, Copy)]
 pub struct Sixteen {
     pub cells: [f64; 16],
 }

@@ -3,21 +3,21 @@ pub mod choices; // choices.rt: the axes and the tolerances that a request choos
 pub mod refusals; // refusals.rt: what turns a request away
 
 // Which axes are smoothed: all, or those of a list, which stands beside it.
-#[derive(Drop)]
+#[derive(Clone, Copy)]
 pub enum Axes {
     All,
     Listed,
 }
 
 // The tolerance: one for all smoothed axes, or one for each, in a list, which stands beside it.
-#[derive(Drop)]
+#[derive(Clone, Copy)]
 pub enum Tolerance {
     Uniform(f64),
     PerAxis,
 }
 
 // How many rounds and how many segments a request may take.
-#[derive(Drop)]
+#[derive(Clone, Copy)]
 pub struct Limits {
     pub refinements: usize,
     pub segments: usize,

@@ -8,7 +8,7 @@ pub mod place; // place.rt: where an axis stands in a list of axes, and among al
 pub mod widths; // widths.rt: the widths of segments
 
 // What a parameter outside start to end gets: a refusal, or the value at the nearer end, standing still.
-#[derive(Drop)]
+#[derive(Clone, Copy)]
 pub enum Mode {
     Error,
     Clamp,
@@ -17,7 +17,7 @@ pub enum Mode {
 // d axes, of which the k in `axes` are selected (its further cells mean nothing); the parameter goes
 // from `start` to `end`; the selected axes have `segments` segments, the other axes, in rising order,
 // `other_segments`.
-#[derive(Drop)]
+#[derive(Clone, Copy)]
 pub struct Curve {
     pub d: usize,
     pub k: usize,

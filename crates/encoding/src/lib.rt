@@ -103,7 +103,7 @@ pub fn floats(bytes: &[u8], cells: &mut [f64])
     }
 }
 
-#[derive(Drop)]
+#[derive(Clone, Copy)]
 pub struct Text {
     pub bytes: [u8; 16],
     pub len: usize,

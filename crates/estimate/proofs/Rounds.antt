@@ -254,7 +254,7 @@ module _ (P : ℚ) (S : Scale P) (k : ℕ) (small : k < 2 ^ 30) where
         less x y h = le_one rational_ring ◌≤q◌ rational_order (x ∷ y ∷ z ∷ []) (v0 ⊖ v2) (v1 ⊖ v2) (con (pos 1)) v0 v1 tt (≤q-whole 1) h
 
     pub upward_rounds : (w : Float) → Upward binary64 z w → Rounds P k z w
-    upward_rounds w W = go w W.of_Format W.not_below (W.smallest (next_up binary64 r) up_rounds.0 up_rounds.1
+    upward_rounds w W = go w W.of_format W.not_below (W.smallest (next_up binary64 r) up_rounds.0 up_rounds.1
         (finite_bounds_above (next_up binary64 r) z up_rounds.1 (rounded_upper binary64 r z R r_finite)))
       where
         lower : value (next_down binary64 r) ≤q z
@@ -268,7 +268,7 @@ module _ (P : ℚ) (S : Scale P) (k : ℕ) (small : k < 2 ^ 30) where
             (≤q-trans _ z _ lower b) s
 
     pub downward_rounds : (w : Float) → Downward binary64 z w → Rounds P k z w
-    downward_rounds w W = go w W.of_Format W.not_above (W.largest (next_down binary64 r) down_rounds.0 down_rounds.1
+    downward_rounds w W = go w W.of_format W.not_above (W.largest (next_down binary64 r) down_rounds.0 down_rounds.1
         (finite_bounds_below (next_down binary64 r) z down_rounds.1 (rounded_lower binary64 r z R r_finite)))
       where
         upper : z ≤q value (next_up binary64 r)

@@ -1,7 +1,7 @@
 // One intersection of a waypoint interval with a segment: document 01, "The certified figure".
 
 // The numbers that an intersection is computed from.
-#[derive(Drop)]
+#[derive(Clone, Copy)]
 pub struct Intersection {
     // the segment [a, b] and its coefficients
     pub start: f64,

@@ -10,7 +10,7 @@ use crate::intersection::Intersection;
 use pairs::ends;
 
 // Six numbers: the powers of a polynomial, or its Bernstein coefficients.
-#[derive(Drop)]
+#[derive(Clone, Copy)]
 pub struct Six {
     pub zero: f64,
     pub one: f64,

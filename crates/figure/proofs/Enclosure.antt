@@ -101,7 +101,8 @@ module _ {A B : Type 0} (o : Operations A) (e : Operations B) (R : A → B → T
       (e.over (e.minus (e.number a) (e.number b)) (e.minus (e.number c) (e.number d)))
       = λ a b c d. K.over _ _ _ _ (minus a b) (minus c d) in
       bernstein_keeps (difference_power o x) (difference_power e x) k l (λ j m. without_keeps (line_at_left o x) (line_rise o x) (line_at_left e x)
-      (line_rise e x) _ _ j
+      (line_rise e x)
+      (power o (λ k. o.number (x.coefficient k)) (offset o x) (scale o x)) (power e (λ k. e.number (x.coefficient k)) (offset e x) (scale e x)) j
       (K.plus _ _ _ _ (K.number _) (K.times _ _ _ _ (ratio _ _ _ _) (minus _ _))) (K.times _ _ _ _ (ratio _ _ _ _) (minus _ _))
       (power_keeps (λ k. o.number (x.coefficient k)) (λ k. e.number (x.coefficient k)) (offset o x) (scale o x) (offset e x) (scale e x)
       j m (λ k _. K.number _) (ratio _ _ _ _) (ratio _ _ _ _)))

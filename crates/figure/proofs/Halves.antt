@@ -123,13 +123,13 @@ right_is c u = cut_same 5 (right_half exact c) (λ k. level exact (monus 5 k) c 
 
 -- The theorem: with eq. 1.8's polynomials, the left half's coefficients give at u what c give at u/2, and the right half's what c give at
 -- (1 + u)/2.
-pub left_half : (c : ℕ → ℚ) (u : ℚ) → bernstein_form rational_ring 5 (left_half exact c) u
+pub left_half_law : (c : ℕ → ℚ) (u : ℚ) → bernstein_form rational_ring 5 (left_half exact c) u
     ≡ bernstein_form rational_ring 5 c (u /q wholeq (pos 2))
-left_half c u = sym (de_casteljau_law rational_ring 5 (left_half exact c) u) ∙ left_is c u ∙ de_casteljau_law rational_ring 5 c (u *q half)
+left_half_law c u = sym (de_casteljau_law rational_ring 5 (left_half exact c) u) ∙ left_is c u ∙ de_casteljau_law rational_ring 5 c (u *q half)
 
-pub right_half : (c : ℕ → ℚ) (u : ℚ) → bernstein_form rational_ring 5 (right_half exact c) u
+pub right_half_law : (c : ℕ → ℚ) (u : ℚ) → bernstein_form rational_ring 5 (right_half exact c) u
     ≡ bernstein_form rational_ring 5 c ((𝟙 +q u) /q wholeq (pos 2))
-right_half c u =
+right_half_law c u =
     sym (de_casteljau_law rational_ring 5 (right_half exact c) u) ∙ right_is c u ∙ de_casteljau_law rational_ring 5 c (half +q u *q half)
     ∙ ap (bernstein_form rational_ring 5 c) (solve rational_ring (u ∷ half ∷ []) (v1 ⊕ v0 ⊗ v1) ((con (pos 1) ⊕ v0) ⊗ v1) tt)
 

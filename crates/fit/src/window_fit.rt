@@ -16,7 +16,7 @@ use crate::assembly;
 use fitting_rows::Place;
 
 // The samples that the window holds, from `first` up to `last`, and how many rows its fit had.
-#[derive(Drop)]
+#[derive(Clone, Copy)]
 pub struct Counts {
     pub first: usize,
     pub last: usize,
@@ -24,7 +24,7 @@ pub struct Counts {
 }
 
 // The answer of `fit`: the controls are new, or why they are not.
-#[derive(Drop)]
+#[derive(Clone, Copy)]
 pub enum Fitted {
     Done(Counts),
     BadDiagonal,
@@ -34,7 +34,7 @@ pub enum Fitted {
 
 // The parameters from which and up to which a window goes, and the samples from `first` up to `last` that it
 // holds.
-#[derive(Drop)]
+#[derive(Clone, Copy)]
 struct Reach {
     lo: f64,
     hi: f64,

@@ -8,7 +8,7 @@ pub mod penalty; // penalty.rt: the rows of the third derivative, three for each
 // Where the arrays of a fit lie in a lent slice: the spline's knots, `count` + 6 of them, and its
 // controls, `count` of them with `axes` cells each; the samples' parameters, `samples` of them, and
 // their points, `axes` cells each. The system of a window begins at `system`, after all of them.
-#[derive(Drop)]
+#[derive(Clone, Copy)]
 pub struct Place {
     pub knots: usize,
     pub controls: usize,
@@ -21,7 +21,7 @@ pub struct Place {
 }
 
 // Values of up to 16 axes.
-#[derive(Drop)]
+#[derive(Clone, Copy)]
 pub struct Target {
     pub cells: [f64; 16],
 }

@@ -143,7 +143,7 @@ pub fn is_passed_over(cells: &[f64], p: Place, lo: f64, hi: f64, span: usize) ->
 }
 
 // The mesh of a span: its left end, the samples from `begin` up to `end`, its right end.
-#[derive(Drop)]
+#[derive(Clone, Copy)]
 pub struct Mesh {
     pub left: f64,
     pub right: f64,
@@ -196,7 +196,7 @@ fn end_of(s: &[f64], mesh: Mesh, j: usize) -> f64
 }
 
 // From where to where a piece goes.
-#[derive(Drop)]
+#[derive(Clone, Copy)]
 pub struct Piece {
     pub from: f64,
     pub to: f64,

@@ -7,7 +7,7 @@ ghost use Rattle.fitting_rows.specs.Samples.{dense_of, weight_of, point_of, samp
 use crate::{Place, Target};
 
 // A span, and whether it is dense.
-#[derive(Drop)]
+#[derive(Clone, Copy)]
 pub struct Density {
     pub span: usize,
     pub dense: bool,

@@ -94,6 +94,8 @@ zero_eq s e =
     both : (a b c : Bool) → T a → T c → (a && (b || c)) ≡ true
     both true true c t u = refl
     both true false true t u = refl
+    both false b c t u = elim t [ ]
+    both true false false t u = elim u [ ]
 
 -- ---- a NaN alone differs from itself
 pub nan_yes : (x : Float) → ne x x ≡ true → x ≡ nan

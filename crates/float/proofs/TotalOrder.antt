@@ -172,6 +172,10 @@ says {x} {y} p q h = go (lt x y) (eq x y) (lt y x) refl refl (tri p q) (sym (le_
     go true false false a b Tri.less h = record { upto = b; sign = λ k. clash a k }
     go false true false a b Tri.same h = record { upto = b; sign = λ k. h }
     go false false true a b Tri.more h = absurd (true≢false (sym h))
+    go false false false a b r h = elim r [ ]
+    go false true true a b r h = elim r [ ]
+    go true false true a b r h = elim r [ ]
+    go true true g a b r h = elim r [ ]
 
 said : {x y : Float} → Real x → Real y → Says x y → total_le x y ≡ true
 said {x} {y} p q s = le_is x q ∙ go (lt x y) (eq x y) (lt y x) refl refl (tri p q)
@@ -180,6 +184,10 @@ said {x} {y} p q s = le_is x q ∙ go (lt x y) (eq x y) (lt y x) refl refl (tri 
     go true false false a b Tri.less = refl
     go false true false a b Tri.same = s.sign a
     go false false true a b Tri.more = clash b s.upto
+    go false false false a b r = elim r [ ]
+    go false true true a b r = elim r [ ]
+    go true false true a b r = elim r [ ]
+    go true true g a b r = elim r [ ]
 
 -- ---- a NaN comes last
 nan_of : (x : Float) → is_nan x ≡ true → x ≡ nan
@@ -221,6 +229,13 @@ total x y = go (is_nan x) (is_nan y) refl refl
     either true false false false s t Tri.less Tri.more k = refl
     either false false true false s t Tri.more Tri.less k = refl
     either false true false true s t Tri.same Tri.same k = k
+    either false false false _ s t r _ k = elim r [ ]
+    either false false true true s t _ r k = elim r [ ]
+    either false true false false s t _ r k = elim r [ ]
+    either false true true _ s t r _ k = elim r [ ]
+    either true false false true s t _ r k = elim r [ ]
+    either true false true _ s t r _ k = elim r [ ]
+    either true true g _ s t r _ k = elim r [ ]
 
     go : (p q : Bool) → is_nan x ≡ p → is_nan y ≡ q → (total_le x y || total_le y x) ≡ true
     go p true n m = rw (last x y m)
@@ -268,6 +283,10 @@ antisymmetric f x y fx fy h k = go (is_nan y) refl
     level_of true false false Tri.less a b = absurd (true≢false a)
     level_of false true false Tri.same a b = refl
     level_of false false true Tri.more a b = absurd (true≢false b)
+    level_of false false false r a b = elim r [ ]
+    level_of false true true r a b = elim r [ ]
+    level_of true false true r a b = elim r [ ]
+    level_of true true g r a b = elim r [ ]
 
     bits : {x y : Float} → Real x → Real y → eq x y ≡ true → negative x ≡ negative y → to_bits f x ≡ to_bits f y
     bits (infinite s) (infinite t) e n = unfold negative in ap (λ (z : Bool). to_bits f (inf z)) n

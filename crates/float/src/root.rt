@@ -9,14 +9,14 @@ ghost use Rattle.float.specs.RootSteps.{root_bits, Exponent, Floor, Scaling, Nea
 
 // A number above 0 as significand * 2^(exponent - 52), the significand of 53 digits: the exponent is
 // the number's own, -1074 to 1023. The root carries its exponent here alone.
-#[derive(Drop)]
+#[derive(Clone, Copy)]
 struct Scaled {
     significand: u64,
     exponent: i16,
 }
 
 // The whole part of a root, and what its square leaves.
-#[derive(Drop)]
+#[derive(Clone, Copy)]
 struct Whole {
     root: u64,
     rest: u64,

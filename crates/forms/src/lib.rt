@@ -6,7 +6,7 @@ ghost use Rattle.std.specs.Prelude.{◌≡◌};
 ghost use Rattle.forms.specs.Groups.{number_at};
 
 // A number and the place after it; nothing, where none reads.
-#[derive(Drop)]
+#[derive(Clone, Copy)]
 pub enum Found {
     Number { value: usize, next: usize },
     Nothing,

@@ -132,6 +132,7 @@ magnitude_mono h b d H l = subst (λ (z : ℕ). magnitude h b ≤ magnitude h z)
 
 -- 2 ^ p is twice 2 ^ (p - 1)
 pub power_twice : (p : ℕ) → 0 < p → 2 ^ p ≡ 2 * 2 ^ (p - 1)
+power_twice zero h = elim h [ ]
 power_twice (suc p) h = subst (λ (z : ℕ). 2 ^ suc p ≡ 2 * 2 ^ z) (pr p) (pow-suc 2 p ∙ mul_comm (2 ^ p) 2)
   where
     pr : (p : ℕ) → p ≡ suc p - 1

@@ -8,7 +8,7 @@ use polynomial::piece;
 
 // Whether a control is turned away by 28; and otherwise the six whole controls, each as the number by which
 // it lies above -2,000,000.
-#[derive(Drop)]
+#[derive(Clone, Copy)]
 pub struct Controls {
     pub beyond: bool,
     pub cells: [u64; 6],

@@ -11,7 +11,7 @@ use crate::{controls, steps, weights};
 use curve::{Curve, form, place};
 
 // The answer.
-#[derive(Drop)]
+#[derive(Clone, Copy)]
 pub enum Answer {
     // the heights are written
     Written,

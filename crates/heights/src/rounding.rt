@@ -5,7 +5,7 @@ ghost use Rattle.heights.specs.Places.{whole_place};
 
 // Whether a number is not finite or beyond ±2,000,000; and otherwise its whole number, as the number by
 // which it lies above -2,000,000.
-#[derive(Drop)]
+#[derive(Clone, Copy)]
 pub struct Rounded {
     pub beyond: bool,
     pub lifted: u64,

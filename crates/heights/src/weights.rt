@@ -1549,7 +1549,7 @@ const WEIGHTS: [u64; 1542] = [
 ];
 
 // The table.
-#[derive(Drop)]
+#[derive(Clone, Copy)]
 pub struct Weights {
     pub cells: [u64; 1542],
 }

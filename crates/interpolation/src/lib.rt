@@ -13,7 +13,7 @@ mod solution; // solution.rt: the system solved, and the polynomial of the solut
 // Where the arrays lie in a lent slice, with E = room and d = axes: parameters from 0 on (samples of them), points from
 // E on (samples rows of d), both given; then the knots E, the band system of samples + 4 controls 7 E + E d, breaks E,
 // coefficients 6 E d: 10 E + 8 E d cells in all.
-#[derive(Drop)]
+#[derive(Clone, Copy)]
 pub struct Nodes {
     pub samples: usize,
     pub axes: usize,
@@ -21,7 +21,7 @@ pub struct Nodes {
 }
 
 // Document 01's number of the refusal (9, 10, 11), or 0; and how many segments there are.
-#[derive(Drop)]
+#[derive(Clone, Copy)]
 pub struct Interpolated {
     pub number: usize,
     pub segments: usize,

@@ -9,7 +9,7 @@ ghost use Rattle.job.specs.Reading.{read_in, end_of, told_by, cells_after};
 use forms::Found;
 
 // d, n, max_refinements and max_segments.
-#[derive(Drop)]
+#[derive(Clone, Copy)]
 pub struct Counts {
     pub d: usize,
     pub n: usize,
@@ -18,14 +18,14 @@ pub struct Counts {
 }
 
 // The counts of a job, or document 01's number of its refusal: 18 or 25.
-#[derive(Drop)]
+#[derive(Clone, Copy)]
 pub enum Reading {
     Read(Counts),
     Refused(u64),
 }
 
 // The four counts and the place after them; nothing, where they do not read.
-#[derive(Drop)]
+#[derive(Clone, Copy)]
 enum Head {
     Four { counts: Counts, next: usize },
     Nothing,

@@ -62,7 +62,7 @@ pub fn write(
 }
 
 // The answer to reading, and the curve; on a refusal it is without axes.
-#[derive(Drop)]
+#[derive(Clone, Copy)]
 pub struct CurveRead {
     pub answer: Reading,
     pub curve: Curve,

@@ -9,7 +9,7 @@ use forms::{Found, number_at};
 
 // Some axes that follow one another: the first sixteen, 0 behind them, and the place after all of them.
 // `reads` says whether they read.
-#[derive(Drop)]
+#[derive(Clone, Copy)]
 struct Axes {
     reads: bool,
     axes: [usize; 16],
@@ -46,7 +46,7 @@ fn axes_at(file: &[u8], at: usize, k: usize) -> Axes
 }
 
 // The mode and both segment counts, and the place after them; nothing, where they do not read.
-#[derive(Drop)]
+#[derive(Clone, Copy)]
 enum Tail {
     Three {
         mode: usize,
@@ -96,7 +96,7 @@ fn tail_at(file: &[u8], at: usize) -> Tail
 
 // What a file begins with, and the place after it; of more than sixteen axes the first sixteen. `reads`
 // says whether it reads.
-#[derive(Drop)]
+#[derive(Clone, Copy)]
 pub(crate) struct FoundHead {
     pub(crate) reads: bool,
     pub(crate) d: usize,

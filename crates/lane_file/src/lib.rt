@@ -13,7 +13,7 @@ pub use entry::{CurveRead, read, write};
 pub use numbers::{read_number, write_number};
 
 // The answer to writing: how many bytes the file has, or a refusal, which has written nothing.
-#[derive(Drop)]
+#[derive(Clone, Copy)]
 pub enum Writing {
     Written(usize),
     NotWellFormed,
@@ -21,7 +21,7 @@ pub enum Writing {
 }
 
 // The answer to reading; a refusal has written nothing.
-#[derive(Drop)]
+#[derive(Clone, Copy)]
 pub enum Reading {
     Done,
     DoesNotRead,

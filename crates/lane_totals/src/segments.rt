@@ -43,7 +43,7 @@ fn steps(weights: &[u64], controls: &[u64]) -> Sums
 }
 
 // Six coefficients, as f64.
-#[derive(Drop)]
+#[derive(Clone, Copy)]
 struct Powers {
     cells: [f64; 6],
 }

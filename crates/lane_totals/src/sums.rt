@@ -5,7 +5,7 @@ ghost use Rattle.lane_totals.specs.Kept.{totals_in, Kept, merged_of, Small};
 
 // The number of lanes, of their segments, the lowest and the highest height, the sum of all heights, and
 // the number of lanes turned away.
-#[derive(Drop)]
+#[derive(Clone, Copy)]
 pub struct Sums {
     pub lanes: u64,
     pub segments: u64,

@@ -2,7 +2,7 @@
 ghost use Rattle.std.specs.Prelude.{◌≡◌, ◌≤◌};
 ghost use Rattle.listing.specs.Axes.{byte_of, axes_of};
 
-#[derive(Drop)]
+#[derive(Clone, Copy)]
 pub struct Axes {
     pub listed: [usize; 16],
 }

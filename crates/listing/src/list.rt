@@ -8,7 +8,7 @@ ghost use Rattle.listing.specs.Cases.{opening, after_case};
 
 use libc::STDIN_FILENO;
 
-#[derive(Drop)]
+#[derive(Clone, Copy)]
 pub enum Status {
     Case,
     End,
@@ -16,7 +16,7 @@ pub enum Status {
 }
 
 // A case without its cells: its kind, its whole numbers, and how many cells follow.
-#[derive(Drop)]
+#[derive(Clone, Copy)]
 pub struct Head {
     pub status: Status,
     pub kind: u8,
@@ -77,7 +77,7 @@ pub fn opens(bytes: &mut [u8]) -> bool
     number_at(bytes, 0, 8) == 0x3130_5941_4c50_4552
 }
 
-#[derive(Drop)]
+#[derive(Clone, Copy)]
 pub struct Wholes {
     pub numbers: [u64; 16],
 }

@@ -5,7 +5,7 @@ ghost use Rattle.listing.specs.Output.{put, printed, whole_text, cell_text, cell
 use libc::STDOUT_FILENO;
 
 // Where the next byte goes in the buffer, and whether the case was one that could be answered.
-#[derive(Drop)]
+#[derive(Clone, Copy)]
 pub struct Line {
     pub at: usize,
     pub good: bool,

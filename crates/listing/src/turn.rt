@@ -9,7 +9,7 @@ use crate::output::Line;
 use crate::{list, output};
 
 // Where the next byte of output goes, the byte of the list that comes next, and whether it goes on.
-#[derive(Drop)]
+#[derive(Clone, Copy)]
 pub struct Turn {
     pub at: usize,
     pub place: u64,

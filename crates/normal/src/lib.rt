@@ -9,7 +9,7 @@ ghost use Rattle.normal.specs.Solve.{unfit_of, any_unfit_of, roots_of, scale_row
 
 // A fitting row: six basis values from control `start` on, their weight, and for each axis how far
 // the curve misses the target there, times the weight.
-#[derive(Drop)]
+#[derive(Clone, Copy)]
 pub struct Row {
     pub start: usize,
     pub basis: [f64; 6],
@@ -142,7 +142,7 @@ pub fn add(sys: &mut [f64], a: usize, n: usize, d: usize, row: Row)
 }
 
 // The answer of `solve`: the solution stands in the right sides, or why there is none.
-#[derive(Drop)]
+#[derive(Clone, Copy)]
 pub enum Solved {
     Done,
     BadDiagonal,

@@ -6,7 +6,7 @@ mod sets; // sets.rt: sets of lanes as numbers
 mod turns; // turns.rt: the lowest-numbered ready lane, place after place
 
 // The answer. A refusal has written nothing.
-#[derive(Drop)]
+#[derive(Clone, Copy)]
 pub enum Answer {
     Ordered,
     AboveLimits,

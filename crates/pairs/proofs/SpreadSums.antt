@@ -47,7 +47,7 @@ sum_size a x y l u m v =
 
 -- ---- rounded upward and downward
 upward_number : (a : ℕ) → a ≤ 1000 → (z : ℚ) (w : Float) → negq (power_of_two a) ≤q z → z ≤q power_of_two a → Upward binary64 z w → Number a w
-upward_number a l z w h k D = go w D.of_Format D.not_below (D.smallest (power a) (power_fits a l) (power_finite a) (rw
+upward_number a l z w h k D = go w D.of_format D.not_below (D.smallest (power a) (power_fits a l) (power_finite a) (rw
     (power_value a) k))
   where
     go : (w : Float) → T (fits binary64 w) → BoundsAbove w z → BoundsBelow w (value (power a)) → Number a w
@@ -65,7 +65,7 @@ upward_number a l z w h k D = go w D.of_Format D.not_below (D.smallest (power a)
 downward_number : (a : ℕ) → a ≤ 1000 → (z : ℚ) (w : Float) → negq (power_of_two a) ≤q z → z ≤q power_of_two a → Downward binary64 z w →
     Number a w
 downward_number a l z w h k D =
-    go w D.of_Format D.not_above (D.largest (neg (power a)) (neg-fits binary64 (power a) (power_fits a l)) (neg_finite (power a)
+    go w D.of_format D.not_above (D.largest (neg (power a)) (neg-fits binary64 (power a) (power_fits a l)) (neg_finite (power a)
     (power_finite a))
     (rw (value_neg (power a) (power_finite a), power_value a) h))
   where

@@ -10,7 +10,7 @@ ghost use Rattle.pairs.specs.Structs.{ends_of, largest_number, lowest_number};
 use crate::{directed, neighbours};
 
 // The pair from `low` to `high`, if `good`; otherwise none.
-#[derive(Drop)]
+#[derive(Clone, Copy)]
 pub struct Ends {
     pub low: f64,
     pub high: f64,

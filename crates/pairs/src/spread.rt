@@ -12,7 +12,7 @@ ghost use Rattle.pairs.specs.Spreads.{Number, Stands, shortest};
 use crate::{ends, upward};
 
 // The pair from -below to above.
-#[derive(Drop)]
+#[derive(Clone, Copy)]
 pub struct Spread {
     pub below: f64,
     pub above: f64,

@@ -10,7 +10,7 @@ use crate::interval::{AuditOutcome, Ended};
 
 // Where a curve with `segments` segments of `axes` axes lies in a lent slice, its waypoints, of which
 // there are `samples`, and for each interval between two of them `axes` bounds and a witness.
-#[derive(Drop)]
+#[derive(Clone, Copy)]
 pub struct Parts {
     pub parameters: usize,
     pub points: usize,
@@ -24,7 +24,7 @@ pub struct Parts {
 }
 
 // How the audit ended, and how many intervals it checked.
-#[derive(Drop)]
+#[derive(Clone, Copy)]
 pub struct Audited {
     pub outcome: AuditOutcome,
     pub checked: usize,

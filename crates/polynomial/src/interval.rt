@@ -8,7 +8,7 @@ use crate::piece::{Largest, Piece};
 
 // How an audit ends: it is done, the right end of a piece is not above the left (document 01's 12),
 // or a Bernstein coefficient is not finite (13).
-#[derive(Drop)]
+#[derive(Clone, Copy)]
 pub enum AuditOutcome {
     Done,
     NotAbove,
@@ -17,7 +17,7 @@ pub enum AuditOutcome {
 
 // What was found so far beside the bounds: the largest absolute coefficient of all axes, and the middle
 // of the piece that it is of.
-#[derive(Drop)]
+#[derive(Clone, Copy)]
 pub struct Peak {
     pub peak: f64,
     pub witness: f64,
@@ -25,7 +25,7 @@ pub struct Peak {
 }
 
 // How an interval ended: its witness, and the last segment that was used.
-#[derive(Drop)]
+#[derive(Clone, Copy)]
 pub struct Ended {
     pub witness: f64,
     pub span: usize,

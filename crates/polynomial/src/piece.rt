@@ -10,7 +10,7 @@ ghost use Rattle.polynomial.specs.Largest.{larger_of, largest_of};
 
 // Where a piece lies. `u` and `w`: its left end and its width, by the segment's local parameter.
 // `before` and `part`: what part of the waypoint interval lies before it, and what part it is.
-#[derive(Drop)]
+#[derive(Clone, Copy)]
 pub struct Piece {
     pub u: f64,
     pub w: f64,
@@ -20,13 +20,13 @@ pub struct Piece {
 }
 
 // Six coefficients.
-#[derive(Drop)]
+#[derive(Clone, Copy)]
 pub struct Six {
     pub cells: [f64; 6],
 }
 
 // The largest absolute coefficient of an axis; the largest of all axes, and the middle of its piece.
-#[derive(Drop)]
+#[derive(Clone, Copy)]
 pub struct Largest {
     pub bound: f64,
     pub peak: f64,

@@ -12,7 +12,7 @@ use crate::{places, range, row, segment};
 use curve::{Curve, form};
 
 // The answer to a query. A refusal has written nothing.
-#[derive(Drop)]
+#[derive(Clone, Copy)]
 pub enum Answer {
     Done,
     Malformed,
@@ -23,7 +23,7 @@ pub enum Answer {
 
 // The answer to many: all are answered; or the call is refused before a parameter is looked at; or the
 // query at this place is outside, the first that is.
-#[derive(Drop)]
+#[derive(Clone, Copy)]
 pub enum Answers {
     All,
     Malformed,
@@ -33,14 +33,14 @@ pub enum Answers {
 }
 
 // The segments of the selected and of the other set in which a query was answered.
-#[derive(Drop)]
+#[derive(Clone, Copy)]
 pub struct Spans {
     pub span: usize,
     pub other_span: usize,
 }
 
 // The answer to a query, with the segments that the next one may try first.
-#[derive(Drop)]
+#[derive(Clone, Copy)]
 pub struct Found {
     pub answer: Answer,
     pub span: usize,

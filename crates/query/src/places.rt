@@ -5,7 +5,7 @@ ghost use Rattle.curve.specs.Places.{axis_place};
 use curve::place::position;
 
 // The place of each axis.
-#[derive(Drop)]
+#[derive(Clone, Copy)]
 pub struct Places {
     pub at: [usize; 16],
 }

@@ -7,7 +7,7 @@ use curve::{Curve, Mode};
 
 // Whether a query is refused, and otherwise the parameter at which the curve answers it, and whether the
 // query's own lies outside start to end, where all derivatives are +0.
-#[derive(Drop)]
+#[derive(Clone, Copy)]
 pub struct Ranged {
     pub refused: bool,
     pub at: f64,

@@ -8,7 +8,7 @@ use crate::search;
 use bspline::choose::FACT;
 
 // The value of an axis with its three derivatives.
-#[derive(Drop)]
+#[derive(Clone, Copy)]
 pub struct Derivatives {
     pub value: f64,
     pub first: f64,
@@ -18,7 +18,7 @@ pub struct Derivatives {
 
 // Where a parameter lies in a set: the segment, the local parameter there, 0 to 1, and the segment's
 // width.
-#[derive(Drop)]
+#[derive(Clone, Copy)]
 pub struct Local {
     pub span: usize,
     pub u: f64,

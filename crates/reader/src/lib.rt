@@ -12,7 +12,7 @@ use query::{Answer, Found, evaluate_near};
 
 // The curve with its four slices, which are lent; whether it is well formed; and the segments of the
 // selected and of the other set that are tried first.
-#[derive(Drop)]
+#[derive(Clone, Copy)]
 pub struct Reader<'a> {
     pub curve: Curve,
     pub breaks: &'a [f64],

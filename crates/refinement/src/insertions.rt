@@ -10,7 +10,7 @@ ghost use Rattle.refinement.specs.Kept.{Beside};
 use crate::plan::Plan;
 
 // How the insertions ended: 0 or 16, and the number of controls then.
-#[derive(Drop)]
+#[derive(Clone, Copy)]
 pub struct Grown {
     pub number: usize,
     pub count: usize,

@@ -6,7 +6,7 @@ ghost use Rattle.refinement.specs.Memory.{spline_of, Roomy, memory_at, locations
 use bspline::Spline;
 
 // `axes` smoothed axes, `samples` waypoints, room for `room` of each, and `count` controls.
-#[derive(Drop)]
+#[derive(Clone, Copy)]
 pub struct Plan {
     pub axes: usize,
     pub samples: usize,

@@ -14,7 +14,7 @@ use crate::round::Rounded;
 use running_report::Report;
 
 // The number of controls, and the report.
-#[derive(Drop)]
+#[derive(Clone, Copy)]
 pub struct Settled {
     pub count: usize,
     pub report: Report,
@@ -22,7 +22,7 @@ pub struct Settled {
 
 // How refinement ended: settled; refused, with document 01's number; or used up (14), with the worst
 // ratio of error to tolerance.
-#[derive(Drop)]
+#[derive(Clone, Copy)]
 pub enum Refined {
     Done(Settled),
     Refused(usize),

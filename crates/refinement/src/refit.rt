@@ -18,7 +18,7 @@ use polynomial::interval::AuditOutcome;
 use running_report::Report;
 
 // What a refit did: document 01's number of the refusal, or 0; its rows, and its audited intervals.
-#[derive(Drop)]
+#[derive(Clone, Copy)]
 pub struct Refitted {
     pub number: usize,
     pub rows: usize,
@@ -26,7 +26,7 @@ pub struct Refitted {
 }
 
 // How a refit ended: document 01's number of the refusal, or 0, and the report then.
-#[derive(Drop)]
+#[derive(Clone, Copy)]
 pub struct Ended {
     pub number: usize,
     pub report: Report,

@@ -14,7 +14,7 @@ use running_report::Report;
 use seed::Region;
 
 // How a region's turn ended, and the first location of a later region.
-#[derive(Drop)]
+#[derive(Clone, Copy)]
 struct Turn {
     number: usize,
     report: Report,

@@ -13,7 +13,7 @@ use running_report::Report;
 
 // How a round ended: document 01's number of the refusal, or 0; the number of controls then, and the
 // report.
-#[derive(Drop)]
+#[derive(Clone, Copy)]
 pub struct Rounded {
     pub number: usize,
     pub count: usize,

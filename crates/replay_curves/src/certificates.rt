@@ -13,7 +13,7 @@ use request::parameters::Spacing;
 // The parts of a case's cells after `start` and `end`: where the first begins, and where each of the
 // breaks, coefficients, other breaks, other coefficients and points ends; the parameters follow. Where
 // the counts do not fit the cells, `good` says so.
-#[derive(Drop)]
+#[derive(Clone, Copy)]
 struct Parts {
     good: bool,
     from: usize,

@@ -11,7 +11,7 @@ use query::Answer;
 // The slices of a case's cells after `start` and `end`: where the first begins, and where each of the
 // breaks, coefficients, other breaks and other coefficients ends; the queries follow. Where the case
 // does not fit its counts, `good` says so.
-#[derive(Drop)]
+#[derive(Clone, Copy)]
 struct Slices {
     good: bool,
     from: usize,

@@ -11,7 +11,7 @@ use listing::output::Line;
 use listing::{axes, output};
 
 // How many cells are lent of each of the four slices.
-#[derive(Drop)]
+#[derive(Clone, Copy)]
 pub struct Lengths {
     pub q: usize,
     pub dq: usize,

@@ -13,7 +13,7 @@ use curve::Curve;
 use listing::axes;
 
 // Where the next byte goes, and the segments that are tried next.
-#[derive(Drop)]
+#[derive(Clone, Copy)]
 struct Kept {
     at: usize,
     span: usize,

@@ -9,7 +9,7 @@ use listing::{axes, sizes};
 pub const MARK: f64 = -6.0221407623e-123;
 
 // How many cells each slice has, or has in use.
-#[derive(Drop)]
+#[derive(Clone, Copy)]
 pub struct Room {
     pub work: usize,
     pub breaks: usize,
@@ -20,7 +20,7 @@ pub struct Room {
 }
 
 // Where the part of each buffer ends; it begins at 8.
-#[derive(Drop)]
+#[derive(Clone, Copy)]
 pub struct Parts {
     pub work: usize,
     pub breaks: usize,

@@ -4,7 +4,7 @@ ghost use Rattle.replay_requests.specs.Lending.{Asks};
 // `k` is the number of listed axes, 17 for all axes. The cells are the tolerances, the points and the
 // parameters: `tolerances` and `points` are where the first two end. `spacing` is the parameters' mode:
 // 0 even, 1 listed, 2 by chords. Where the numbers do not fit the count of cells, `good` says so.
-#[derive(Drop)]
+#[derive(Clone, Copy)]
 pub struct Question {
     pub good: bool,
     pub d: usize,

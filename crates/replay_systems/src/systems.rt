@@ -25,7 +25,7 @@ fn index_of(x: f64, most: usize) -> usize
     most
 }
 
-#[derive(Drop)]
+#[derive(Clone, Copy)]
 struct Basis {
     values: [f64; 6],
 }
@@ -43,7 +43,7 @@ fn basis_at(cells: &[f64], from: usize) -> Basis
     Basis { values }
 }
 
-#[derive(Drop)]
+#[derive(Clone, Copy)]
 struct Target {
     values: [f64; 16],
 }
@@ -62,7 +62,7 @@ fn target_at(cells: &[f64], from: usize, d: usize) -> Target
 }
 
 // The window of n active controls from a on, of controls of d axes.
-#[derive(Drop)]
+#[derive(Clone, Copy)]
 struct Window {
     a: usize,
     n: usize,

@@ -11,7 +11,7 @@ ghost use Rattle.request.specs.Any.{any};
 
 // Where the parameters come from: a list, which stands beside it, or the rule of spacing, whose version 1
 // is even and whose version 2 goes by the chords.
-#[derive(Drop)]
+#[derive(Clone, Copy)]
 pub enum Spacing {
     Listed,
     Even,
@@ -144,7 +144,7 @@ fn is_misplaced(previous: f64, x: f64) -> bool
 }
 
 // The parameters tested (5). Where they are not misplaced, `range` is the last less the first.
-#[derive(Drop)]
+#[derive(Clone, Copy)]
 pub struct Placement {
     pub misplaced: bool,
     pub range: f64,

@@ -12,7 +12,7 @@ mod segments; // segments.rt: the coefficients of segments in reverse
 mod set; // set.rt: one set
 
 // The answer to a call. A refusal has written nothing.
-#[derive(Drop)]
+#[derive(Clone, Copy)]
 pub enum Answer {
     Done,
     Malformed,

@@ -5,7 +5,7 @@ ghost use Rattle.smoothing.specs.State.{add_rows, add_intervals};
 ghost use Rattle.running_report.specs.Counted.{counts_of};
 
 // `report.refinements`, `report.fitting_rows`, `report.checked_intervals`.
-#[derive(Drop)]
+#[derive(Clone, Copy)]
 pub struct Report {
     pub refinements: usize,
     pub rows: usize,

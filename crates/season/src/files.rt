@@ -5,7 +5,7 @@ ghost use Rattle.season.specs.Next.{NextIn};
 use forms::Found;
 
 // A file, from a place up to another; or more bytes are needed to tell; or the run stops.
-#[derive(Drop)]
+#[derive(Clone, Copy)]
 pub enum Next {
     File { from: usize, to: usize },
     More,

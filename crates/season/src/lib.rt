@@ -11,7 +11,7 @@ pub use parts::take_part;
 
 // Whether the run has ended, since it stopped or the input has; and otherwise how many bytes are left in front of
 // the buffer; and the totals so far.
-#[derive(Drop)]
+#[derive(Clone, Copy)]
 pub struct Turn {
     pub ended: bool,
     pub stopped: bool,

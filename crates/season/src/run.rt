@@ -10,7 +10,7 @@ use lane_totals::sums;
 use lane_totals::sums::Sums;
 
 // Whether the run stopped; and otherwise the totals and the place after the last file that was taken in.
-#[derive(Drop)]
+#[derive(Clone, Copy)]
 pub(crate) struct Taken {
     pub(crate) stopped: bool,
     pub(crate) at: usize,

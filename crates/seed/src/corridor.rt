@@ -7,7 +7,7 @@ ghost use Rattle.seed.specs.Corridor.{corridor, lowest, highest, narrowed};
 ghost use Rattle.seed.specs.Anchors.{fits, next_anchor};
 
 // The least and the greatest slope of each axis, and whether the point in hand lies between.
-#[derive(Drop)]
+#[derive(Clone, Copy)]
 struct Bounds {
     lo: [f64; 16],
     hi: [f64; 16],

@@ -11,7 +11,7 @@ use crate::Waypoints;
 use crate::corridor::{next_anchor, slope};
 
 // The knots around an anchor.
-#[derive(Drop)]
+#[derive(Clone, Copy)]
 struct Three {
     left: f64,
     middle: f64,

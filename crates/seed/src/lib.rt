@@ -9,7 +9,7 @@ pub use regions::{Region, next_region};
 
 // Where the waypoints lie in a lent slice: `samples` parameters from `parameters` on, as many points of
 // `axes` cells from `points` on; and where the knots go, behind them.
-#[derive(Drop)]
+#[derive(Clone, Copy)]
 pub struct Waypoints {
     pub parameters: usize,
     pub points: usize,

@@ -3,14 +3,14 @@ ghost use Rattle.std.specs.Prelude.{◌≡◌, ◌∷◌, ◌+◌, ◌-◌, ◌�
 ghost use Rattle.seed.specs.Regions.{range, range_of, regions_of};
 
 // The controls from a up to z.
-#[derive(Drop)]
+#[derive(Clone, Copy)]
 struct Controls {
     a: usize,
     z: usize,
 }
 
 // The controls from a up to z, and the first location that belongs to a later window.
-#[derive(Drop)]
+#[derive(Clone, Copy)]
 pub struct Region {
     pub a: usize,
     pub z: usize,

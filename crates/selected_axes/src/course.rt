@@ -17,7 +17,7 @@ use running_report::Report;
 
 // Done; refused, with document 01's number; or the refinements used up (14), with the worst ratio of error
 // to tolerance.
-#[derive(Drop)]
+#[derive(Clone, Copy)]
 pub enum Ending {
     Done,
     Refused(usize),
@@ -25,7 +25,7 @@ pub enum Ending {
 }
 
 // How it ended, the number of controls, the report, and the largest bound on each axis.
-#[derive(Drop)]
+#[derive(Clone, Copy)]
 pub struct Smoothed {
     pub ending: Ending,
     pub count: usize,

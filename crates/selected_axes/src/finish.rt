@@ -14,7 +14,7 @@ use refinement::plan::Plan;
 use running_report::Report;
 
 // How it ended: document 01's number of the refusal, or 0; the largest bound on each axis, and the report.
-#[derive(Drop)]
+#[derive(Clone, Copy)]
 pub struct Finished {
     pub number: usize,
     pub errors: [f64; 16],

@@ -18,7 +18,7 @@ use running_report::Report;
 use seed::Waypoints;
 
 // How it ended: document 01's number of the refusal, or 0; the number of controls, and the report.
-#[derive(Drop)]
+#[derive(Clone, Copy)]
 pub struct Started {
     pub number: usize,
     pub count: usize,

@@ -7,7 +7,7 @@ pub use order::sort;
 pub use thin::{dedup, keep_apart};
 
 // Which elements are kept.
-#[derive(Drop)]
+#[derive(Clone, Copy)]
 enum Rule {
     // those that differ from the last one kept
     Distinct,

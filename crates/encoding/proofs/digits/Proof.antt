@@ -10,10 +10,10 @@ use Rattle.encoding.proofs.Laws.{drop_set}
 use Rattle.encoding.proofs.digits.Statement.{statement}
 use Rattle.encoding.proofs.digits.Tie as tie
 
-abbrev invariant-loop : tie.invariant-loop
+abbrev invariant-loop : tie.invariant-loop-i
 invariant-loop bits bytes₀ rest₀ i₀ bytes rest i = (i ≤ 16) × ((length bytes ≡ 16) × (hex_digits i rest (drop i bytes) ≡ hex_digits 16 bits []))
 
-abbrev decreases-loop : tie.decreases-loop
+abbrev decreases-loop : tie.decreases-loop-i
 decreases-loop bits bytes₀ rest₀ i₀ bytes rest i = i
 
 -- one digit more
@@ -25,12 +25,12 @@ digit-more i rest d bytes h k e =
     let m : i - 1 + 1 ≡ i = omega arith in
     rw (drop_set bytes (i - 1) d (omega arith), m, e) (sym (ap (λ (j : ℕ). hex_digits j rest (drop i bytes)) n))
 
-loop-holds : tie.Need-loop-init invariant-loop decreases-loop
+loop-holds : tie.Need-loop-i-init invariant-loop decreases-loop
 loop-holds c = (omega arith, (refl, refl))
 
-loop-again : tie.Need-loop-preserved invariant-loop decreases-loop
+loop-again : tie.Need-loop-i-preserved invariant-loop decreases-loop
 loop-again c =
-    let l = c.before.before.loop in (
+    let l = c.loop-i in (
       omega arith,
       (
         simp length-set (omega arith),
@@ -42,11 +42,11 @@ loop-again c =
 returns : tie.Need-returns invariant-loop decreases-loop
 unfolding hex_digits
 returns c =
-    let l = c.before.loop in
+    let l = c.loop-i in
     let e : l.i ≡ 0 = omega arith in
     (refl, rw e at l.invariant.1.1)
 
-pub digits-spec : {M : Type 1} → statement M
-digits-spec =
+pub digits_spec : {M : Type 1} → statement M
+digits_spec =
     tie.close
     (tie.spec invariant-loop decreases-loop loop-holds (λ c. omega arith) (λ c κs. omega arith) (λ c. omega arith) (λ c. omega arith) loop-again returns)

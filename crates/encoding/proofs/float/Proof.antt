@@ -6,7 +6,7 @@ use Rattle.encoding.proofs.float.Statement.{statement}
 use Rattle.encoding.proofs.float.Tie as tie
 
 returns : tie.Need-returns
-returns c = c.number.ensures ∙ ap (of_bits binary64) c.before.whole.ensures
+returns c = c.number.ensures ∙ ap (of_bits binary64) c.whole.ensures
 
-pub float-spec : {M : Type 1} → statement M
-float-spec = tie.close (tie.spec (λ c κs. search rules) (λ c κs. search rules) returns)
+pub float_spec : {M : Type 1} → statement M
+float_spec = tie.close (tie.spec (λ c κs. search rules) (λ c κs. search rules) returns)

@@ -12,23 +12,23 @@ use Rattle.encoding.proofs.Laws.{length_each, each_more}
 use Rattle.encoding.proofs.floats.Statement.{statement}
 use Rattle.encoding.proofs.floats.Tie as tie
 
-abbrev invariant-loop : tie.invariant-loop
+abbrev invariant-loop : tie.invariant-loop-i
 invariant-loop bytes cells₀ i₀ cells i = (i ≤ length cells₀) × ((cells ≡ floats_of i bytes ++ drop i cells₀) × (length cells ≡ length cells₀))
 
-abbrev decreases-loop : tie.decreases-loop
+abbrev decreases-loop : tie.decreases-loop-i
 decreases-loop bytes cells₀ i₀ cells i = length cells₀ - i
 
-loop-holds : tie.Need-loop-init invariant-loop decreases-loop
+loop-holds : tie.Need-loop-i-init invariant-loop decreases-loop
 unfolding each_of
 loop-holds c = search rules
 
 float-requires : tie.Need-float-requires invariant-loop decreases-loop
 float-requires c κs = simp length-take (omega arith)
 
-loop-again : tie.Need-loop-preserved invariant-loop decreases-loop
+loop-again : tie.Need-loop-i-preserved invariant-loop decreases-loop
 loop-again c =
-    let l = c.before.before.before.loop in
-    let a = c.before.before.before.before.before.before.args in (
+    let l = c.loop-i in
+    let a = c.args in (
       omega arith,
       (
         rw (l.invariant.1.0, each_more float_of l.i a.bytes.now, c.float.ensures) (write_more (floats_of l.i a.bytes.now)
@@ -39,13 +39,13 @@ loop-again c =
 
 returns : tie.Need-returns invariant-loop decreases-loop
 returns c =
-    let l = c.before.loop in
-    let cells₀ = c.before.before.before.before.args.cells.now in
+    let l = c.loop-i in
+    let cells₀ = c.args.cells.now in
     let e : l.i ≡ length cells₀ = omega arith in
     l.invariant.1.0 ∙ rw (e, drop-length) (append-nil _)
 
-pub floats-spec : {M : Type 1} → statement M
-floats-spec =
+pub floats_spec : {M : Type 1} → statement M
+floats_spec =
     tie.close
     (tie.spec
     invariant-loop

@@ -10,12 +10,12 @@ nan_is : to_bits binary64 nan ≡ 0x7ff8_0000_0000_0000
 unfolding to_bits
 nan_is = refl
 
-returns : tie.Need-returns
+returns : tie.Need-returns-then-x
 returns c =
-    sym nan_is ∙ ap (to_bits binary64) (sym (is_nan_law c.before.args.x (differs_nan c.before.args.x c.if1.true)))
+    sym nan_is ∙ ap (to_bits binary64) (sym (is_nan_law c.args.x (differs_nan c.args.x c.if-x.true)))
 
-float-to-bits-result : tie.Need-float-to-bits-result
-float-to-bits-result c = rw (equal_number c.before.args.x c.if1.false) tt
+float-to-bits-result : tie.Need-float_to_bits-result
+float-to-bits-result c = rw (equal_number c.args.x c.if-x.false) tt
 
-pub pattern-spec : {M : Type 1} → statement M
-pattern-spec = tie.close (tie.spec returns float-to-bits-result (λ c. search rules))
+pub pattern_spec : {M : Type 1} → statement M
+pattern_spec = tie.close (tie.spec returns float-to-bits-result (λ c. search rules))

@@ -10,10 +10,10 @@ whole-requires : tie.Need-whole-requires
 whole-requires c κs = simp length-take (omega arith)
 
 returns : tie.Need-returns
-returns c = let s = c.before.before.before.before in ap (set s.args.cells.now s.args.i) c.whole.ensures
+returns c = ap (set c.args.cells.now c.args.i) c.whole.ensures
 
-pub put-whole-spec : {M : Type 1} → statement M
-put-whole-spec =
+pub put_whole_spec : {M : Type 1} → statement M
+put_whole_spec =
     tie.close
     (tie.spec
     (λ c. search rules)

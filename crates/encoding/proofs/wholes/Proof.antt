@@ -9,72 +9,65 @@ use Rattle.encoding.proofs.Laws.{filled_next, filled_length, filled_all}
 use Rattle.encoding.proofs.wholes.Statement.{statement}
 use Rattle.encoding.proofs.wholes.Tie as tie
 
-abbrev invariant-loop : tie.invariant-loop
+abbrev invariant-loop : tie.invariant-loop-i
 invariant-loop bytes cells₀ i₀ cells i = (before : List ℕ) → Filled low_first bytes before i₀ cells₀ → Filled low_first bytes before i cells
 
-abbrev decreases-loop : tie.decreases-loop
+abbrev decreases-loop : tie.decreases-loop-i
 decreases-loop bytes cells₀ i₀ cells i = length cells₀ - i
 
-loop-holds : tie.Need-loop-init invariant-loop decreases-loop
+loop-holds : tie.Need-loop-i-init invariant-loop decreases-loop
 loop-holds c before f = f
 
-module _ (l : tie.At-loop invariant-loop decreases-loop) where
+module _ (l : tie.At-loop-i invariant-loop decreases-loop) where
   abbrev start : tie.Start invariant-loop decreases-loop
   start = l.before.before.before.before.before.before.before
 
-  filled : Filled low_first start.args.bytes.now start.args.cells.now l.loop.i l.loop.cells
-  filled = l.loop.inv start.args.cells.now l.before.before.before.put-fours.ensures
+  filled : Filled low_first start.args.bytes.now start.args.cells.now l.loop-i.i l.loop-i.cells
+  filled = l.loop-i.invariant start.args.cells.now l.put_fours-i.ensures
 
-put-whole-requires : tie.Need-put-whole-requires invariant-loop decreases-loop
+put-whole-requires : tie.Need-put_whole-requires invariant-loop decreases-loop
 put-whole-requires c κs =
-    let l = c.before.before in
-    let s = start l in
-    let n = filled_length low_first s.args.bytes.now s.args.cells.now l.loop.i l.loop.cells (filled l) in
-    (omega (arith, n, c.before.loop-test.true, s.pre), omega (arith, c.before.loop-test.true))
+    let s = start c.before.before in
+    let n = filled_length low_first s.args.bytes.now s.args.cells.now c.loop-i.i c.loop-i.cells (filled c.before.before) in
+    (omega (arith, n, c.loop-i-test.true, s.requires), omega (arith, c.loop-i-test.true))
 
-loop-again : tie.Need-loop-preserved invariant-loop decreases-loop
+loop-again : tie.Need-loop-i-preserved invariant-loop decreases-loop
 loop-again c before f =
-    let l = c.before.before.before.before.before in
-    let s = start l in
-    let g = l.loop.invariant before f in
-    let n = filled_length low_first s.args.bytes.now before l.loop.i l.loop.cells g in
-    filled_next low_first s.args.bytes.now before l.loop.i l.loop.cells g (l.loop.i + 1) _ refl
-    (omega (arith, n, c.before.before.before.before.loop-test.true)) c.before.before.put_whole.ensures
+    let s = start c.before.before.before.before.before in
+    let g = c.loop-i.invariant before f in
+    let n = filled_length low_first s.args.bytes.now before c.loop-i.i c.loop-i.cells g in
+    filled_next low_first s.args.bytes.now before c.loop-i.i c.loop-i.cells g (c.loop-i.i + 1) _ refl
+    (omega (arith, n, c.loop-i-test.true)) c.put_whole.ensures
 
-add-i : tie.Need-overflow-add-i invariant-loop decreases-loop
+add-i : tie.Need-overflow_add-i invariant-loop decreases-loop
 add-i c =
-    let l = c.before.before.before.before.before in
-    let s = start l in
-    let n = filled_length low_first s.args.bytes.now s.args.cells.now l.loop.i l.loop.cells (filled l) in
-    omega (arith, n, c.before.before.before.before.loop-test.true, s.pre)
+    let s = start c.before.before.before.before.before in
+    let n = filled_length low_first s.args.bytes.now s.args.cells.now c.loop-i.i c.loop-i.cells (filled c.before.before.before.before.before) in
+    omega (arith, n, c.loop-i-test.true, s.requires)
 
-loop-less : tie.Need-loop-smaller invariant-loop decreases-loop
+loop-less : tie.Need-loop-i-smaller invariant-loop decreases-loop
 loop-less c =
-    let l = c.before.before.before.before.before in
-    let s = start l in
-    let n = filled_length low_first s.args.bytes.now s.args.cells.now l.loop.i l.loop.cells (filled l) in
-    let p = l.before.before.before in
-    let m = filled_length low_first s.args.bytes.now s.args.cells.now _ _ p.put-fours.ensures in
-    omega (arith, n, m, c.before.before.before.before.loop-test.true)
+    let s = start c.before.before.before.before.before in
+    let n = filled_length low_first s.args.bytes.now s.args.cells.now c.loop-i.i c.loop-i.cells (filled c.before.before.before.before.before) in
+    let m = filled_length low_first s.args.bytes.now s.args.cells.now _ _ c.put_fours-i.ensures in
+    omega (arith, n, m, c.loop-i-test.true)
 
-same_length : tie.Need-same-length invariant-loop decreases-loop
-same_length c = let l = c.before in
-    let s = start l in filled_length low_first s.args.bytes.now s.args.cells.now l.loop.i l.loop.cells (filled l)
+same_length : tie.Need-shape_of-cells invariant-loop decreases-loop
+same_length c = let s = start c.before in filled_length low_first s.args.bytes.now s.args.cells.now c.loop-i.i c.loop-i.cells (filled c.before)
 
 returns : tie.Need-returns invariant-loop decreases-loop
-returns c = let l = c.before in
-    let s = start l in
-    let n = filled_length low_first s.args.bytes.now s.args.cells.now l.loop.i l.loop.cells (filled l) in
-    filled_all low_first s.args.bytes.now s.args.cells.now l.loop.i l.loop.cells (filled l)
-    (omega (arith, n, c.loop-test.false, (filled l).within))
+returns c = let s = start c.before in
+    let n = filled_length low_first s.args.bytes.now s.args.cells.now c.loop-i.i c.loop-i.cells (filled c.before) in
+    filled_all low_first s.args.bytes.now s.args.cells.now c.loop-i.i c.loop-i.cells (filled c.before)
+    (omega (arith, n, c.loop-i-test.false, (filled c.before).within))
 
-pub wholes-spec : {M : Type 1} → statement M
-wholes-spec =
+pub wholes_spec : {M : Type 1} → statement M
+wholes_spec =
     tie.close
     (tie.spec
     invariant-loop
     decreases-loop
-    (λ c κs. omega (arith, c.before.before.before.requires))
+    (λ c κs. omega (arith, c.requires))
     loop-holds
     put-whole-requires
     add-i

@@ -28,10 +28,10 @@ both n d l v u f h p q e =
 returns : tie.Need-returns
 unfolding add_of
 returns c =
-    let a = c.before.before.before.before.before.before.before.before.before.args in
-    let v = c.before.before.before.before.before.before.add-band in
-    let u = c.before.before.add_right in
-    both a.n a.d a.sys.now v.new.0 u.new.0 (add_right_of a.a a.n a.d a.row) (omega arith) (omega arith)
+    let a = c.args in
+    let v = c.add_band in
+    let u = c.add_right in
+    both a.n a.d a.sys.now v.new.h u.new.r (add_right_of a.a a.n a.d a.row) (omega arith) (omega arith)
     (omega arith) u.ensures ∙ rw v.ensures
 
 pub add_spec : {M : Type 1} → statement M

@@ -11,23 +11,23 @@ use Rattle.normal.proofs.Region.{put_quotient}
 use Rattle.normal.proofs.back_row.Statement.{statement}
 use Rattle.normal.proofs.back_row.Tie as tie
 
-abbrev invariant-loop : tie.invariant-loop
+abbrev invariant-loop : tie.invariant-loop-axis
 invariant-loop sys₀ n d i right axis₀ sys axis =
     (axis ≤ d) × (length sys ≡ length sys₀) × (each (back_cell_of n d i) axis d (system_of n d sys) ≡ back_row_of n d i (system_of n d sys₀))
 
-abbrev decreases-loop : tie.decreases-loop
+abbrev decreases-loop : tie.decreases-loop-axis
 decreases-loop sys₀ n d i right axis₀ sys axis = d - axis
 
-loop-holds : tie.Need-loop-init invariant-loop decreases-loop
+loop-holds : tie.Need-loop-axis-init invariant-loop decreases-loop
 unfolding back_row_of
 loop-holds c = (omega arith, refl, refl)
 
-loop-again : tie.Need-loop-preserved invariant-loop decreases-loop
+loop-again : tie.Need-loop-axis-preserved invariant-loop decreases-loop
 unfolding back_cell_of
 loop-again c =
-    let l = c.before.before.before.before.loop in
-    let a = c.before.before.before.before.before.before.args in
-    let v = c.before.back-value in (
+    let l = c.loop-axis in
+    let a = c.args in
+    let v = c.back_value-v in (
       omega arith,
       simp length-set (omega arith),
       ap (each (back_cell_of a.n a.d a.i) (l.axis + 1) a.d)
@@ -36,10 +36,10 @@ loop-again c =
     )
 
 returns : tie.Need-returns invariant-loop decreases-loop
-returns c = sym (each_done _ _ _ _ (omega arith)) ∙ c.before.loop.invariant.2
+returns c = sym (each_done _ _ _ _ (omega arith)) ∙ c.loop-axis.invariant.2
 
-pub back-row-spec : {M : Type 1} → statement M
-back-row-spec =
+pub back_row_spec : {M : Type 1} → statement M
+back_row_spec =
     tie.close
     (tie.spec
     invariant-loop

@@ -11,54 +11,54 @@ use Rattle.normal.proofs.Region.{read_right, less_product}
 use Rattle.normal.proofs.back_value.Statement.{statement}
 use Rattle.normal.proofs.back_value.Tie as tie
 
-abbrev invariant-loop : tie.invariant-loop
+abbrev invariant-loop : tie.invariant-loop-j
 invariant-loop sys n d i axis right end v₀ j₀ v j =
     (i < j) × (j ≤ end) × (each (back_term_of d i axis (system_of n d sys)) j end v ≡ back_value_of n d i axis (system_of n d sys))
 
-abbrev decreases-loop : tie.decreases-loop
+abbrev decreases-loop : tie.decreases-loop-j
 decreases-loop sys n d i axis right end v₀ j₀ v j = end - j
 
 -- the other control's axes lie within the right sides
-within : (c : tie.In-loop invariant-loop decreases-loop) → let l = c.before.loop in let a = c.before.before.before.before.before.args in l.j *
+within : (c : tie.In-loop-j invariant-loop decreases-loop) → let l = c.loop-j in let a = c.args in l.j *
     a.d + a.d ≤ a.n * a.d
 within c =
-    let l = c.before.loop in
-    let a = c.before.before.before.before.before.args in
+    let l = c.loop-j in
+    let a = c.args in
     row_end l.j a.n a.d (a.n * a.d) (omega arith) (omega arith)
 
-loop-holds : tie.Need-loop-init invariant-loop decreases-loop
+loop-holds : tie.Need-loop-j-init invariant-loop decreases-loop
 unfolding back_value_of
 loop-holds c =
-    let a = c.before.before.before.args in (
+    let a = c.args in (
       omega arith,
       omega arith,
       rw (
-        c.before.column-end.ensures,
+        c.column_end-end.ensures,
         read_right a.n a.d a.sys.now (a.i * a.d + a.axis)
             (omega arith),
       ),
     )
 
-mul-v-5 : tie.Need-overflow-mul-v-5 invariant-loop decreases-loop
+mul-v-5 : tie.Need-overflow_mul-v-in-loop-j-2 invariant-loop decreases-loop
 mul-v-5 c = omega (arith, within c.before)
 
-add-v-4 : tie.Need-overflow-add-v-4 invariant-loop decreases-loop
+add-v-4 : tie.Need-overflow_add-v-in-loop-j-2 invariant-loop decreases-loop
 add-v-4 c = omega (arith, within c.before)
 
-add-v-5 : tie.Need-overflow-add-v-5 invariant-loop decreases-loop
+add-v-5 : tie.Need-overflow_add-v-in-loop-j-3 invariant-loop decreases-loop
 add-v-5 c = omega (arith, within c.before)
 
-mul-v-6 : tie.Need-overflow-mul-v-6 invariant-loop decreases-loop
+mul-v-6 : tie.Need-offset_bounds-sys-right-in-loop-j invariant-loop decreases-loop
 mul-v-6 c = omega (arith, within c.before)
 
-shared-slice-read-v-3 : tie.Need-shared-slice-read-v-3 invariant-loop decreases-loop
+shared-slice-read-v-3 : tie.Need-bounds-sys-right-in-loop-j invariant-loop decreases-loop
 shared-slice-read-v-3 c = omega (arith, within c.before.before)
 
-loop-again : tie.Need-loop-preserved invariant-loop decreases-loop
+loop-again : tie.Need-loop-j-preserved invariant-loop decreases-loop
 unfolding back_term_of
 loop-again c =
-    let l = c.before.before.before.loop in
-    let a = c.before.before.before.before.before.before.before.args in
+    let l = c.loop-j in
+    let a = c.args in
     let h = within c.before.before in (
       omega arith,
       omega arith,
@@ -68,10 +68,10 @@ loop-again c =
     )
 
 returns : tie.Need-returns invariant-loop decreases-loop
-returns c = sym (each_done _ _ _ _ (omega arith)) ∙ c.before.loop.invariant.2
+returns c = sym (each_done _ _ _ _ (omega arith)) ∙ c.loop-j.invariant.2
 
-pub back-value-spec : {M : Type 1} → statement M
-back-value-spec =
+pub back_value_spec : {M : Type 1} → statement M
+back_value_spec =
     tie.close
     (tie.spec
     invariant-loop

@@ -11,24 +11,24 @@ use Rattle.normal.proofs.Region.{read_right, read_scale, put_right}
 use Rattle.normal.proofs.divide_row.Statement.{statement}
 use Rattle.normal.proofs.divide_row.Tie as tie
 
-abbrev invariant-loop : tie.invariant-loop
+abbrev invariant-loop : tie.invariant-loop-axis
 invariant-loop sys₀ n d i right scale axis₀ sys axis =
     (axis ≤ d) × (length sys ≡ length sys₀) × (each (divide_of d i scale) axis d (system_of n d sys) ≡ divide_row_of d i (system_of n d sys₀))
 
-abbrev decreases-loop : tie.decreases-loop
+abbrev decreases-loop : tie.decreases-loop-axis
 decreases-loop sys₀ n d i right scale axis₀ sys axis = d - axis
 
-loop-holds : tie.Need-loop-init invariant-loop decreases-loop
+loop-holds : tie.Need-loop-axis-init invariant-loop decreases-loop
 unfolding divide_row_of
 loop-holds c =
-    let a = c.before.args in
+    let a = c.args in
     (omega arith, refl, rw (read_scale a.n a.d a.sys.now a.i (omega arith)))
 
-loop-again : tie.Need-loop-preserved invariant-loop decreases-loop
+loop-again : tie.Need-loop-axis-preserved invariant-loop decreases-loop
 unfolding divide_of
 loop-again c =
-    let l = c.before.before.loop in
-    let a = c.before.before.before.before.args in
+    let l = c.loop-axis in
+    let a = c.args in
     let e = put_right a.n a.d l.sys (a.i * a.d + l.axis) _ (omega arith) in (
       omega arith,
       simp length-set (omega arith),
@@ -37,10 +37,10 @@ loop-again c =
     )
 
 returns : tie.Need-returns invariant-loop decreases-loop
-returns c = sym (each_done _ _ _ _ (omega arith)) ∙ c.before.loop.invariant.2
+returns c = sym (each_done _ _ _ _ (omega arith)) ∙ c.loop-axis.invariant.2
 
-pub divide-row-spec : {M : Type 1} → statement M
-divide-row-spec =
+pub divide_row_spec : {M : Type 1} → statement M
+divide_row_spec =
     tie.close
     (tie.spec
     invariant-loop

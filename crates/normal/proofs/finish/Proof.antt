@@ -8,26 +8,26 @@ use Rattle.normal.proofs.finish.Statement.{statement}
 use Rattle.normal.proofs.finish.Tie as tie
 
 -- what the three phases come to
-substituted : (c : tie.After-any-unfit) → let a = c.before.before.before.before.before.before.before.before.before.before.before.before.before.before.before.before.args in system_of a.n a.d c.before.before.before.before.before.unscale.new.0
+substituted : (c : tie.After-any_unfit) → let a = c.args in system_of a.n a.d c.unscale.new.sys
     ≡ unscale_of a.n a.d (backward_of a.n a.d (forward_of a.n a.d (system_of a.n a.d a.sys.now)))
 substituted c =
-    let a = c.before.before.before.before.before.before.before.before.before.before.before.before.before.before.before.before.args in
-    c.before.before.before.before.before.unscale.ensures ∙ ap (unscale_of a.n a.d)
-    (c.before.before.before.before.before.before.before.before.before.backward.ensures
-    ∙ ap (backward_of a.n a.d) c.before.before.before.before.before.before.before.before.before.before.before.before.before.forward.ensures)
+    let a = c.args in
+    c.unscale.ensures ∙ ap (unscale_of a.n a.d)
+    (c.backward.ensures
+    ∙ ap (backward_of a.n a.d) c.forward.ensures)
 
-returns : tie.Need-returns
+returns : tie.Need-returns-then-any_unfit
 returns c =
-    let a = c.before.before.before.before.before.before.before.before.before.before.before.before.before.before.before.before.before.args in
+    let a = c.args in
     let f = bad_solution a.n a.d (system_of a.n a.d a.sys.now) _ (substituted c.before)
-    (sym c.before.any-unfit.ensures ∙ c.if1.true) in
+    (sym c.any_unfit.ensures ∙ c.if-any_unfit.true) in
     (sym (ap (λ (o : SolveOutcome). o.number) f), sym (ap (λ (o : SolveOutcome). o.system) f))
 
-returns-2 : tie.Need-returns-2
+returns-2 : tie.Need-returns
 returns-2 c =
-    let a = c.before.before.before.before.before.before.before.before.before.before.before.before.before.before.before.before.before.args in
+    let a = c.args in
     let f = solution a.n a.d (system_of a.n a.d a.sys.now) _ (substituted c.before)
-    (sym c.before.any-unfit.ensures ∙ c.if1.false) in
+    (sym c.any_unfit.ensures ∙ c.if-any_unfit.false) in
     (sym (ap (λ (o : SolveOutcome). o.number) f), sym (ap (λ (o : SolveOutcome). o.system) f))
 
 pub finish_spec : {M : Type 1} → statement M

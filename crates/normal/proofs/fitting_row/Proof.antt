@@ -8,29 +8,29 @@ use Rattle.normal.specs.Add.{difference_of, row_of}
 use Rattle.normal.proofs.fitting_row.Statement.{statement}
 use Rattle.normal.proofs.fitting_row.Tie as tie
 
-abbrev invariant-loop : tie.invariant-loop
+abbrev invariant-loop : tie.invariant-loop-axis
 invariant-loop c d start basis weight target residual₀ axis₀ residual axis =
     (axis ≤ d) × (each (difference_of c d start basis weight target) axis d residual ≡ (row_of c d start basis weight target).residual)
 
-abbrev decreases-loop : tie.decreases-loop
+abbrev decreases-loop : tie.decreases-loop-axis
 decreases-loop c d start basis weight target residual₀ axis₀ residual axis = d - axis
 
-loop-holds : tie.Need-loop-init invariant-loop decreases-loop
+loop-holds : tie.Need-loop-axis-init invariant-loop decreases-loop
 unfolding row_of
 loop-holds c = (omega arith, refl)
 
-loop-again : tie.Need-loop-preserved invariant-loop decreases-loop
+loop-again : tie.Need-loop-axis-preserved invariant-loop decreases-loop
 unfolding difference_of
 loop-again c =
-    let l = c.before.before.loop in
-    (omega arith, rw c.value.ensures (sym (each_turn _ _ _ _ (omega arith)) ∙ l.invariant.1))
+    let l = c.loop-axis in
+    (omega arith, rw c.value-v.ensures (sym (each_turn _ _ _ _ (omega arith)) ∙ l.invariant.1))
 
 returns : tie.Need-returns invariant-loop decreases-loop
 unfolding row_of
-returns c = rw (sym (each_done _ _ _ _ c.loop-test.false) ∙ c.before.loop.invariant.1)
+returns c = rw (sym (each_done _ _ _ _ c.loop-axis-test.false) ∙ c.loop-axis.invariant.1)
 
-pub fitting-row-spec : {M : Type 1} → statement M
-fitting-row-spec =
+pub fitting_row_spec : {M : Type 1} → statement M
+fitting_row_spec =
     tie.close
     (tie.spec
     invariant-loop

@@ -11,37 +11,37 @@ use Rattle.normal.specs.Solve.{forward_row_of, forward_of}
 use Rattle.normal.proofs.forward.Statement.{statement}
 use Rattle.normal.proofs.forward.Tie as tie
 
-abbrev invariant-loop : tie.invariant-loop
+abbrev invariant-loop : tie.invariant-loop-i
 invariant-loop sys₀ n d i₀ sys i =
     (i ≤ n) × (length sys ≡ length sys₀) × (each (forward_row_of d) i n (system_of n d sys) ≡ forward_of n d (system_of n d sys₀))
 
-abbrev decreases-loop : tie.decreases-loop
+abbrev decreases-loop : tie.decreases-loop-i
 decreases-loop sys₀ n d i₀ sys i = n - i
 
-loop-holds : tie.Need-loop-init invariant-loop decreases-loop
+loop-holds : tie.Need-loop-i-init invariant-loop decreases-loop
 unfolding forward_of
 loop-holds c = (omega arith, refl, refl)
 
-forward-row-requires : tie.Need-forward-row-requires invariant-loop decreases-loop
+forward-row-requires : tie.Need-forward_row-requires invariant-loop decreases-loop
 forward-row-requires c κs =
-    let a = c.before.before.before.before.args in
-    omega (arith, row_end c.before.before.loop.i a.n a.d (a.n * a.d) (omega arith) (omega arith))
+    let a = c.args in
+    omega (arith, row_end c.loop-i.i a.n a.d (a.n * a.d) (omega arith) (omega arith))
 
-loop-again : tie.Need-loop-preserved invariant-loop decreases-loop
+loop-again : tie.Need-loop-i-preserved invariant-loop decreases-loop
 loop-again c =
-    let l = c.before.before.before.before.before.loop in
-    let a = c.before.before.before.before.before.before.before.args in (
+    let l = c.loop-i in
+    let a = c.args in (
       omega arith,
       omega arith,
-      ap (each (forward_row_of a.d) (l.i + 1) a.n) c.before.before.forward-row.ensures
+      ap (each (forward_row_of a.d) (l.i + 1) a.n) c.forward_row.ensures
           ∙ sym (each_turn _ _ _ _ (omega arith)) ∙ l.invariant.2,
     )
 
 returns : tie.Need-returns invariant-loop decreases-loop
-returns c = sym (each_done _ _ _ _ (omega arith)) ∙ c.before.loop.invariant.2
+returns c = sym (each_done _ _ _ _ (omega arith)) ∙ c.loop-i.invariant.2
 
-pub forward-spec : {M : Type 1} → statement M
-forward-spec =
+pub forward_spec : {M : Type 1} → statement M
+forward_spec =
     tie.close
     (tie.spec
     invariant-loop

@@ -5,13 +5,13 @@ use Rattle.normal.specs.Add.{active}
 use Rattle.normal.proofs.is_active.Statement.{statement}
 use Rattle.normal.proofs.is_active.Tie as tie
 
-returns : tie.Need-returns
+returns : tie.Need-returns-then-control-a
 unfolding active
-returns c = rw (lt-leb _ _ c.if1.true)
+returns c = rw (lt-leb _ _ c.if-control-a.true)
 
-returns-2 : tie.Need-returns-2
+returns-2 : tie.Need-returns
 unfolding active
-returns-2 c = rw (le-leb _ _ c.if1.false)
+returns-2 c = rw (le-leb _ _ c.if-control-a.false)
 
-pub is-active-spec : {M : Type 1} → statement M
-is-active-spec = tie.close (tie.spec returns (λ c. search rules) returns-2)
+pub is_active_spec : {M : Type 1} → statement M
+is_active_spec = tie.close (tie.spec returns (λ c. search rules) returns-2)

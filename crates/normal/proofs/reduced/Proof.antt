@@ -8,26 +8,26 @@ use Rattle.normal.specs.Solve.{reduce_of, reduced_of}
 use Rattle.normal.proofs.reduced.Statement.{statement}
 use Rattle.normal.proofs.reduced.Tie as tie
 
-abbrev invariant-loop : tie.invariant-loop
+abbrev invariant-loop : tie.invariant-loop-k
 invariant-loop h i j v₀ k₀ v k =
     (i - 5 ≤ k) × (k ≤ j) × (each (reduce_of h i j) k j v ≡ reduced_of h i j)
 
-abbrev decreases-loop : tie.decreases-loop
+abbrev decreases-loop : tie.decreases-loop-k
 decreases-loop h i j v₀ k₀ v k = j - k
 
-loop-holds : tie.Need-loop-init invariant-loop decreases-loop
+loop-holds : tie.Need-loop-k-init invariant-loop decreases-loop
 unfolding reduced_of
-loop-holds c = (omega arith, omega arith, rw c.saturating-sub.ensures)
+loop-holds c = (omega arith, omega arith, rw c.saturating_sub-k.ensures)
 
-loop-again : tie.Need-loop-preserved invariant-loop decreases-loop
+loop-again : tie.Need-loop-k-preserved invariant-loop decreases-loop
 unfolding reduce_of
-loop-again c = (omega arith, omega arith, sym (each_turn _ _ _ _ (omega arith)) ∙ c.before.before.before.loop.invariant.2)
+loop-again c = (omega arith, omega arith, sym (each_turn _ _ _ _ (omega arith)) ∙ c.loop-k.invariant.2)
 
 returns : tie.Need-returns invariant-loop decreases-loop
-returns c = sym (each_done _ _ _ _ (omega arith)) ∙ c.before.loop.invariant.2
+returns c = sym (each_done _ _ _ _ (omega arith)) ∙ c.loop-k.invariant.2
 
-pub reduced-spec : {M : Type 1} → statement M
-reduced-spec =
+pub reduced_spec : {M : Type 1} → statement M
+reduced_spec =
     tie.close
     (tie.spec
     invariant-loop

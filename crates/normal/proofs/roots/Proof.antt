@@ -11,22 +11,22 @@ use Rattle.normal.proofs.Region.{read_band, put_scale}
 use Rattle.normal.proofs.roots.Statement.{statement}
 use Rattle.normal.proofs.roots.Tie as tie
 
-abbrev invariant-loop : tie.invariant-loop
+abbrev invariant-loop : tie.invariant-loop-i
 invariant-loop sys₀ n d scales i₀ sys i =
     (i ≤ n) × (length sys ≡ length sys₀) × (each root_of i n (system_of n d sys) ≡ roots_of n (system_of n d sys₀))
 
-abbrev decreases-loop : tie.decreases-loop
+abbrev decreases-loop : tie.decreases-loop-i
 decreases-loop sys₀ n d scales i₀ sys i = n - i
 
-loop-holds : tie.Need-loop-init invariant-loop decreases-loop
+loop-holds : tie.Need-loop-i-init invariant-loop decreases-loop
 unfolding roots_of
 loop-holds c = (omega arith, refl, refl)
 
-loop-again : tie.Need-loop-preserved invariant-loop decreases-loop
+loop-again : tie.Need-loop-i-preserved invariant-loop decreases-loop
 unfolding root_of
 loop-again c =
-    let l = c.before.before.before.loop in
-    let a = c.before.before.before.before.before.args in
+    let l = c.loop-i in
+    let a = c.args in
     let e = put_scale a.n a.d l.sys l.i c.sqrt.result (omega arith) in (
       omega arith,
       simp length-set (omega arith),
@@ -38,10 +38,10 @@ loop-again c =
     )
 
 returns : tie.Need-returns invariant-loop decreases-loop
-returns c = sym (each_done _ _ _ _ (omega arith)) ∙ c.before.loop.invariant.2
+returns c = sym (each_done _ _ _ _ (omega arith)) ∙ c.loop-i.invariant.2
 
-pub roots-spec : {M : Type 1} → statement M
-roots-spec =
+pub roots_spec : {M : Type 1} → statement M
+roots_spec =
     tie.close
     (tie.spec
     invariant-loop

@@ -11,40 +11,40 @@ use Rattle.normal.specs.Solve.{divide_row_of, scale_both_of, scale_of}
 use Rattle.normal.proofs.scale.Statement.{statement}
 use Rattle.normal.proofs.scale.Tie as tie
 
-abbrev invariant-loop : tie.invariant-loop
+abbrev invariant-loop : tie.invariant-loop-i
 invariant-loop sys₀ n d i₀ sys i =
     (i ≤ n) × (length sys ≡ length sys₀) × (each (scale_both_of d) i n (system_of n d sys) ≡ scale_of n d (system_of n d sys₀))
 
-abbrev decreases-loop : tie.decreases-loop
+abbrev decreases-loop : tie.decreases-loop-i
 decreases-loop sys₀ n d i₀ sys i = n - i
 
-loop-holds : tie.Need-loop-init invariant-loop decreases-loop
+loop-holds : tie.Need-loop-i-init invariant-loop decreases-loop
 unfolding scale_of
 loop-holds c = (omega arith, refl, refl)
 
-divide-row-requires : tie.Need-divide-row-requires invariant-loop decreases-loop
+divide-row-requires : tie.Need-divide_row-requires invariant-loop decreases-loop
 divide-row-requires c κs =
-    let a = c.before.before.before.before.before.before.before.before.args in
+    let a = c.args in
     omega (
       arith,
-      row_end c.before.before.before.before.before.before.loop.i a.n a.d (a.n * a.d) (omega arith)
+      row_end c.loop-i.i a.n a.d (a.n * a.d) (omega arith)
           (omega arith),
     )
 
-loop-again : tie.Need-loop-preserved invariant-loop decreases-loop
+loop-again : tie.Need-loop-i-preserved invariant-loop decreases-loop
 unfolding scale_both_of
 loop-again c =
-    let l = c.before.before.before.before.before.before.before.before.before.loop in
-    let a = c.before.before.before.before.before.before.before.before.before.before.before.args in
-    let e = c.before.before.divide-row.ensures ∙ ap (divide_row_of a.d l.i)
-    c.before.before.before.before.before.before.scale-row.ensures in
+    let l = c.loop-i in
+    let a = c.args in
+    let e = c.divide_row.ensures ∙ ap (divide_row_of a.d l.i)
+    c.scale_row.ensures in
     (omega arith, omega arith, ap (each (scale_both_of a.d) (l.i + 1) a.n) e ∙ sym (each_turn _ _ _ _ (omega arith)) ∙ l.invariant.2)
 
 returns : tie.Need-returns invariant-loop decreases-loop
-returns c = sym (each_done _ _ _ _ (omega arith)) ∙ c.before.loop.invariant.2
+returns c = sym (each_done _ _ _ _ (omega arith)) ∙ c.loop-i.invariant.2
 
-pub scale-spec : {M : Type 1} → statement M
-scale-spec =
+pub scale_spec : {M : Type 1} → statement M
+scale_spec =
     tie.close
     (tie.spec
     invariant-loop

@@ -12,22 +12,22 @@ use Rattle.normal.proofs.Region.{read_band, read_scale, put_band}
 use Rattle.normal.proofs.scale_row.Statement.{statement}
 use Rattle.normal.proofs.scale_row.Tie as tie
 
-abbrev invariant-loop : tie.invariant-loop
+abbrev invariant-loop : tie.invariant-loop-k
 invariant-loop sys₀ n d i scales end k₀ sys k =
     (k ≤ end) × (length sys ≡ length sys₀) × (each (scale_cell_of i) k end (system_of n d sys) ≡ scale_row_of i (system_of n d sys₀))
 
-abbrev decreases-loop : tie.decreases-loop
+abbrev decreases-loop : tie.decreases-loop-k
 decreases-loop sys₀ n d i scales end k₀ sys k = end - k
 
-loop-holds : tie.Need-loop-init invariant-loop decreases-loop
+loop-holds : tie.Need-loop-k-init invariant-loop decreases-loop
 unfolding scale_row_of
-loop-holds c = (omega arith, refl, rw c.row-length.ensures)
+loop-holds c = (omega arith, refl, rw c.row_length-end.ensures)
 
-loop-again : tie.Need-loop-preserved invariant-loop decreases-loop
+loop-again : tie.Need-loop-k-preserved invariant-loop decreases-loop
 unfolding scale_cell_of
 loop-again c =
-    let l = c.before.before.before.before.loop in
-    let a = c.before.before.before.before.before.before.before.args in
+    let l = c.loop-k in
+    let a = c.args in
     let e = put_band a.n a.d l.sys (6 * a.i + l.k) _ (omega arith) in (
       omega arith,
       simp length-set (omega arith),
@@ -40,10 +40,10 @@ loop-again c =
     )
 
 returns : tie.Need-returns invariant-loop decreases-loop
-returns c = sym (each_done _ _ _ _ (omega arith)) ∙ c.before.loop.invariant.2
+returns c = sym (each_done _ _ _ _ (omega arith)) ∙ c.loop-k.invariant.2
 
-pub scale-row-spec : {M : Type 1} → statement M
-scale-row-spec =
+pub scale_row_spec : {M : Type 1} → statement M
+scale_row_spec =
     tie.close
     (tie.spec
     invariant-loop

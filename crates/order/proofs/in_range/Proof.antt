@@ -15,52 +15,52 @@ use Rattle.order.proofs.in_range.Tie as tie
 abbrev fitting : Pairs → ℕ → ℕ → Bool
 fitting pairs lanes i = ltb (before_of pairs i) lanes && ltb (after_of pairs i) lanes
 
-abbrev invariant-loop : tie.invariant-loop
+abbrev invariant-loop : tie.invariant-loop-i
 invariant-loop pairs lanes i₀ i = (i ≤ length pairs) × (first_of i (λ j. not (fitting pairs lanes j)) ≡ i)
 
-abbrev decreases-loop : tie.decreases-loop
+abbrev decreases-loop : tie.decreases-loop-i
 decreases-loop pairs lanes i₀ i = length pairs - i
 
-loop-holds : tie.Need-loop-init invariant-loop decreases-loop
+loop-holds : tie.Need-loop-i-init invariant-loop decreases-loop
 unfolding first_of
 loop-holds c = (omega arith, refl)
 
-returns : tie.Need-returns invariant-loop decreases-loop
+returns : tie.Need-returns-then-lanes-pairs invariant-loop decreases-loop
 returns c =
     let l = c.before.before.before in
     let p = l.before.args.pairs.now in
-    sym (every_not (fitting p l.before.args.lanes) (length p) l.loop.i c.before.before.loop-test.true l.loop.invariant.1
-    (rw (le-ltb (before_of p l.loop.i) l.before.args.lanes c.if1.true)))
+    sym (every_not (fitting p l.before.args.lanes) (length p) l.loop-i.i c.before.before.loop-i-test.true l.loop-i.invariant.1
+    (rw (le-ltb (before_of p l.loop-i.i) l.before.args.lanes c.if-lanes-pairs.true)))
 
-returns-2 : tie.Need-returns-2 invariant-loop decreases-loop
+returns-2 : tie.Need-returns-then-lanes-pairs-2 invariant-loop decreases-loop
 returns-2 c =
     let l = c.before.before.before.before.before in
     let p = l.before.args.pairs.now in
-    sym (every_not (fitting p l.before.args.lanes) (length p) l.loop.i c.before.before.before.before.loop-test.true
-    l.loop.invariant.1
-    (rw (le-ltb (after_of p l.loop.i) l.before.args.lanes c.if2.true)
-    (and-false (ltb (before_of p l.loop.i) l.before.args.lanes))))
+    sym (every_not (fitting p l.before.args.lanes) (length p) l.loop-i.i c.before.before.before.before.loop-i-test.true
+    l.loop-i.invariant.1
+    (rw (le-ltb (after_of p l.loop-i.i) l.before.args.lanes c.if-lanes-pairs-2.true)
+    (and-false (ltb (before_of p l.loop-i.i) l.before.args.lanes))))
 
-loop-again : tie.Need-loop-preserved invariant-loop decreases-loop
+loop-again : tie.Need-loop-i-preserved invariant-loop decreases-loop
 loop-again c =
     let l = c.before.before.before.before.before in
     let p = l.before.args.pairs.now in (
       omega arith,
-      first_next (λ j. not (fitting p l.before.args.lanes j)) l.loop.i l.loop.invariant.1 (rw (
-        lt-ltb (before_of p l.loop.i) l.before.args.lanes c.before.before.if1.false,
-        lt-ltb (after_of p l.loop.i) l.before.args.lanes c.if2.false,
+      first_next (λ j. not (fitting p l.before.args.lanes j)) l.loop-i.i l.loop-i.invariant.1 (rw (
+        lt-ltb (before_of p l.loop-i.i) l.before.args.lanes c.before.before.if-lanes-pairs.false,
+        lt-ltb (after_of p l.loop-i.i) l.before.args.lanes c.if-lanes-pairs-2.false,
       )),
     )
 
-returns-3 : tie.Need-returns-3 invariant-loop decreases-loop
+returns-3 : tie.Need-returns invariant-loop decreases-loop
 returns-3 c =
     let l = c.before in
     let p = l.before.args.pairs.now in
-    let e : l.loop.i ≡ length p = omega arith in
-    sym (every_all (fitting p l.before.args.lanes) (length p) (rw e at l.loop.invariant.1))
+    let e : l.loop-i.i ≡ length p = omega arith in
+    sym (every_all (fitting p l.before.args.lanes) (length p) (rw e at l.loop-i.invariant.1))
 
-pub in-range-spec : {M : Type 1} → statement M
-in-range-spec =
+pub in_range_spec : {M : Type 1} → statement M
+in_range_spec =
     tie.close
     (tie.spec
     invariant-loop

@@ -11,21 +11,21 @@ use Rattle.window.proofs.Filling.{fill_more}
 use Rattle.window.proofs.clear.Statement.{statement}
 use Rattle.window.proofs.clear.Tie as tie
 
-abbrev invariant-loop : tie.invariant-loop
+abbrev invariant-loop : tie.invariant-loop-i
 invariant-loop s₀ i₀ s i = (i ≤ length s₀) × ((s ≡ zeros i ++ drop i s₀) × (length s ≡ length s₀))
 
-abbrev decreases-loop : tie.decreases-loop
+abbrev decreases-loop : tie.decreases-loop-i
 decreases-loop s₀ i₀ s i = length s₀ - i
 
-loop-again : tie.Need-loop-preserved invariant-loop decreases-loop
+loop-again : tie.Need-loop-i-preserved invariant-loop decreases-loop
 loop-again c =
-    let l = c.before.loop in
+    let l = c.before.loop-i in
     let s₀ = c.before.before.args.s.now in
     (omega arith, (rw l.invariant.1.0 (fill_more +0 s₀ l.i (omega arith)), simp length-set (search rules)))
 
 returns : tie.Need-returns invariant-loop decreases-loop
 returns c =
-    let l = c.before.loop in
+    let l = c.before.loop-i in
     let s₀ = c.before.before.args.s.now in
     let e : l.i ≡ length s₀ = omega arith in
     l.invariant.1.0 ∙ rw (e, drop-length) (append-nil _)

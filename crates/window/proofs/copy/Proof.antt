@@ -12,17 +12,17 @@ use Rattle.window.proofs.Filling.{copy_more}
 use Rattle.window.proofs.copy.Statement.{statement}
 use Rattle.window.proofs.copy.Tie as tie
 
-abbrev invariant-loop : tie.invariant-loop
+abbrev invariant-loop : tie.invariant-loop-i
 invariant-loop dst₀ src i₀ dst i = (i ≤ min (length src) (length dst₀)) × ((dst ≡ take i src ++ drop i dst₀) × (length dst ≡ length dst₀))
 
-abbrev decreases-loop : tie.decreases-loop
+abbrev decreases-loop : tie.decreases-loop-i
 decreases-loop dst₀ src i₀ dst i = length dst₀ - i
 
-loop-again : tie.Need-loop-preserved invariant-loop decreases-loop
+loop-again : tie.Need-loop-i-preserved invariant-loop decreases-loop
 loop-again c =
-    let l = c.before.before.before.loop in
+    let l = c.before.before.before.loop-i in
     let a = c.before.before.before.before.args in
-    let h : l.i < length a.src.now = ltb-true _ _ c.before.if1.true in
+    let h : l.i < length a.src.now = ltb-true _ _ c.before.if-i-src.true-raw in
     (omega arith, (rw l.invariant.1.0 (copy_more a.src.now a.dst.now l.i _ h (omega arith)), simp length-set (search rules)))
 
 -- the loop ends where the shorter of the two ends
@@ -30,16 +30,16 @@ copied_at : (src dst : List Float) (i : ℕ) {l : List Float} → i ≡ min (len
     ≡ copied src dst
 copied_at src dst i e h = rw e at h
 
-returns : tie.Need-returns invariant-loop decreases-loop
+returns : tie.Need-returns-else-i-src invariant-loop decreases-loop
 returns c =
     let a = c.before.before.before.args in
-    let h : length a.src.now ≤ c.before.before.loop.i = ltb-false _ _ c.if1.false in
-    copied_at a.src.now a.dst.now c.before.before.loop.i (omega arith) c.before.before.loop.invariant.1.0
+    let h : length a.src.now ≤ c.before.before.loop-i.i = ltb-false _ _ c.if-i-src.false-raw in
+    copied_at a.src.now a.dst.now c.before.before.loop-i.i (omega arith) c.before.before.loop-i.invariant.1.0
 
-returns-2 : tie.Need-returns-2 invariant-loop decreases-loop
+returns-2 : tie.Need-returns-after-loop-i invariant-loop decreases-loop
 returns-2 c =
     let a = c.before.before.args in
-    copied_at a.src.now a.dst.now c.before.loop.i (omega arith) c.before.loop.invariant.1.0
+    copied_at a.src.now a.dst.now c.before.loop-i.i (omega arith) c.before.loop-i.invariant.1.0
 
 pub copy_spec : {M : Type 1} → statement M
 copy_spec =

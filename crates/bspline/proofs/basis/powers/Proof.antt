@@ -9,30 +9,30 @@ use Rattle.bspline.specs.Powers.{degree_turn, powers_of}
 use Rattle.bspline.proofs.basis.powers.Statement.{statement}
 use Rattle.bspline.proofs.basis.powers.Tie as tie
 
-abbrev invariant-loop : tie.invariant-loop
+abbrev invariant-loop : tie.invariant-loop-j
 invariant-loop t span x b₀ j₀ b j =
     (1 ≤ j) × (j ≤ 6) × (each (degree_turn floats t span x) j 6 b ≡ powers_of floats t span x)
 
-abbrev decreases-loop : tie.decreases-loop
+abbrev decreases-loop : tie.decreases-loop-j
 decreases-loop t span x b₀ j₀ b j = 6 - j
 
-loop-holds : tie.Need-loop-init invariant-loop decreases-loop
+loop-holds : tie.Need-loop-j-init invariant-loop decreases-loop
 unfolding powers_of
 loop-holds c = (omega arith, omega arith, refl)
 
-loop-again : tie.Need-loop-preserved invariant-loop decreases-loop
+loop-again : tie.Need-loop-j-preserved invariant-loop decreases-loop
 loop-again c = (
   omega arith,
   omega arith,
-  rw c.raise-rows.ensures (sym (each_turn _ _ _ _ (omega arith))
-      ∙ c.before.before.before.loop.invariant.2),
+  rw c.raise_rows.ensures (sym (each_turn _ _ _ _ (omega arith))
+      ∙ c.loop-j.invariant.2),
 )
 
 returns : tie.Need-returns invariant-loop decreases-loop
-returns c = sym (each_done _ _ _ _ (omega arith)) ∙ c.before.loop.invariant.2
+returns c = sym (each_done _ _ _ _ (omega arith)) ∙ c.loop-j.invariant.2
 
-pub powers-spec : {M : Type 1} → statement M
-powers-spec =
+pub powers_spec : {M : Type 1} → statement M
+powers_spec =
     tie.close
     (tie.spec
     invariant-loop

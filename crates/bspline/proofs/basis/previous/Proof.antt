@@ -5,14 +5,14 @@ use Rattle.bspline.specs.Powers.{previous_of}
 use Rattle.bspline.proofs.basis.previous.Statement.{statement}
 use Rattle.bspline.proofs.basis.previous.Tie as tie
 
-returns : tie.Need-returns
+returns : tie.Need-returns-then-k-gt0
 unfolding previous_of
-returns c = rw (lt-ltb _ _ c.before.if1.true)
+returns c = rw (lt-ltb _ _ c.if-k-gt0.true)
 
-returns-2 : tie.Need-returns-2
+returns-2 : tie.Need-returns-else-k-gt0
 unfolding previous_of
-returns-2 c = rw (le-ltb _ _ c.if1.false)
+returns-2 c = rw (le-ltb _ _ c.if-k-gt0.false)
 
-pub previous-spec : {M : Type 1} → statement M
-previous-spec =
+pub previous_spec : {M : Type 1} → statement M
+previous_spec =
     tie.close (tie.spec (λ c. search rules) (λ c. search rules) (λ c. search rules) (λ c. search rules) returns returns-2)

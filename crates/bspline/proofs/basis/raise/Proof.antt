@@ -11,29 +11,29 @@ use Rattle.bspline.specs.Values.{inner_turn, inner_loop, Inner}
 use Rattle.bspline.proofs.basis.raise.Statement.{statement}
 use Rattle.bspline.proofs.basis.raise.Tie as tie
 
-abbrev invariant-loop : tie.invariant-loop
+abbrev invariant-loop : tie.invariant-loop-r
 invariant-loop j left right b₀ saved₀ r₀ b saved r =
     (r ≤ j) × (each (inner_turn floats left right j) r j (record { row = b; saved = saved })
     ≡ each (inner_turn floats left right j) 0 j (record { row = b₀; saved = saved₀ }))
 
-abbrev decreases-loop : tie.decreases-loop
+abbrev decreases-loop : tie.decreases-loop-r
 decreases-loop j left right b₀ saved₀ r₀ b saved r = j - r
 
-loop-holds : tie.Need-loop-init invariant-loop decreases-loop
+loop-holds : tie.Need-loop-r-init invariant-loop decreases-loop
 loop-holds c = (omega arith, refl)
 
-loop-again : tie.Need-loop-preserved invariant-loop decreases-loop
+loop-again : tie.Need-loop-r-preserved invariant-loop decreases-loop
 unfolding inner_turn
-loop-again c = (omega arith, sym (each_turn _ _ _ _ c.loop-test.true) ∙ c.before.loop.invariant.1)
+loop-again c = (omega arith, sym (each_turn _ _ _ _ c.loop-r-test.true) ∙ c.loop-r.invariant.1)
 
 returns : tie.Need-returns invariant-loop decreases-loop
 unfolding inner_loop
 returns c =
-    let e = sym (each_done _ _ _ _ c.loop-test.false) ∙ c.before.loop.invariant.1 in
-    ap (λ (k : Inner Float). set k.row c.before.before.args.j k.saved) e
+    let e = sym (each_done _ _ _ _ c.loop-r-test.false) ∙ c.loop-r.invariant.1 in
+    ap (λ (k : Inner Float). set k.row c.args.j k.saved) e
 
-pub raise-spec : {M : Type 1} → statement M
-raise-spec =
+pub raise_spec : {M : Type 1} → statement M
+raise_spec =
     tie.close
     (tie.spec
     invariant-loop

@@ -5,42 +5,42 @@ use Rattle.bspline.proofs.InsertPlaced.{span_within, weights_room, controls_room
 use Rattle.bspline.proofs.insertion.insert.Statement.{statement}
 use Rattle.bspline.proofs.insertion.insert.Tie as tie
 
-insert-weights-requires : tie.Need-insert-weights-requires
+insert-weights-requires : tie.Need-insert_weights-w-requires
 insert-weights-requires c κs =
-    let a = c.before.before.before.before.before.before.args in
-    let s = c.before.before.span in
+    let a = c.args in
+    let s = c.span-k in
     let k : (5 ≤ s.result) × (s.result < a.s.count) = rw s.ensures (span_within _ _ _ (omega arith)) in
     weights_room a.s.knots a.s.count s.result a.work.now k.0 k.1 (omega arith)
 
-insert-controls-requires : tie.Need-insert-controls-requires
+insert-controls-requires : tie.Need-insert_controls-requires
 insert-controls-requires c κs =
-    let a = c.before.before.before.before.before.before.before.before.args in
-    let s = c.before.before.before.before.span in
+    let a = c.args in
+    let s = c.span-k in
     let k : (5 ≤ s.result) × (s.result < a.s.count) = rw s.ensures (span_within _ _ _ (omega arith)) in
     controls_room a.s.controls a.s.count a.s.axes s.result a.work.now k.0 k.1 (omega arith)
 
-insert-knot-requires : tie.Need-insert-knot-requires
+insert-knot-requires : tie.Need-insert_knot-requires
 insert-knot-requires c κs =
-    let a = c.before.before.before.before.before.before.before.before.before.before.before.before.args in
-    let s = c.before.before.before.before.before.before.before.before.span in
+    let a = c.args in
+    let s = c.span-k in
     let k : (5 ≤ s.result) × (s.result < a.s.count) = rw s.ensures (span_within _ _ _ (omega arith)) in
     knots_room a.s.knots a.s.count s.result _ k.1 (omega arith)
 
 returns : tie.Need-returns
 returns c =
-    let a = c.before.before.before.before.before.before.before.before.before.before.before.before.before.before.before.args in
-    let s = c.before.before.before.before.before.before.before.before.before.before.before.span in
-    let w = c.before.before.before.before.before.before.before.before.insert-weights in
+    let a = c.args in
+    let s = c.span-k in
+    let w = c.insert_weights-w in
     rw (
-      c.before.before.insert-knot.ensures,
-      c.before.before.before.before.before.before.insert-controls.ensures,
+      c.insert_knot.ensures,
+      c.insert_controls.ensures,
       w.ensures,
       s.ensures,
     )
     (inserted_is a.s a.x a.work.now (omega arith) (omega arith) (omega arith))
 
-pub insert-spec : {M : Type 1} → statement M
-insert-spec =
+pub insert_spec : {M : Type 1} → statement M
+insert_spec =
     tie.close
     (tie.spec
     (λ c. omega arith)

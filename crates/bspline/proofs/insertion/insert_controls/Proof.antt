@@ -14,51 +14,51 @@ use Rattle.bspline.proofs.Inserted.{Mixing, mixing_start, mixing_next, mixing_do
 use Rattle.bspline.proofs.insertion.insert_controls.Statement.{statement}
 use Rattle.bspline.proofs.insertion.insert_controls.Tie as tie
 
-abbrev invariant-loop : tie.invariant-loop
+abbrev invariant-loop : tie.invariant-loop-i
 invariant-loop c₀ d m k w low i₀ c i =
     (low ≡ k - 4) × (low ≤ i) × (i ≤ k + 1) × (length c ≡ length c₀)
     × ((old : List Float) → (m + 1) * d ≤ length old → c₀ ≡ splice (k * d + d) (m * d + d) (window (k * d) (m * d) old) old
     → Mixing floats (weight_at floats w.alpha k) d m k old i c)
 
-abbrev decreases-loop : tie.decreases-loop
+abbrev decreases-loop : tie.decreases-loop-i
 decreases-loop c₀ d m k w low i₀ c i = i
 
-mul-shift : tie.Need-overflow-mul-shift invariant-loop decreases-loop
+mul-shift : tie.Need-overflow_mul-k invariant-loop decreases-loop
 mul-shift c =
-    let a = c.before.before.args in
+    let a = c.args in
     omega (arith, rows_le a.k (a.m + 1) a.d (length a.c.now) (omega arith) (omega arith))
 
-mul-shift-2 : tie.Need-overflow-mul-shift-2 invariant-loop decreases-loop
+mul-shift-2 : tie.Need-overflow_mul-m invariant-loop decreases-loop
 mul-shift-2 c =
-    let a = c.before.before.args in
+    let a = c.args in
     omega (arith, rows_le a.m (a.m + 1) a.d (length a.c.now) (omega arith) (omega arith))
 
 shift-requires : tie.Need-shift-requires invariant-loop decreases-loop
 shift-requires c κs =
-    let a = c.before.before.args in
+    let a = c.args in
     omega (arith, rows_le a.k a.m a.d (a.m * a.d) (omega arith) (omega arith))
 
-loop-holds : tie.Need-loop-init invariant-loop decreases-loop
+loop-holds : tie.Need-loop-i-init invariant-loop decreases-loop
 loop-holds c =
-    let a = c.before.before.before.before.before.args in (
+    let a = c.args in (
       refl,
       omega arith,
       omega arith,
       refl,
-      λ old room e. rw e (mixing_start floats (weight_at floats a.t2.alpha a.k) a.d a.m a.k old (omega arith) (omega arith)
+      λ old room e. rw e (mixing_start floats (weight_at floats a.w.alpha a.k) a.d a.m a.k old (omega arith) (omega arith)
           room),
     )
 
-mul-mix-row : tie.Need-overflow-mul-mix-row invariant-loop decreases-loop
+mul-mix-row : tie.Need-overflow_mul-i invariant-loop decreases-loop
 mul-mix-row c =
-    let l = c.before.before.before.loop in
-    let a = c.before.before.before.before.before.before.before.before.before.args in
+    let l = c.loop-i in
+    let a = c.args in
     omega (arith, row_end (l.i - 1) (a.m + 1) a.d (length a.c.now) (omega arith) (omega arith))
 
-mix-row-requires : tie.Need-mix-row-requires invariant-loop decreases-loop
+mix-row-requires : tie.Need-mix_row-requires invariant-loop decreases-loop
 mix-row-requires c κs =
-    let l = c.before.before.before.loop in
-    let a = c.before.before.before.before.before.before.before.before.before.args in
+    let l = c.loop-i in
+    let a = c.args in
     omega (
       arith,
       row_end (l.i - 1) (a.m + 1) a.d (length a.c.now) (omega arith) (omega arith),
@@ -66,33 +66,33 @@ mix-row-requires c κs =
           (omega arith),
     )
 
-loop-again : tie.Need-loop-preserved invariant-loop decreases-loop
+loop-again : tie.Need-loop-i-preserved invariant-loop decreases-loop
 loop-again c =
-    let l = c.before.before.before.before.before.before.loop in
-    let a = c.before.before.before.before.before.before.before.before.before.before.before.before.args in
+    let l = c.loop-i in
+    let a = c.args in
     let q : l.i - 1 + 1 ≡ l.i = omega arith in
-    let alpha = weight_at floats a.t2.alpha a.k in (
+    let alpha = weight_at floats a.w.alpha a.k in (
       l.invariant.0,
       omega arith,
       omega arith,
       omega arith,
-      λ old room e. rw c.before.before.mix-row.ensures
+      λ old room e. rw c.mix_row.ensures
           (mixing_next floats alpha a.d a.m a.k old (omega arith) (omega arith) room (l.i - 1) l.c _ (omega arith)
           (omega arith) (rw l.invariant.0) (rw q (l.invariant.4 old room e))),
     )
 
 returns : tie.Need-returns invariant-loop decreases-loop
 returns c =
-    let l = c.before.loop in
-    let a = c.before.before.before.before.before.before.before.args in
-    let alpha = weight_at floats a.t2.alpha a.k in
+    let l = c.loop-i in
+    let a = c.args in
+    let alpha = weight_at floats a.w.alpha a.k in
     let room : (a.m + 1) * a.d ≤ length a.c.now = omega arith in
     let e : l.i ≡ a.k - 4 = omega arith in
     mixing_done floats alpha a.d a.m a.k a.c.now (omega arith) (omega arith) room l.c
-    (rw e at (l.invariant.4 a.c.now room c.before.before.before.before.shift.ensures))
+    (rw e at (l.invariant.4 a.c.now room c.shift.ensures))
 
-pub insert-controls-spec : {M : Type 1} → statement M
-insert-controls-spec =
+pub insert_controls_spec : {M : Type 1} → statement M
+insert_controls_spec =
     tie.close
     (tie.spec
     invariant-loop

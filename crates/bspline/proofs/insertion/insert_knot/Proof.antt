@@ -32,10 +32,10 @@ knot-put t x n k h g =
 
 returns : tie.Need-returns
 returns c =
-    let a = c.before.before.before.before.before.args in
-    rw c.before.before.shift.ensures (knot-put a.t.now a.x a.n a.k (omega arith) (omega arith))
+    let a = c.args in
+    rw c.shift.ensures (knot-put a.t.now a.x a.n a.k (omega arith) (omega arith))
 
-pub insert-knot-spec : {M : Type 1} → statement M
-insert-knot-spec =
+pub insert_knot_spec : {M : Type 1} → statement M
+insert_knot_spec =
     tie.close (tie.spec (λ c. search rules) (λ c κs. search rules) (λ c. search rules) (λ c. search rules) (λ c. search rules)
     (λ c. search rules) returns)

@@ -17,21 +17,21 @@ use Rattle.bspline.proofs.insertion.insert_weights.Tie as tie
 abbrev alphas : List Float → Float → ℕ → ℕ → Float
 alphas t x k i = alpha_of floats t x (k - 4 + i)
 
-abbrev invariant-loop : tie.invariant-loop
+abbrev invariant-loop : tie.invariant-loop-r
 invariant-loop t k x alpha₀ r₀ alpha r =
     (r ≤ 5) × (length alpha₀ ≡ 5) × (alpha ≡ written 0 (list_of r (alphas t x k)) alpha₀)
 
-abbrev decreases-loop : tie.decreases-loop
+abbrev decreases-loop : tie.decreases-loop-r
 decreases-loop t k x alpha₀ r₀ alpha r = 5 - r
 
-loop-holds : tie.Need-loop-init invariant-loop decreases-loop
+loop-holds : tie.Need-loop-r-init invariant-loop decreases-loop
 unfolding join
 loop-holds c = (omega arith, refl, refl)
 
-loop-again : tie.Need-loop-preserved invariant-loop decreases-loop
+loop-again : tie.Need-loop-r-preserved invariant-loop decreases-loop
 loop-again c =
-    let l = c.before.before.loop in
-    let a = c.before.before.before.before.args in
+    let l = c.loop-r in
+    let a = c.args in
     let q : 0 + l.r ≡ l.r = omega arith in (
       omega arith,
       refl,
@@ -41,14 +41,14 @@ loop-again c =
 
 returns : tie.Need-returns invariant-loop decreases-loop
 returns c =
-    let l = c.before.loop in
+    let l = c.loop-r in
     let e : l.r ≡ 5 = omega arith in
-    let a = c.before.before.before.args in
+    let a = c.args in
     let f = alphas a.t.now a.x a.k in
     rw (l.invariant.2, e) (written_all (list_of 5 f) (zeros 5) (list_length 5 f))
 
-pub insert-weights-spec : {M : Type 1} → statement M
-insert-weights-spec =
+pub insert_weights_spec : {M : Type 1} → statement M
+insert_weights_spec =
     tie.close
     (tie.spec
     invariant-loop

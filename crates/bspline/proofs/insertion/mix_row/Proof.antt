@@ -28,21 +28,21 @@ mix_next c₀ c d at a j h g l e =
     let z = splice_after at (at + length v) v c₀ nan (omega arith) (at + j) (omega arith) (omega arith) (omega arith) in
     rw e (fill_next at (axis c₀ d at a) j c₀ _ (omega arith) (rw (y, z)))
 
-abbrev invariant-loop : tie.invariant-loop
+abbrev invariant-loop : tie.invariant-loop-j
 invariant-loop c₀ d at a j₀ c j =
     (j ≤ d) × (length c ≡ length c₀) × (c ≡ written at (list_of j (axis c₀ d at a)) c₀)
 
-abbrev decreases-loop : tie.decreases-loop
+abbrev decreases-loop : tie.decreases-loop-j
 decreases-loop c₀ d at a j₀ c j = d - j
 
-loop-holds : tie.Need-loop-init invariant-loop decreases-loop
+loop-holds : tie.Need-loop-j-init invariant-loop decreases-loop
 unfolding join
 loop-holds c = (omega arith, refl, sym (written_none c.args.at c.args.c.now))
 
-loop-again : tie.Need-loop-preserved invariant-loop decreases-loop
+loop-again : tie.Need-loop-j-preserved invariant-loop decreases-loop
 loop-again c =
-    let l = c.before.before.before.loop in
-    let a = c.before.before.before.before.args in (
+    let l = c.loop-j in
+    let a = c.args in (
       omega arith,
       simp length-set (omega arith),
       mix_next a.c.now l.c a.d a.at a.a l.j (omega arith) (omega arith)
@@ -51,14 +51,14 @@ loop-again c =
 
 returns : tie.Need-returns invariant-loop decreases-loop
 returns c =
-    let a = c.before.before.args in
-    let l = c.before.loop in
+    let a = c.args in
+    let l = c.loop-j in
     let e : l.j ≡ a.d = omega arith in
     let k = list_length a.d (axis a.c.now a.d a.at a.a) in
     rw (l.invariant.2, e, k)
 
-pub mix-row-spec : {M : Type 1} → statement M
-mix-row-spec =
+pub mix_row_spec : {M : Type 1} → statement M
+mix_row_spec =
     tie.close
     (tie.spec
     invariant-loop

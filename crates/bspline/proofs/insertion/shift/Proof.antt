@@ -8,20 +8,20 @@ use Rattle.window.proofs.Written.{moved, moved_none, moved_read, moved_next, mov
 use Rattle.bspline.proofs.insertion.shift.Statement.{statement}
 use Rattle.bspline.proofs.insertion.shift.Tie as tie
 
-abbrev invariant-loop : tie.invariant-loop
+abbrev invariant-loop : tie.invariant-loop-i
 invariant-loop s₀ from n by i₀ s i =
     (i ≤ n) × (from ≤ i) × (length s ≡ length s₀) × (s ≡ moved s₀ n by i)
 
-abbrev decreases-loop : tie.decreases-loop
+abbrev decreases-loop : tie.decreases-loop-i
 decreases-loop s₀ from n by i₀ s i = i
 
-loop-holds : tie.Need-loop-init invariant-loop decreases-loop
+loop-holds : tie.Need-loop-i-init invariant-loop decreases-loop
 loop-holds c = (omega arith, omega arith, refl, moved_none c.args.s.now c.args.n c.args.by)
 
-loop-again : tie.Need-loop-preserved invariant-loop decreases-loop
+loop-again : tie.Need-loop-i-preserved invariant-loop decreases-loop
 loop-again c =
-    let l = c.before.before.loop in
-    let a = c.before.before.before.args in
+    let l = c.loop-i in
+    let a = c.args in
     let e : l.i - 1 + 1 ≡ l.i = omega arith in
     let g : l.s ≡ moved a.s.now a.n a.by (l.i - 1 + 1) = rw e l.invariant.3 in (
       omega arith,
@@ -33,12 +33,12 @@ loop-again c =
 
 returns : tie.Need-returns invariant-loop decreases-loop
 returns c =
-    let a = c.before.before.args in
-    let e : c.before.loop.i ≡ a.from = omega arith in
-    c.before.loop.invariant.3 ∙ rw e (moved_all a.s.now a.n a.by a.from (omega arith))
+    let a = c.args in
+    let e : c.loop-i.i ≡ a.from = omega arith in
+    c.loop-i.invariant.3 ∙ rw e (moved_all a.s.now a.n a.by a.from (omega arith))
 
-pub shift-spec : {M : Type 1} → statement M
-shift-spec =
+pub shift_spec : {M : Type 1} → statement M
+shift_spec =
     tie.close
     (tie.spec
     invariant-loop

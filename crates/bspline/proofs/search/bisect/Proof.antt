@@ -14,44 +14,44 @@ use Rattle.bspline.proofs.PartitionPoint.{pick_le}
 use Rattle.bspline.proofs.search.bisect.Statement.{statement}
 use Rattle.bspline.proofs.search.bisect.Tie as tie
 
-abbrev invariant-loop : tie.invariant-loop
+abbrev invariant-loop : tie.invariant-loop-size
 invariant-loop list x side base₀ size₀ base size =
     (1 ≤ size) × (base + size ≤ length list) × ((n : ℕ) × (size ≤ n) × (whilst several (halve nan (passes side x) list) n
     (record { base = base; size = size }) ≡ whilst several (halve nan (passes side x) list) (length list)
     (record { base = 0; size = length list })))
 
-abbrev decreases-loop : tie.decreases-loop
+abbrev decreases-loop : tie.decreases-loop-size
 decreases-loop list x side base₀ size₀ base size = size
 
-returns : tie.Need-returns invariant-loop decreases-loop
+returns : tie.Need-returns-then-list-eq0 invariant-loop decreases-loop
 unfolding partition_point
-returns c = let e : length c.before.before.args.list.now ≡ 0 = omega arith in rw e
+returns c = let e : length c.args.list.now ≡ 0 = omega arith in rw e
 
-loop-holds : tie.Need-loop-init invariant-loop decreases-loop
-loop-holds c = (omega arith, omega arith, (length c.before.before.args.list.now, omega arith, refl))
+loop-holds : tie.Need-loop-size-init invariant-loop decreases-loop
+loop-holds c = (omega arith, omega arith, (length c.args.list.now, omega arith, refl))
 
-loop-again : tie.Need-loop-preserved invariant-loop decreases-loop
+loop-again : tie.Need-loop-size-preserved invariant-loop decreases-loop
 unfolding halve
 loop-again c =
-    let l = c.before.before.loop in
-    let go = c.before.loop-test.true in
+    let l = c.loop-size in
+    let go = c.loop-size-test.true in
     let w = l.invariant.2 in
-    let h : c.pick.result ≤ l.base + l.size / 2 = rw c.pick.ensures (pick_le _ _ _ _ (omega arith) (omega arith)) in (
+    let h : c.pick-base.result ≤ l.base + l.size / 2 = rw c.pick-base.ensures (pick_le _ _ _ _ (omega arith) (omega arith)) in (
       omega arith,
       omega arith,
-      (w.0 - 1, omega arith, rw c.pick.ensures (sym (whilst_turn _ _ _ _ (omega arith) (lt-ltb _ _ go)) ∙ w.2)),
+      (w.0 - 1, omega arith, rw c.pick-base.ensures (sym (whilst_turn _ _ _ _ (omega arith) (lt-ltb _ _ go)) ∙ w.2)),
     )
 
-returns-2 : tie.Need-returns-2 invariant-loop decreases-loop
+returns-2 : tie.Need-returns invariant-loop decreases-loop
 unfolding partition_point
 returns-2 c =
-    let w = c.before.before.loop.invariant.2 in
-    let e = sym (whilst_done _ _ _ _ (le-ltb _ _ c.before.loop-test.false)) ∙ w.2 in
-    let h : 0 < length c.before.before.before.before.before.args.list.now = omega arith in
-    rw (← e, lt-ltb 0 _ h) c.pick2.ensures
+    let w = c.loop-size.invariant.2 in
+    let e = sym (whilst_done _ _ _ _ (le-ltb _ _ c.loop-size-test.false)) ∙ w.2 in
+    let h : 0 < length c.args.list.now = omega arith in
+    rw (← e, lt-ltb 0 _ h) c.pick.ensures
 
-pub bisect-spec : {M : Type 1} → statement M
-bisect-spec =
+pub bisect_spec : {M : Type 1} → statement M
+bisect_spec =
     tie.close
     (tie.spec
     invariant-loop

@@ -47,45 +47,45 @@ with_length rows h c at d to i w₀ l room e =
     let n = join_length i 6 (segments rows c h at d) (λ j g. segment_length floats rows h c (at + j) d) in
     (ap length e ∙ written_length to (join i (segments rows c h at d)) w₀ (omega arith), e)
 
-abbrev invariant-loop : tie.invariant-loop
+abbrev invariant-loop : tie.invariant-loop-i
 invariant-loop work₀ c e at d rows h to i₀ work i =
     (i ≤ d) × ((length work ≡ length work₀) × (work ≡ written to (join i (segments rows.rows (window c e work₀) h at d)) work₀))
 
-abbrev decreases-loop : tie.decreases-loop
+abbrev decreases-loop : tie.decreases-loop-i
 decreases-loop work₀ c e at d rows h to i₀ work i = d - i
 
-loop-holds : tie.Need-loop-init invariant-loop decreases-loop
+loop-holds : tie.Need-loop-i-init invariant-loop decreases-loop
 unfolding join
 loop-holds c =
-    (omega arith, (refl, sym (written_none c.before.args.to c.before.args.work.now)))
+    (omega arith, (refl, sym (written_none c.args.to c.args.work.now)))
 
-segment-requires : tie.Need-segment-requires invariant-loop decreases-loop
+segment-requires : tie.Need-segment-s-requires invariant-loop decreases-loop
 segment-requires c κs =
     simp (length-take, length-drop) (omega arith)
 
-slice-aggregate-copy : tie.Need-slice-aggregate-copy invariant-loop decreases-loop
-slice-aggregate-copy c = sym (ap length c.before.before.before.segment.ensures ∙ segment_length floats _ _ _ _ _)
+slice-aggregate-copy : tie.Need-slice_bounds-copy-end-in-loop-i invariant-loop decreases-loop
+slice-aggregate-copy c = sym (ap length c.segment-s.ensures ∙ segment_length floats _ _ _ _ _)
 
-loop-again : tie.Need-loop-preserved invariant-loop decreases-loop
+loop-again : tie.Need-loop-i-preserved invariant-loop decreases-loop
 loop-again c =
-    let a = c.before.before.before.before.before.before.before.before.before.before.before.before.args in
-    let l = c.before.before.before.before.before.before.before.before.before.before.loop in
-    let s = c.before.before.before.before.before.before.segment in (
+    let a = c.args in
+    let l = c.loop-i in
+    let s = c.segment-s in (
       omega arith,
       with_length a.rows.rows a.h (window a.c a.e a.work.now) a.at a.d a.to (l.i + 1) a.work.now
           (omega arith) (omega arith)
-          (rw c.before.before.copy.ensures
+          (rw c.copy.ensures
           (put_next a.rows.rows a.h a.c a.e a.at a.d a.to a.work.now l.work l.i s.result.powers
           (omega arith) (omega arith) (omega arith) (omega arith) l.invariant.1.1 s.ensures)),
     )
 
 returns : tie.Need-returns invariant-loop decreases-loop
 returns c =
-    let e : c.before.loop.i ≡ c.before.before.before.args.d = omega arith in
-    c.before.loop.invariant.1.1 ∙ rw e
+    let e : c.loop-i.i ≡ c.args.d = omega arith in
+    c.loop-i.invariant.1.1 ∙ rw e
 
-pub put-axes-spec : {M : Type 1} → statement M
-put-axes-spec =
+pub put_axes_spec : {M : Type 1} → statement M
+put_axes_spec =
     tie.close
     (tie.spec
     invariant-loop

@@ -7,38 +7,38 @@ use Rattle.bspline.proofs.PolynomialPlaced.{span_room, span_skipped, span_put_la
 use Rattle.bspline.proofs.segments.put_span.Statement.{statement}
 use Rattle.bspline.proofs.segments.put_span.Tie as tie
 
-returns : tie.Need-returns
+returns : tie.Need-returns-then-h
 returns c =
-    let a = c.before.before.before.before.args in
-    span_skipped a.s a.span a.work.now (omega arith) a.breaks a.coefficients a.n c.if1.true
+    let a = c.args in
+    span_skipped a.s a.span a.work.now (omega arith) a.breaks a.coefficients a.n c.if-h.true
 
-powers-requires : tie.Need-powers-requires
+powers-requires : tie.Need-powers-rows-requires
 powers-requires c κs =
-    let a = c.before.before.before.before.before.before.args in
+    let a = c.args in
     let r = weights_room a.s.knots a.s.count a.span a.work.now (omega arith) (omega arith) (omega arith) in
     (omega arith, r.1)
 
 -- the axes of the span lie among the controls, and their segments in the slice
-rooms : (c : tie.After-put-axes-arg) → let a = c.before.before.before.before.before.before.before.before.args in
+rooms : (c : tie.After-put_axes-arg-1) → let a = c.args in
     (a.s.controls + (a.span - 5) * a.s.axes + 6 * a.s.axes ≤ a.s.controls + a.s.count * a.s.axes)
     × (a.s.controls + a.s.count * a.s.axes ≤ a.coefficients + a.n * (6 * a.s.axes))
     × (a.coefficients + a.n * (6 * a.s.axes) + 6 * a.s.axes ≤ length a.work.now)
 rooms c =
-    let a = c.before.before.before.before.before.before.before.before.args in
+    let a = c.args in
     span_room a.s.controls a.s.count a.s.axes a.span a.n a.breaks a.coefficients (length a.work.now)
     (omega arith) (omega arith) (omega arith) (omega arith) (omega arith) (omega arith)
 
-returns-2 : tie.Need-returns-2
+returns-2 : tie.Need-returns
 returns-2 c =
-    let a = c.before.before.before.before.before.before.before.before.before.before.before.args in
-    let p = c.before.before.before.before.powers in
-    rw c.before.before.put-axes.ensures
+    let a = c.args in
+    let p = c.powers-rows in
+    rw c.put_axes.ensures
     (span_put_law a.s a.span a.work.now (omega arith) a.breaks a.coefficients a.n p.result.rows
-    c.before.before.before.before.before.before.before.if1.false p.ensures (rooms c.before.before.before).2
+    c.if-h.false p.ensures (rooms c.before.before.before).2
     (omega arith))
 
-pub put-span-spec : {M : Type 1} → statement M
-put-span-spec =
+pub put_span_spec : {M : Type 1} → statement M
+put_span_spec =
     tie.close
     (tie.spec
     (λ c. omega arith)

@@ -11,33 +11,33 @@ use Rattle.bspline.specs.Placed.{span_put, spans_put}
 use Rattle.bspline.proofs.segments.put_spans.Statement.{statement}
 use Rattle.bspline.proofs.segments.put_spans.Tie as tie
 
-abbrev invariant-loop : tie.invariant-loop
+abbrev invariant-loop : tie.invariant-loop-span
 invariant-loop work₀ s breaks coefficients from to span₀ work span =
     (5 ≤ span) × (length work ≡ length work₀)
     × (each (λ (i : ℕ) (l : List Float). span_put s breaks coefficients i (i - 5) l) span to work
     ≡ spans_put s breaks coefficients from to work₀)
 
-abbrev decreases-loop : tie.decreases-loop
+abbrev decreases-loop : tie.decreases-loop-span
 decreases-loop work₀ s breaks coefficients from to span₀ work span = to - span
 
-loop-holds : tie.Need-loop-init invariant-loop decreases-loop
+loop-holds : tie.Need-loop-span-init invariant-loop decreases-loop
 unfolding spans_put
 loop-holds c = (omega arith, refl, refl)
 
-loop-again : tie.Need-loop-preserved invariant-loop decreases-loop
+loop-again : tie.Need-loop-span-preserved invariant-loop decreases-loop
 loop-again c =
-    let l = c.before.before.before.before.before.loop in
-    (omega arith, omega arith, each_next _ _ _ (omega arith) c.before.before.put-span.ensures.1 l.invariant.2)
+    let l = c.loop-span in
+    (omega arith, omega arith, each_next _ _ _ (omega arith) c.put_span.ensures.1 l.invariant.2)
 
-same_length : tie.Need-same-length invariant-loop decreases-loop
-same_length c = c.before.loop.invariant.1
+same_length : tie.Need-shape_of-work invariant-loop decreases-loop
+same_length c = c.loop-span.invariant.1
 
 returns : tie.Need-returns invariant-loop decreases-loop
 returns c =
-    let l = c.before.loop in sym (each_done _ _ _ _ (omega arith)) ∙ l.invariant.2
+    let l = c.loop-span in sym (each_done _ _ _ _ (omega arith)) ∙ l.invariant.2
 
-pub put-spans-spec : {M : Type 1} → statement M
-put-spans-spec =
+pub put_spans_spec : {M : Type 1} → statement M
+put_spans_spec =
     tie.close
     (tie.spec
     invariant-loop

@@ -10,26 +10,26 @@ use Rattle.bspline.specs.Segments.{scale_turn, Scaled}
 use Rattle.bspline.proofs.segments.scale_by.Statement.{statement}
 use Rattle.bspline.proofs.segments.scale_by.Tie as tie
 
-abbrev invariant-loop : tie.invariant-loop
+abbrev invariant-loop : tie.invariant-loop-k
 invariant-loop h p₀ scale₀ k₀ p scale k =
     (k ≤ 6) × (each (scale_turn floats h) k 6 (record { coefficients = p; scale = scale }) ≡ each (scale_turn floats h) 0 6 (record
     { coefficients = p₀; scale = scale₀ }))
 
-abbrev decreases-loop : tie.decreases-loop
+abbrev decreases-loop : tie.decreases-loop-k
 decreases-loop h p₀ scale₀ k₀ p scale k = 6 - k
 
-loop-holds : tie.Need-loop-init invariant-loop decreases-loop
+loop-holds : tie.Need-loop-k-init invariant-loop decreases-loop
 loop-holds c = (omega arith, refl)
 
-loop-again : tie.Need-loop-preserved invariant-loop decreases-loop
+loop-again : tie.Need-loop-k-preserved invariant-loop decreases-loop
 unfolding scale_turn
-loop-again c = (omega arith, sym (each_turn _ _ _ _ (omega arith)) ∙ c.before.loop.invariant.1)
+loop-again c = (omega arith, sym (each_turn _ _ _ _ (omega arith)) ∙ c.loop-k.invariant.1)
 
 returns : tie.Need-returns invariant-loop decreases-loop
-returns c = ap (λ (s : Scaled Float). s.coefficients) (sym (each_done _ _ _ _ (omega arith)) ∙ c.before.loop.invariant.1)
+returns c = ap (λ (s : Scaled Float). s.coefficients) (sym (each_done _ _ _ _ (omega arith)) ∙ c.loop-k.invariant.1)
 
-pub scale-by-spec : {M : Type 1} → statement M
-scale-by-spec =
+pub scale_by_spec : {M : Type 1} → statement M
+scale_by_spec =
     tie.close
     (tie.spec
     invariant-loop

@@ -7,5 +7,5 @@ use Rattle.curve.proofs.count.one_if.Tie as tie
 returns : tie.Need-returns
 returns c = byte_is c.args.test
 
-pub one-if-spec : {M : Type 1} → statement M
-one-if-spec = tie.close (tie.spec (λ c. search rules) returns)
+pub one_if_spec : {M : Type 1} → statement M
+one_if_spec = tie.close (tie.spec (λ c. search rules) returns)

@@ -18,13 +18,13 @@ told : (s : tie.Start) (b : Bool) → let a = s.args in eq a.width (sub binary64
 told s b h =
     let a = s.args in
     sym (ap (λ (b : Bool). cond b (lt +0 a.width) false) h)
-    ∙ width_test a.width a.from a.to (known _ s.well-formed.0.1) (known _ s.well-formed.1.0.1) (known _ s.well-formed.1.1.0.1)
+    ∙ width_test a.width a.from a.to (known _ s.well_formed.0.1) (known _ s.well_formed.1.0.1) (known _ s.well_formed.1.1.0.1)
 
-returns : tie.Need-returns
-returns c = told c.before true c.if1.true
+returns : tie.Need-returns-then-width-to
+returns c = told c.before true c.if-width-to.true
 
-returns-2 : tie.Need-returns-2
-returns-2 c = told c.before false c.if1.false
+returns-2 : tie.Need-returns
+returns-2 c = told c.before false c.if-width-to.false
 
-pub is-width-spec : {M : Type 1} → statement M
-is-width-spec = tie.close (tie.spec returns returns-2)
+pub is_width_spec : {M : Type 1} → statement M
+is_width_spec = tie.close (tie.spec returns returns-2)

@@ -8,5 +8,5 @@ returns : tie.Need-returns
 unfolding no_curve
 returns c = refl
 
-pub no-curve-spec : {M : Type 1} → statement M
-no-curve-spec = tie.close (tie.spec returns)
+pub no_curve_spec : {M : Type 1} → statement M
+no_curve_spec = tie.close (tie.spec returns)

@@ -8,38 +8,36 @@ use borrow.Author.Rules.{rules}
 use Rattle.curve.proofs.form.set_shaped.Statement.{statement}
 use Rattle.curve.proofs.form.set_shaped.Tie as tie
 
-returns : tie.Need-returns
-returns c = rw (lt-leb _ _ c.if1.true)
+returns : tie.Need-returns-then-n-lt1
+returns c = rw (lt-leb _ _ c.if-n-lt1.true)
 
-returns-2 : tie.Need-returns-2
-returns-2 c = rw (lt-leb _ _ c.if2.true, and-false)
+returns-2 : tie.Need-returns-then-n-gt20000
+returns-2 c = rw (lt-leb _ _ c.if-n-gt20000.true, and-false)
 
-returns-3 : tie.Need-returns-3
-returns-3 c = rw (ne_eqb _ _ c.if3.true, and-false)
+returns-3 : tie.Need-returns-then-breaks-n
+returns-3 c = rw (ne_eqb _ _ c.if-breaks-n.true, and-false)
 
 -- the cells are few
-rows_few : (c : tie.Else3) → let a = c.before.before.before.args in a.n * a.m ≤ a.n * 16
-rows_few c = let b = c.before.before.before in mul-le-mul_left b.args.n b.requires
+rows_few : (c : tie.Else-breaks-n) → let a = c.args in a.n * a.m ≤ a.n * 16
+rows_few c = mul-le-mul_left c.args.n c.requires
 
-returns-4 : tie.Need-returns-4
-returns-4 c = rw (ne_eqb _ _ c.if4.true, and-false)
+returns-4 : tie.Need-returns-then-cells-n
+returns-4 c = rw (ne_eqb _ _ c.if-cells-n.true, and-false)
 
-returns-5 : tie.Need-returns-5
-returns-5 c = let zero = c.before in
-    let cells = zero.before.before in
-    rw (
-      le-leb _ _ cells.before.before.before.if1.false,
-      le-leb _ _ cells.before.before.if2.false,
-      eq-eqb _ _ cells.before.if3.false,
-      eq-eqb _ _ cells.if4.false,
-      zero.if5.true,
+returns-5 : tie.Need-returns-then-breaks
+returns-5 c = rw (
+      le-leb _ _ c.if-n-lt1.false,
+      le-leb _ _ c.if-n-gt20000.false,
+      eq-eqb _ _ c.if-breaks-n.false,
+      eq-eqb _ _ c.if-cells-n.false,
+      c.if-breaks.true,
     )
 
-returns-6 : tie.Need-returns-6
-returns-6 c = rw (c.if5.false, and-false)
+returns-6 : tie.Need-returns
+returns-6 c = rw (c.if-breaks.false, and-false)
 
-pub set-shaped-spec : {M : Type 1} → statement M
-set-shaped-spec =
+pub set_shaped_spec : {M : Type 1} → statement M
+set_shaped_spec =
     tie.close
     (tie.spec
     returns

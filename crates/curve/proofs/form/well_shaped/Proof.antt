@@ -7,52 +7,48 @@ use Rattle.curve.specs.Form.{well_shaped}
 use Rattle.curve.proofs.form.well_shaped.Statement.{statement}
 use Rattle.curve.proofs.form.well_shaped.Tie as tie
 
-returns : tie.Need-returns
+returns : tie.Need-returns-then-d-lt1
 unfolding well_shaped
-returns c = rw (lt-leb 1 _ c.if1.true)
+returns c = rw (lt-leb 1 _ c.if-d-lt1.true)
 
-returns-2 : tie.Need-returns-2
+returns-2 : tie.Need-returns-then-d-gt16
 unfolding well_shaped
-returns-2 c = rw (lt-leb _ 16 c.if2.true, and-false)
+returns-2 c = rw (lt-leb _ 16 c.if-d-gt16.true, and-false)
 
-returns-3 : tie.Need-returns-3
+returns-3 : tie.Need-returns-then-k-lt1
 unfolding well_shaped
-returns-3 c = rw (lt-leb 1 _ c.if3.true, and-false)
+returns-3 c = rw (lt-leb 1 _ c.if-k-lt1.true, and-false)
 
-returns-4 : tie.Need-returns-4
+returns-4 : tie.Need-returns-then-d-k
 unfolding well_shaped
-returns-4 c = rw (lt-leb _ _ c.if4.true, and-false)
+returns-4 c = rw (lt-leb _ _ c.if-d-k.true, and-false)
 
-returns-5 : tie.Need-returns-5
+returns-5 : tie.Need-returns-then-not-axes_formed
 unfolding well_shaped
-returns-5 c = rw (sym c.before.axes_formed_law.ensures ∙ not-true _ c.if5.true, and-false)
+returns-5 c = rw (sym c.axes_formed.ensures ∙ not-true _ c.if-not-axes_formed.true-raw, and-false)
 
-returns-6 : tie.Need-returns-6
+returns-6 : tie.Need-returns-then-not-set_shaped
 unfolding well_shaped
-returns-6 c = rw (sym c.before.set-shaped.ensures ∙ not-true _ c.if6.true, and-false)
+returns-6 c = rw (sym c.set_shaped.ensures ∙ not-true _ c.if-not-set_shaped.true-raw, and-false)
 
-returns-7 : tie.Need-returns-7
+returns-7 : tie.Need-returns-then-not-others_shaped
 unfolding well_shaped
-returns-7 c = rw (sym c.before.others-shaped.ensures ∙ not-true _ c.if7.true, and-false)
+returns-7 c = rw (sym c.others_shaped.ensures ∙ not-true _ c.if-not-others_shaped.true-raw, and-false)
 
-returns-8 : tie.Need-returns-8
+returns-8 : tie.Need-returns
 unfolding well_shaped
-returns-8 c = let others = c.before in
-    let set = others.before.before in
-    let axes = set.before.before in
-    let most = axes.before.before.before in
-    rw (
-      le-leb 1 _ most.before.before.before.if1.false,
-      le-leb _ 16 most.before.before.if2.false,
-      le-leb 1 _ most.before.if3.false,
-      le-leb _ _ most.if4.false,
-      sym axes.before.axes_formed_law.ensures ∙ not-false _ axes.if5.false,
-      sym set.before.set-shaped.ensures ∙ not-false _ set.if6.false,
-      sym others.before.others-shaped.ensures ∙ not-false _ others.if7.false,
-    ) c.range_formed_law.ensures
+returns-8 c = rw (
+      le-leb 1 _ c.if-d-lt1.false,
+      le-leb _ 16 c.if-d-gt16.false,
+      le-leb 1 _ c.if-k-lt1.false,
+      le-leb _ _ c.if-d-k.false,
+      sym c.axes_formed.ensures ∙ not-false _ c.if-not-axes_formed.false-raw,
+      sym c.set_shaped.ensures ∙ not-false _ c.if-not-set_shaped.false-raw,
+      sym c.others_shaped.ensures ∙ not-false _ c.if-not-others_shaped.false-raw,
+    ) c.range_formed.ensures
 
-pub well-shaped-spec : {M : Type 1} → statement M
-well-shaped-spec =
+pub well_shaped_spec : {M : Type 1} → statement M
+well_shaped_spec =
     tie.close
     (tie.spec
     returns

@@ -12,10 +12,10 @@ use Rattle.curve.proofs.Placing.{listed_place, listed_next, other_place, other_n
 use Rattle.curve.proofs.place.axis_place.Statement.{statement}
 use Rattle.curve.proofs.place.axis_place.Tie as tie
 
-abbrev invariant-loop : tie.invariant-loop
+abbrev invariant-loop : tie.invariant-loop-a
 invariant-loop axes k axis listed others₀ a₀ others a = (a ≤ axis) × (others ≤ a) × (others ≡ others_below axes k a)
 
-abbrev decreases-loop : tie.decreases-loop
+abbrev decreases-loop : tie.decreases-loop-a
 decreases-loop axes k axis listed others₀ a₀ others a = axis - a
 
 -- one axis more
@@ -32,38 +32,35 @@ counted axes k a others p one e f g = elim (dec_lt p k) [
       omega (arith, e, n, o)
 ]
 
-returns : tie.Need-returns invariant-loop decreases-loop
+returns : tie.Need-returns-then-listed-k invariant-loop decreases-loop
 returns c =
-    let s = c.before.before in
-    let e = c.before.position.ensures in
-    e ∙ sym (listed_place s.args.axes.now s.args.k s.args.axis (omega (arith, e, c.if1.true)))
+    let e = c.position-listed.ensures in
+    e ∙ sym (listed_place c.args.axes.now c.args.k c.args.axis (omega (arith, e, c.if-listed-k.true)))
 
-loop-holds : tie.Need-loop-init invariant-loop decreases-loop
+loop-holds : tie.Need-loop-a-init invariant-loop decreases-loop
 unfolding others_below
 loop-holds c = (omega arith, omega arith, refl)
 
-loop-again : tie.Need-loop-preserved invariant-loop decreases-loop
+loop-again : tie.Need-loop-a-preserved invariant-loop decreases-loop
 loop-again c =
-    let i = c.before.before in
-    let l = i.before.loop in
-    let s = i.before.before.before.before in (
+    let l = c.loop-a in
+    (
       omega arith,
-      omega (arith, c.one-if.ensures.1),
-      counted s.args.axes.now s.args.k l.a l.others c.before.position2.result c.one-if.result l.invariant.2
-          c.before.position2.ensures c.one-if.ensures.0,
+      omega (arith, c.one_if-others.ensures.1),
+      counted c.args.axes.now c.args.k l.a l.others c.position.result c.one_if-others.result l.invariant.2
+          c.position.ensures c.one_if-others.ensures.0,
     )
 
-returns-2 : tie.Need-returns-2 invariant-loop decreases-loop
+returns-2 : tie.Need-returns invariant-loop decreases-loop
 returns-2 c =
-    let l = c.before.loop in
-    let e = c.before.before.before.position.ensures in
-    let s = c.before.before.before.before in
-    let q : l.a ≡ s.args.axis = omega (arith, l.invariant.0, c.loop-test.false) in
-    ap (λ (n : ℕ). s.args.k + n) (l.invariant.2 ∙ ap (others_below s.args.axes.now s.args.k) q)
-    ∙ sym (other_place s.args.axes.now s.args.k s.args.axis (omega (arith, e, c.before.before.if1.false)))
+    let l = c.loop-a in
+    let e = c.position-listed.ensures in
+    let q : l.a ≡ c.args.axis = omega (arith, l.invariant.0, c.loop-a-test.false) in
+    ap (λ (n : ℕ). c.args.k + n) (l.invariant.2 ∙ ap (others_below c.args.axes.now c.args.k) q)
+    ∙ sym (other_place c.args.axes.now c.args.k c.args.axis (omega (arith, e, c.if-listed-k.false)))
 
-pub axis-place-spec : {M : Type 1} → statement M
-axis-place-spec =
+pub axis_place_spec : {M : Type 1} → statement M
+axis_place_spec =
     tie.close
     (tie.spec
     invariant-loop

@@ -11,39 +11,39 @@ use Rattle.fit.proofs.Turns.{penalty_left, penalty_added}
 use Rattle.fit.proofs.assembly.add_penalty.Statement.{statement}
 use Rattle.fit.proofs.assembly.add_penalty.Tie as tie
 
-is-left-out-requires : tie.Need-is-left-out-requires
-is-left-out-requires c κs = (placed _ _ _ _ c.before.before.before.requires.0.0, omega arith)
+is-left-out-requires : tie.Need-is_left_out-requires
+is-left-out-requires c κs = (placed _ _ _ _ c.requires.0.0, omega arith)
 
-returns : tie.Need-returns
+returns : tie.Need-returns-then-is_left_out
 returns c =
-    let a = c.before.before.before.before.before.args in
+    let a = c.args in
     let w = a.work.now in
     let x = arrays_at a.p (before a.p w) in (
       refl,
-      penalty_left x a.a a.z a.lo a.hi c.before.before.before.before.before.requires.1.0
-          c.before.before.before.before.before.requires.1.1 a.span _ a.strength (system_at a.p (a.z - a.a) w)
-          c.before.is-left-out.ensures c.if1.true,
+      penalty_left x a.a a.z a.lo a.hi c.requires.1.0
+          c.requires.1.1 a.span _ a.strength (system_at a.p (a.z - a.a) w)
+          c.is_left_out.ensures c.if-is_left_out.true,
     )
 
-add-penalty-nodes-requires : tie.Need-add-penalty-nodes-requires
-add-penalty-nodes-requires c κs = (c.before.before.before.before.before.before.requires.0.0, omega arith, omega arith)
+add-penalty-nodes-requires : tie.Need-add_penalty_nodes-requires
+add-penalty-nodes-requires c κs = (c.requires.0.0, omega arith, omega arith)
 
-returns-2 : tie.Need-returns-2
+returns-2 : tie.Need-returns
 returns-2 c =
-    let a = c.before.before.before.before.before.before.before.before.before.args in
+    let a = c.args in
     let w = a.work.now in
     let x = arrays_at a.p (before a.p w) in
-    let v = c.before.before.add-penalty-nodes.ensures in (
+    let v = c.add_penalty_nodes.ensures in (
       v.0,
       v.1 ∙ penalty_added x a.a a.z a.lo a.hi
-          c.before.before.before.before.before.before.before.before.before.requires.1.0
-          c.before.before.before.before.before.before.before.before.before.requires.1.1 a.span _ a.strength
-          (system_at a.p (a.z - a.a) w) c.before.before.before.before.before.is-left-out.ensures
-          c.before.before.before.before.if1.false,
+          c.requires.1.0
+          c.requires.1.1 a.span _ a.strength
+          (system_at a.p (a.z - a.a) w) c.is_left_out.ensures
+          c.if-is_left_out.false,
     )
 
-pub add-penalty-spec : {M : Type 1} → statement M
-add-penalty-spec =
+pub add_penalty_spec : {M : Type 1} → statement M
+add_penalty_spec =
     tie.close
     (tie.spec
     (λ c. search rules)

@@ -12,14 +12,14 @@ use Rattle.fit.proofs.Turns.{penalty_start}
 use Rattle.fit.proofs.assembly.add_penalty_node.Statement.{statement}
 use Rattle.fit.proofs.assembly.add_penalty_node.Tie as tie
 
-penalty-row-at-requires : tie.Need-penalty-row-at-requires
-penalty-row-at-requires c κs = (placed _ _ _ _ c.before.before.before.requires.0, omega arith, omega arith, omega arith)
+penalty-row-at-requires : tie.Need-penalty_row_at-row-requires
+penalty-row-at-requires c κs = (placed _ _ _ _ c.requires.0, omega arith, omega arith, omega arith)
 
-add-row-requires : tie.Need-add-row-requires
+add-row-requires : tie.Need-add_row-requires
 add-row-requires c κs =
-    let a = c.before.before.before.before.before.args in
-    let e = ap (λ (r : Row). r.start) c.before.penalty-row-at.ensures in (
-      c.before.before.before.before.before.requires.0,
+    let a = c.args in
+    let e = ap (λ (r : Row). r.start) c.penalty_row_at-row.ensures in (
+      c.requires.0,
       omega (
         arith,
         e,
@@ -30,16 +30,16 @@ add-row-requires c κs =
 
 returns : tie.Need-returns
 returns c =
-    let a = c.before.before.before.before.before.before.before.before.args in
+    let a = c.args in
     let w = a.work.now in
     let x = arrays_at a.p (before a.p w) in (
-      c.before.before.add_row.ensures.0,
-      c.before.before.add_row.ensures.1 ∙ ap (λ (r : Row). added x a.a a.z r
-          (system_at a.p (a.z - a.a) w)) c.before.before.before.before.penalty-row-at.ensures,
+      c.add_row.ensures.0,
+      c.add_row.ensures.1 ∙ ap (λ (r : Row). added x a.a a.z r
+          (system_at a.p (a.z - a.a) w)) c.penalty_row_at-row.ensures,
     )
 
-pub add-penalty-node-spec : {M : Type 1} → statement M
-add-penalty-node-spec =
+pub add_penalty_node_spec : {M : Type 1} → statement M
+add_penalty_node_spec =
     tie.close
     (tie.spec
     (λ c. search rules)

@@ -15,7 +15,7 @@ use Rattle.fit.proofs.Turns.{row_counted}
 use Rattle.fit.proofs.assembly.add_piece.Statement.{statement}
 use Rattle.fit.proofs.assembly.add_piece.Tie as tie
 
-abbrev invariant-loop : tie.invariant-loop
+abbrev invariant-loop : tie.invariant-loop-r
 invariant-loop work₀ p a z from to rows h count₀ r₀ work count r =
     (r ≤ 6)
     × (count ≡ rows + r)
@@ -25,23 +25,23 @@ invariant-loop work₀ p a z from to rows h count₀ r₀ work count r =
     (assembled count (system_at p (z - a) work)) ≡ piece_of (arrays_at p (before p work₀)) a z from to
     (assembled rows (system_at p (z - a) work₀)))
 
-abbrev decreases-loop : tie.decreases-loop
+abbrev decreases-loop : tie.decreases-loop-r
 decreases-loop work₀ p a z from to rows h count₀ r₀ work count r = 6 - r
 
-loop-holds : tie.Need-loop-init invariant-loop decreases-loop
+loop-holds : tie.Need-loop-r-init invariant-loop decreases-loop
 unfolding piece_of
 loop-holds c = (omega arith, omega arith, refl, refl, refl)
 
-add-node-requires : tie.Need-add-node-requires invariant-loop decreases-loop
-add-node-requires c κs = (rw c.before.before.loop.invariant.2 c.before.before.before.before.requires.0, omega arith)
+add-node-requires : tie.Need-add_node-requires invariant-loop decreases-loop
+add-node-requires c κs = (rw c.loop-r.invariant.2 c.requires.0, omega arith)
 
-loop-again : tie.Need-loop-preserved invariant-loop decreases-loop
+loop-again : tie.Need-loop-r-preserved invariant-loop decreases-loop
 loop-again c =
-    let a = c.before.before.before.before.before.before.before.args in
+    let a = c.args in
     let p = a.p in
-    let l = c.before.before.before.before.before.loop in
+    let l = c.loop-r in
     let x = arrays_at p (before p a.work.now) in
-    let v = c.before.before.add-node.ensures in
+    let v = c.add_node.ensures in
     let h = sub binary64 a.to a.from in
     let s = system_at p (a.z - a.a) l.work in
     let e = ap (assembled (l.count + 1)) (v.1 ∙ ap (λ (u : List Float). added (arrays_at p u) a.a a.z
@@ -49,15 +49,15 @@ loop-again c =
     s in
     (omega arith, omega arith, omega arith, v.0 ∙ l.invariant.3, each_next _ _ _ (omega arith) e l.invariant.4)
 
-same_length : tie.Need-same-length invariant-loop decreases-loop
-same_length c = c.before.loop.invariant.2
+same_length : tie.Need-shape_of-work invariant-loop decreases-loop
+same_length c = c.loop-r.invariant.2
 
 returns : tie.Need-returns invariant-loop decreases-loop
 returns c =
-    let l = c.before.loop in (l.invariant.3, (sym (each_done _ _ _ _ (omega arith)) ∙ l.invariant.4, omega arith))
+    let l = c.loop-r in (l.invariant.3, (sym (each_done _ _ _ _ (omega arith)) ∙ l.invariant.4, omega arith))
 
-pub add-piece-spec : {M : Type 1} → statement M
-add-piece-spec =
+pub add_piece_spec : {M : Type 1} → statement M
+add_piece_spec =
     tie.close
     (tie.spec
     invariant-loop

@@ -11,19 +11,19 @@ use Rattle.fit.proofs.assembly.add_row.Tie as tie
 
 returns : tie.Need-returns
 returns c =
-    let a = c.before.before.before.before.before.args in
-    let v = c.before.before.add in
+    let a = c.args in
+    let v = c.add in
     let g = a.p.system in
     let n = a.z - a.a in
     let e = g + (6 * n + n * a.p.axes + n) in
     let lies : e ≡ length a.work.now = omega arith in
-    let fills : length v.new.0 ≡ e - g = omega arith in (
-      front_kept g e v.new.0 a.work.now (omega arith) lies fills,
-      ap (system_of n a.p.axes) (back_written g e v.new.0 a.work.now (omega arith) lies fills) ∙ v.ensures,
+    let fills : length v.new.sys ≡ e - g = omega arith in (
+      front_kept g e v.new.sys a.work.now (omega arith) lies fills,
+      ap (system_of n a.p.axes) (back_written g e v.new.sys a.work.now (omega arith) lies fills) ∙ v.ensures,
     )
 
-pub add-row-spec : {M : Type 1} → statement M
-add-row-spec =
+pub add_row_spec : {M : Type 1} → statement M
+add_row_spec =
     tie.close
     (tie.spec
     (λ c. search rules)

@@ -18,58 +18,58 @@ use Rattle.fit.proofs.Turns.{span_passed, span_counted}
 use Rattle.fit.proofs.assembly.add_span.Statement.{statement}
 use Rattle.fit.proofs.assembly.add_span.Tie as tie
 
-is-passed-over-requires : tie.Need-is-passed-over-requires
-is-passed-over-requires c κs = (placed _ _ _ _ c.before.before.before.requires.0.0, omega arith)
+is-passed-over-requires : tie.Need-is_passed_over-requires
+is-passed-over-requires c κs = (placed _ _ _ _ c.requires.0.0, omega arith)
 
-returns : tie.Need-returns
+returns : tie.Need-returns-then-is_passed_over
 returns c =
-    let a = c.before.before.before.before.before.args in
+    let a = c.args in
     let w = a.work.now in
     let x = arrays_at a.p (before a.p w) in (
       refl,
       (
-        span_passed x a.a a.z a.lo a.hi c.before.before.before.before.before.requires.1.0
-            c.before.before.before.before.before.requires.1.1 a.span _ (assembled a.rows (system_at a.p (a.z - a.a) w))
-            c.before.is-passed-over.ensures c.if1.true,
+        span_passed x a.a a.z a.lo a.hi c.requires.1.0
+            c.requires.1.1 a.span _ (assembled a.rows (system_at a.p (a.z - a.a) w))
+            c.is_passed_over.ensures c.if-is_passed_over.true,
         omega arith,
       ),
     )
 
-mesh-at-requires : tie.Need-mesh-at-requires
-mesh-at-requires c κs = (placed _ _ _ _ c.before.before.before.before.before.before.before.requires.0.0, omega arith)
+mesh-at-requires : tie.Need-mesh_at-mesh-requires
+mesh-at-requires c κs = (placed _ _ _ _ c.requires.0.0, omega arith)
 
 -- the samples of a mesh end where the samples do
 mesh-within : (x : Arrays) (span : ℕ) → (mesh_span x span).end ≤ length x.s
 unfolding mesh_span
 mesh-within x span = point_within nan (λ v. lt v (at x.t (span + 1))) x.s
 
-add-mesh-requires : tie.Need-add-mesh-requires
+add-mesh-requires : tie.Need-add_mesh-requires
 add-mesh-requires c κs =
-    let a = c.before.before.before.before.before.before.before.before.before.args in
+    let a = c.args in
     let w = a.work.now in
     let x = arrays_at a.p (before a.p w) in
-    let e = ap (λ (m : Mesh). m.end) c.before.mesh-at.ensures in
+    let e = ap (λ (m : Mesh). m.end) c.mesh_at-mesh.ensures in
     let h = mesh-within x a.span in
     let l = length_window 0 a.p.system w (omega arith) (omega arith) in
     let k = length_window a.p.parameters (a.p.parameters + a.p.samples) (before a.p w) (omega arith) (omega arith) in
-    (c.before.before.before.before.before.before.before.before.before.requires.0.0, omega (arith, e, h, k), omega arith)
+    (c.requires.0.0, omega (arith, e, h, k), omega arith)
 
-returns-2 : tie.Need-returns-2
+returns-2 : tie.Need-returns
 returns-2 c =
-    let a = c.before.before.before.before.before.before.before.before.before.before.before.before.args in
+    let a = c.args in
     let w = a.work.now in
     let x = arrays_at a.p (before a.p w) in
     let n = assembled a.rows (system_at a.p (a.z - a.a) w) in
-    let v = c.before.before.add-mesh.ensures in
+    let v = c.add_mesh.ensures in
     let t = span_counted x a.a a.z a.lo a.hi
-    c.before.before.before.before.before.before.before.before.before.before.before.before.requires.1.0
-    c.before.before.before.before.before.before.before.before.before.before.before.before.requires.1.1 a.span _ n
-    c.before.before.before.before.before.before.before.before.is-passed-over.ensures
-    c.before.before.before.before.before.before.before.if1.false in
-    (v.0, (v.1.0 ∙ ap (λ (m : Mesh). mesh_of x a.a a.z m n) c.before.before.before.before.mesh-at.ensures ∙ t, v.1.1))
+    c.requires.1.0
+    c.requires.1.1 a.span _ n
+    c.is_passed_over.ensures
+    c.if-is_passed_over.false in
+    (v.0, (v.1.0 ∙ ap (λ (m : Mesh). mesh_of x a.a a.z m n) c.mesh_at-mesh.ensures ∙ t, v.1.1))
 
-pub add-span-spec : {M : Type 1} → statement M
-add-span-spec =
+pub add_span_spec : {M : Type 1} → statement M
+add_span_spec =
     tie.close
     (tie.spec
     (λ c. search rules)

@@ -15,7 +15,7 @@ use Rattle.window.specs.Cells.{at}
 use Rattle.fit.proofs.assembly.add_sparse.Statement.{statement}
 use Rattle.fit.proofs.assembly.add_sparse.Tie as tie
 
-abbrev invariant-loop : tie.invariant-loop
+abbrev invariant-loop : tie.invariant-loop-span
 invariant-loop work₀ p a z lo hi rows m count₀ span₀ work count span =
     (5 ≤ span)
     × (count ≤ 65536 + 393222 * (span - 5))
@@ -24,44 +24,44 @@ invariant-loop work₀ p a z lo hi rows m count₀ span₀ work count span =
     × (each (sparse_turn (arrays_at p (before p work₀)) a z) span m (assembled count (system_at p (z - a) work))
     ≡ sparse_of (arrays_at p (before p work₀)) a z (assembled rows (system_at p (z - a) work₀)))
 
-abbrev decreases-loop : tie.decreases-loop
+abbrev decreases-loop : tie.decreases-loop-span
 decreases-loop work₀ p a z lo hi rows m count₀ span₀ work count span = m - span
 
-loop-holds : tie.Need-loop-init invariant-loop decreases-loop
+loop-holds : tie.Need-loop-span-init invariant-loop decreases-loop
 unfolding sparse_of
 loop-holds c = (omega arith, omega arith, refl, refl, refl)
 
-add-span-requires : tie.Need-add-span-requires invariant-loop decreases-loop
+add-span-requires : tie.Need-add_span-count-requires invariant-loop decreases-loop
 add-span-requires c κs =
-    let a = c.before.before.before.before.args in
-    let l = c.before.before.loop in
+    let a = c.args in
+    let l = c.loop-span in
     let b = sym l.invariant.3 in (
-      (rw l.invariant.2 c.before.before.before.before.requires.0.0, omega arith, omega arith),
+      (rw l.invariant.2 c.requires.0.0, omega arith, omega arith),
       (
-        c.before.before.before.before.requires.1.0 ∙ ap (λ (u : List Float). low (arrays_at a.p u) a.a a.z) b,
-        c.before.before.before.before.requires.1.1 ∙ ap (λ (u : List Float). high (arrays_at a.p u) a.a a.z) b,
+        c.requires.1.0 ∙ ap (λ (u : List Float). low (arrays_at a.p u) a.a a.z) b,
+        c.requires.1.1 ∙ ap (λ (u : List Float). high (arrays_at a.p u) a.a a.z) b,
       ),
     )
 
-loop-again : tie.Need-loop-preserved invariant-loop decreases-loop
+loop-again : tie.Need-loop-span-preserved invariant-loop decreases-loop
 loop-again c =
-    let a = c.before.before.before.before.before.before.before.args in
+    let a = c.args in
     let p = a.p in
-    let l = c.before.before.before.before.before.loop in
-    let v = c.before.before.add-span.ensures in
+    let l = c.loop-span in
+    let v = c.add_span-count.ensures in
     let n = assembled l.count (system_at p (a.z - a.a) l.work) in
     let e = v.1.0 ∙ ap (λ (u : List Float). sparse_turn (arrays_at p u) a.a a.z l.span n) l.invariant.3 in
     (omega arith, omega (arith, v.1.1), omega arith, v.0 ∙ l.invariant.3, each_next _ _ _ (omega arith) e l.invariant.4)
 
-same_length : tie.Need-same-length invariant-loop decreases-loop
-same_length c = c.before.loop.invariant.2
+same_length : tie.Need-shape_of-work invariant-loop decreases-loop
+same_length c = c.loop-span.invariant.2
 
 returns : tie.Need-returns invariant-loop decreases-loop
 returns c =
-    let l = c.before.loop in (l.invariant.3, sym (each_done _ _ _ _ (omega arith)) ∙ l.invariant.4)
+    let l = c.loop-span in (l.invariant.3, sym (each_done _ _ _ _ (omega arith)) ∙ l.invariant.4)
 
-pub add-sparse-spec : {M : Type 1} → statement M
-add-sparse-spec =
+pub add_sparse_spec : {M : Type 1} → statement M
+add_sparse_spec =
     tie.close
     (tie.spec
     invariant-loop

@@ -17,7 +17,7 @@ use Rattle.fit.proofs.Solution.{controls_added, others_kept}
 use Rattle.fit.proofs.window_fit.add_solution.Statement.{statement}
 use Rattle.fit.proofs.window_fit.add_solution.Tie as tie
 
-abbrev invariant-loop : tie.invariant-loop
+abbrev invariant-loop : tie.invariant-loop-i
 invariant-loop work₀ a z d c c_end count right i₀ work i =
     (i ≤ count)
     × (length work ≡ length work₀)
@@ -25,7 +25,7 @@ invariant-loop work₀ a z d c c_end count right i₀ work i =
     × (each (add_turn (window right (right + count) work₀) (a * d)) i count (window c c_end work)
     ≡ added_to (window right (right + count) work₀) (a * d) count (window c c_end work₀))
 
-abbrev decreases-loop : tie.decreases-loop
+abbrev decreases-loop : tie.decreases-loop-i
 decreases-loop work₀ a z d c c_end count right i₀ work i = count - i
 
 -- the active controls are among the controls
@@ -35,10 +35,10 @@ inside a z m d h g =
     let s : z ≡ a + (z - a) = omega arith in
     omega (arith, e, ap (λ (t : ℕ). t * d) s)
 
-loop-holds : tie.Need-loop-init invariant-loop decreases-loop
+loop-holds : tie.Need-loop-i-init invariant-loop decreases-loop
 unfolding added_to
 loop-holds c =
-    let a = c.before.before.before.args in (
+    let a = c.args in (
       omega arith,
       refl,
       sym (splice_window a.p.controls
@@ -46,72 +46,72 @@ loop-holds c =
       refl,
     )
 
-mul-add-cell-2 : tie.Need-overflow-mul-add-cell-2 invariant-loop decreases-loop
+mul-add-cell-2 : tie.Need-overflow_mul-a invariant-loop decreases-loop
 mul-add-cell-2 c =
-    let a = c.before.before.before.before.before.before.before.args in omega (
+    let a = c.args in omega (
       arith,
       inside a.a a.z a.p.count a.p.axes
           (omega arith) (omega arith),
     )
 
-add-add-cell : tie.Need-overflow-add-add-cell invariant-loop decreases-loop
+add-add-cell : tie.Need-overflow_add-a invariant-loop decreases-loop
 add-add-cell c =
-    let a = c.before.before.before.before.before.before.before.args in omega (
+    let a = c.args in omega (
       arith,
       inside a.a a.z a.p.count a.p.axes
           (omega arith) (omega arith),
     )
 
-add-cell-requires : tie.Need-add-cell-requires invariant-loop decreases-loop
+add-cell-requires : tie.Need-add_cell-requires invariant-loop decreases-loop
 add-cell-requires c κs =
-    let a = c.before.before.before.before.before.before.before.args in
-    let l = c.before.before.before.loop in
+    let a = c.args in
+    let l = c.loop-i in
     let i = inside a.a a.z a.p.count a.p.axes (omega arith) (omega arith) in
     let k = length_window a.p.controls (a.p.controls + a.p.count * a.p.axes) l.work (omega arith) (omega arith) in
     omega (arith, i, k)
 
-loop-again : tie.Need-loop-preserved invariant-loop decreases-loop
+loop-again : tie.Need-loop-i-preserved invariant-loop decreases-loop
 loop-again c =
-    let a = c.before.before.before.before.before.before.before.before.before.before.args in
+    let a = c.args in
     let p = a.p in
     let n = a.z - a.a in
     let d = p.axes in
     let e = p.controls + p.count * d in
     let right = p.system + 6 * n in
-    let l = c.before.before.before.before.before.before.loop in
-    let v = c.before.before.add-cell in
-    let go = c.before.before.before.before.before.loop-test.true in
+    let l = c.loop-i in
+    let v = c.add_cell in
+    let go = c.loop-i-test.true in
     let kept = others_kept p.controls e right (n * d) l.work a.work.now (omega arith) (omega arith) (omega arith) l.invariant.1
     l.invariant.2 (a.a * d) l.i go in
     let added = controls_added p.controls e right (n * d) l.work a.work.now (omega arith) (omega arith) (omega arith) l.invariant.1
     l.invariant.2 (a.a * d) l.i go in
     (omega arith, omega arith, rw v.ensures kept, rw v.ensures (each_next _ _ _ go added l.invariant.3))
 
-same_length : tie.Need-same-length invariant-loop decreases-loop
-same_length c = c.before.loop.invariant.1
+same_length : tie.Need-shape_of-work invariant-loop decreases-loop
+same_length c = c.loop-i.invariant.1
 
 returns : tie.Need-returns invariant-loop decreases-loop
 returns c =
-    let a = c.before.before.before.before.before.args in
+    let a = c.args in
     let p = a.p in
     let w = a.work.now in
     let n = a.z - a.a in
     let d = p.axes in
     let e = p.controls + p.count * d in
     let right = p.system + 6 * n in
-    let l = c.before.loop in
+    let l = c.loop-i in
     let solution = window_at p.system (p.system + size_of n d) (6 * n) (6 * n + n * d) right (right + n * d) w (omega arith)
     (omega arith) (omega arith) (omega arith) in
     let controls = window_at 0 p.system p.controls e p.controls e w (omega arith) (omega arith) (omega arith) (omega arith) in
     l.invariant.2
     ∙ ap (λ (v : List Float). splice p.controls e v w)
-    (sym (each_done _ _ _ _ c.loop-test.false)
+    (sym (each_done _ _ _ _ c.loop-i-test.false)
     ∙ l.invariant.3
     ∙ ap (λ (v : List Float). added_to v (a.a * d) (n * d) (window p.controls e w)) solution
     ∙ ap (added_to (system_at p n w).right (a.a * d) (n * d)) controls)
 
-pub add-solution-spec : {M : Type 1} → statement M
-add-solution-spec =
+pub add_solution_spec : {M : Type 1} → statement M
+add_solution_spec =
     tie.close
     (tie.spec
     invariant-loop

@@ -15,12 +15,12 @@ use Rattle.fit.proofs.Fitting.{assembly_is}
 use Rattle.fit.proofs.window_fit.assemble.Statement.{statement}
 use Rattle.fit.proofs.window_fit.assemble.Tie as tie
 
-add-sparse-requires : tie.Need-add-sparse-requires
+add-sparse-requires : tie.Need-add_sparse-rows-requires
 add-sparse-requires c κs =
-    let a = c.before.before.before.before.before.before.before.before.before.before.before.before.before.args in
-    let r = c.before.before.before.before.before.reach_of.ensures in
-    let b = sym c.before.before.before.add-samples.ensures.0 in (
-      (omega arith, omega (arith, c.before.before.before.add-samples.ensures.1.1)),
+    let a = c.args in
+    let r = c.reach_of-w.ensures in
+    let b = sym c.add_samples-dense.ensures.0 in (
+      (omega arith, omega (arith, c.add_samples-dense.ensures.1.1)),
       (
         r.0.0 ∙ ap (λ (l : List Float). low (arrays_at a.p l) a.a a.z) b,
         r.0.1
@@ -28,12 +28,12 @@ add-sparse-requires c κs =
       ),
     )
 
-add-penalties-requires : tie.Need-add-penalties-requires
+add-penalties-requires : tie.Need-add_penalties-requires
 add-penalties-requires c κs =
-    let a = c.before.before.before.before.before.before.before.before.before.before.before.before.before.before.before.before.before.args in
-    let r = c.before.before.before.before.before.before.before.before.before.reach_of.ensures in
-    let b = sym c.before.before.before.before.before.before.before.add-samples.ensures.0
-    ∙ sym c.before.before.before.add-sparse.ensures.0 in (
+    let a = c.args in
+    let r = c.reach_of-w.ensures in
+    let b = sym c.add_samples-dense.ensures.0
+    ∙ sym c.add_sparse-rows.ensures.0 in (
       omega arith,
       (
         r.0.0 ∙ ap (λ (l : List Float). low (arrays_at a.p l) a.a a.z) b,
@@ -44,13 +44,13 @@ add-penalties-requires c κs =
 
 returns : tie.Need-returns
 returns c =
-    let a = c.before.before.before.before.before.before.before.before.before.before.before.before.before.before.before.before.before.before.before.before.args in
+    let a = c.args in
     let p = a.p in
-    let r = c.before.before.before.before.before.before.before.before.before.before.before.before.reach_of in
-    let v₁ = c.before.before.before.before.before.before.before.before.before.before.before.before.before.before.before.before.before.clear-system.ensures in
-    let v₂ = c.before.before.before.before.before.before.before.before.before.before.add-samples.ensures in
-    let v₃ = c.before.before.before.before.before.before.add-sparse.ensures in
-    let v₄ = c.before.before.add-penalties.ensures in
+    let r = c.reach_of-w in
+    let v₁ = c.clear_system.ensures in
+    let v₂ = c.add_samples-dense.ensures in
+    let v₃ = c.add_sparse-rows.ensures in
+    let v₄ = c.add_penalties.ensures in
     let b₁ = v₁.0 in
     let b₂ = v₂.0 ∙ b₁ in
     let b₃ = v₃.0 ∙ b₂ in
@@ -61,19 +61,19 @@ returns c =
     let e =
     v₂.1.0
     ∙ ap (λ (l : List Float). samples_of (arrays_at p l) a.a a.z r.result.first r.result.last
-    (assembled 0 (system_at p k c.before.before.before.before.before.before.before.before.before.before.before.before.before.before.before.before.before.clear-system.new.0))) b₁
+    (assembled 0 (system_at p k c.clear_system.new.work))) b₁
     ∙ ap (λ (s : System). samples_of x a.a a.z r.result.first r.result.last (assembled 0 s)) v₁.1
     ∙ ap (λ (i : ℕ). samples_of x a.a a.z i r.result.last (assembled 0 (new_of k p.axes))) first
     ∙ ap (λ (i : ℕ). samples_of x a.a a.z (below x.s (low x a.a a.z)) i (assembled 0 (new_of k p.axes))) last in
     let f = v₃.1 ∙ ap (λ (l : List Float). sparse_of (arrays_at p l) a.a a.z
-    (assembled c.before.before.before.before.before.before.before.before.before.before.add-samples.result
-    (system_at p k c.before.before.before.before.before.before.before.before.before.before.add-samples.new.0))) b₂ in
+    (assembled c.add_samples-dense.result
+    (system_at p k c.add_samples-dense.new.work))) b₂ in
     let g = v₄.1 ∙ ap (λ (l : List Float). penalties_of (arrays_at p l) a.a a.z a.strength
-    (system_at p k c.before.before.before.before.before.before.add-sparse.new.0)) b₃ in
+    (system_at p k c.add_sparse-rows.new.work)) b₃ in
     (v₄.0 ∙ b₃, (assembly_is x a.a a.z a.strength _ _ _ _ _ _ e f g, (first, last)))
 
-pub assemble-spec : {M : Type 1} → statement M
-assemble-spec =
+pub assemble_spec : {M : Type 1} → statement M
+assemble_spec =
     tie.close
     (tie.spec
     (λ c κs. search rules)

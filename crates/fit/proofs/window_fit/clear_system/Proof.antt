@@ -16,22 +16,22 @@ use Rattle.fit.proofs.window_fit.clear_system.Tie as tie
 
 returns : tie.Need-returns
 returns c =
-    let a = c.before.before.before.before.before.before.args in
-    let v = c.before.before.clear in
+    let a = c.args in
+    let v = c.clear in
     let w = a.work.now in
     let g = a.p.system in
     let n = a.z - a.a in
     let d = a.p.axes in
     let e = g + (6 * n + n * d + n) in
     let lies : e ≡ length w = omega arith in
-    let fills : length v.new.0 ≡ e - g = omega arith in
+    let fills : length v.new.s ≡ e - g = omega arith in
     let size : length (window g e w) ≡ size_of n d = length_window g e w (omega arith) (omega arith) ∙ omega arith in (
-      front_kept g e v.new.0 w (omega arith) lies fills,
-      ap (system_of n d) (back_written g e v.new.0 w (omega arith) lies fills ∙ v.ensures ∙ ap zeros size) ∙ new_system n d,
+      front_kept g e v.new.s w (omega arith) lies fills,
+      ap (system_of n d) (back_written g e v.new.s w (omega arith) lies fills ∙ v.ensures ∙ ap zeros size) ∙ new_system n d,
     )
 
-pub clear-system-spec : {M : Type 1} → statement M
-clear-system-spec =
+pub clear_system_spec : {M : Type 1} → statement M
+clear_system_spec =
     tie.close
     (tie.spec
     (λ c. search rules)

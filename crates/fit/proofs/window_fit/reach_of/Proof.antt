@@ -16,21 +16,21 @@ use Rattle.fit.proofs.window_fit.reach_of.Tie as tie
 
 returns : tie.Need-returns
 returns c =
-    let a = c.before.before.before.before.before.before.before.before.args in
+    let a = c.args in
     let p = a.p in
     let w = a.cells.now in
     let t = window p.knots (p.knots + (p.count + 6)) w in
     let s = window p.parameters (p.parameters + p.samples) w in
     let lo = sym (window_cell p.knots (p.knots + (p.count + 6)) w a.a nan (omega arith)) in
     let hi = sym (window_cell p.knots (p.knots + (p.count + 6)) w (a.z + 5) nan (omega arith)) in
-    let first = c.before.before.partition-point-lt.ensures in
-    let last = c.partition-point-le.ensures in
+    let first = c.partition_point_lt-first.ensures in
+    let last = c.partition_point_le-last.ensures in
     let h = point_within nan (λ (v : Float). le v (at w (p.knots + (a.z + 5)))) s in
     let k = length_window p.parameters (p.parameters + p.samples) w (omega arith) (omega arith) in
     ((lo, hi), ((first ∙ ap (below s) lo, last ∙ ap (at_or_below s) hi), omega (arith, last, h, k)))
 
-pub reach-of-spec : {M : Type 1} → statement M
-reach-of-spec =
+pub reach_of_spec : {M : Type 1} → statement M
+reach_of_spec =
     tie.close
     (tie.spec
     (λ c. search rules)

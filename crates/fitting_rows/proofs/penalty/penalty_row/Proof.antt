@@ -8,14 +8,14 @@ use Rattle.fitting_rows.proofs.penalty.penalty_row.Tie as tie
 returns : tie.Need-returns
 unfolding penalty_row_of of_bits round div
 returns c =
-    rw c.fitting-row.ensures (rw (
-      c.before.before.before.third.ensures,
-      c.before.before.before.before.powers.ensures,
-      c.before.before.powi.ensures,
+    rw c.fitting_row.ensures (rw (
+      c.third-b.ensures,
+      c.powers-powers.ensures,
+      c.powi.ensures,
     ))
 
-pub penalty-row-spec : {M : Type 1} → statement M
-penalty-row-spec =
+pub penalty_row_spec : {M : Type 1} → statement M
+penalty_row_spec =
     tie.close
     (tie.spec
     (λ c. search rules)

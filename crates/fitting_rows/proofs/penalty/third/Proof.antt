@@ -13,25 +13,25 @@ use Rattle.fitting_rows.proofs.penalty.third.Tie as tie
 abbrev turn : List Float → ℕ → List Float → List Float
 turn powers i b = set b i (mul binary64 (floats.literal 6 1) (at powers (6 * i + 3)))
 
-abbrev invariant-loop : tie.invariant-loop
+abbrev invariant-loop : tie.invariant-loop-i
 invariant-loop rows values₀ i₀ values i = (i ≤ 6) × (each (turn rows.rows) i 6 values ≡ third_of rows.rows)
 
-abbrev decreases-loop : tie.decreases-loop
+abbrev decreases-loop : tie.decreases-loop-i
 decreases-loop rows values₀ i₀ values i = 6 - i
 
-loop-holds : tie.Need-loop-init invariant-loop decreases-loop
+loop-holds : tie.Need-loop-i-init invariant-loop decreases-loop
 unfolding third_of
 loop-holds c = (omega arith, refl)
 
-loop-again : tie.Need-loop-preserved invariant-loop decreases-loop
+loop-again : tie.Need-loop-i-preserved invariant-loop decreases-loop
 unfolding of_bits round
-loop-again c = (omega arith, sym (each_turn _ _ _ _ (omega arith)) ∙ c.before.before.loop.invariant.1)
+loop-again c = (omega arith, sym (each_turn _ _ _ _ (omega arith)) ∙ c.loop-i.invariant.1)
 
 returns : tie.Need-returns invariant-loop decreases-loop
-returns c = sym (each_done _ _ _ _ c.loop-test.false) ∙ c.before.loop.invariant.1
+returns c = sym (each_done _ _ _ _ c.loop-i-test.false) ∙ c.loop-i.invariant.1
 
-pub third-spec : {M : Type 1} → statement M
-third-spec =
+pub third_spec : {M : Type 1} → statement M
+third_spec =
     tie.close
     (tie.spec
     invariant-loop

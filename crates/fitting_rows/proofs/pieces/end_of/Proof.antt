@@ -4,13 +4,13 @@ use Rattle.fitting_rows.specs.Pieces.{piece_end}
 use Rattle.fitting_rows.proofs.pieces.end_of.Statement.{statement}
 use Rattle.fitting_rows.proofs.pieces.end_of.Tie as tie
 
-returns : tie.Need-returns
+returns : tie.Need-returns-then-j-mesh
 unfolding piece_end
-returns c = rw (eq-eqb _ _ c.if1.true)
+returns c = rw (eq-eqb _ _ c.if-j-mesh.true)
 
-returns-2 : tie.Need-returns-2
+returns-2 : tie.Need-returns
 unfolding piece_end
-returns-2 c = rw (ne_eqb _ _ c.before.if1.false)
+returns-2 c = rw (ne_eqb _ _ c.if-j-mesh.false)
 
-pub end-of-spec : {M : Type 1} → statement M
-end-of-spec = tie.close (tie.spec returns (λ c. search rules) (λ c. search rules) returns-2)
+pub end_of_spec : {M : Type 1} → statement M
+end_of_spec = tie.close (tie.spec returns (λ c. search rules) (λ c. search rules) returns-2)

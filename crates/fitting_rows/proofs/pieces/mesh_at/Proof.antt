@@ -9,15 +9,14 @@ use Rattle.fitting_rows.proofs.pieces.mesh_at.Tie as tie
 returns : tie.Need-returns
 unfolding mesh_span
 returns c =
-    let s = c.before.before.before.before.before.before.before.before in
-    let p = s.args.p in
-    let l = s.args.cells.now in
-    let left = window_cell p.knots (p.knots + (p.count + 6)) l s.args.span nan (omega arith) in
-    let right = window_cell p.knots (p.knots + (p.count + 6)) l (s.args.span + 1) nan (omega arith) in
-    rw (c.before.before.partition-point-le.ensures, c.partition-point-lt.ensures, left, right)
+    let p = c.args.p in
+    let l = c.args.cells.now in
+    let left = window_cell p.knots (p.knots + (p.count + 6)) l c.args.span nan (omega arith) in
+    let right = window_cell p.knots (p.knots + (p.count + 6)) l (c.args.span + 1) nan (omega arith) in
+    rw (c.partition_point_le-begin.ensures, c.partition_point_lt-end.ensures, left, right)
 
-pub mesh-at-spec : {M : Type 1} → statement M
-mesh-at-spec =
+pub mesh_at_spec : {M : Type 1} → statement M
+mesh_at_spec =
     tie.close
     (tie.spec
     (λ c. search rules)

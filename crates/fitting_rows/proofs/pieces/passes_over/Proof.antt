@@ -5,25 +5,25 @@ use Rattle.fitting_rows.specs.Pieces.{passed_over}
 use Rattle.fitting_rows.proofs.pieces.passes_over.Statement.{statement}
 use Rattle.fitting_rows.proofs.pieces.passes_over.Tie as tie
 
-returns : tie.Need-returns
+returns : tie.Need-returns-then-right-left
 unfolding passed_over
-returns c = rw (c.if1.true, or-true)
+returns c = rw (c.if-right-left.true, or-true)
 
-returns-2 : tie.Need-returns-2
+returns-2 : tie.Need-returns-then-hi-left
 unfolding passed_over
-returns-2 c = rw (c.before.if1.false, c.if2.true, or-true)
+returns-2 c = rw (c.if-right-left.false, c.if-hi-left.true, or-true)
 
-returns-3 : tie.Need-returns-3
+returns-3 : tie.Need-returns-then-right-lo
 unfolding passed_over
-returns-3 c = rw (c.before.before.if1.false, c.before.if2.false, c.if3.true, or-true)
+returns-3 c = rw (c.if-right-left.false, c.if-hi-left.false, c.if-right-lo.true, or-true)
 
-returns-4 : tie.Need-returns-4
+returns-4 : tie.Need-returns
 unfolding passed_over
-returns-4 c = rw (c.before.before.before.if1.false, c.before.before.if2.false, c.before.if3.false)
-    (simp or-false c.is-dense.ensures)
+returns-4 c = rw (c.if-right-left.false, c.if-hi-left.false, c.if-right-lo.false)
+    (simp or-false c.is_dense.ensures)
 
-pub passes-over-spec : {M : Type 1} → statement M
-passes-over-spec =
+pub passes_over_spec : {M : Type 1} → statement M
+passes_over_spec =
     tie.close
     (tie.spec
     (λ c. search rules)

@@ -4,14 +4,14 @@ use Rattle.fitting_rows.specs.Pieces.{piece_start}
 use Rattle.fitting_rows.proofs.pieces.start_of.Statement.{statement}
 use Rattle.fitting_rows.proofs.pieces.start_of.Tie as tie
 
-returns : tie.Need-returns
+returns : tie.Need-returns-then-j-mesh
 unfolding piece_start
-returns c = rw (eq-eqb _ _ c.if1.true)
+returns c = rw (eq-eqb _ _ c.if-j-mesh.true)
 
-returns-2 : tie.Need-returns-2
+returns-2 : tie.Need-returns
 unfolding piece_start
-returns-2 c = rw (ne_eqb _ _ c.before.if1.false)
+returns-2 c = rw (ne_eqb _ _ c.if-j-mesh.false)
 
-pub start-of-spec : {M : Type 1} → statement M
-start-of-spec =
+pub start_of_spec : {M : Type 1} → statement M
+start_of_spec =
     tie.close (tie.spec returns (λ c. search rules) (λ c. search rules) (λ c. search rules) returns-2)

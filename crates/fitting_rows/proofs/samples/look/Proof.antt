@@ -10,34 +10,31 @@ use Rattle.fitting_rows.proofs.Rooms.{span_ends}
 use Rattle.fitting_rows.proofs.samples.look.Statement.{statement}
 use Rattle.fitting_rows.proofs.samples.look.Tie as tie
 
-returns : tie.Need-returns
+returns : tie.Need-returns-then-span-seen
 returns c =
-    let s = c.before.before.before.before.before.before.before in
-    let p = s.args.p in
-    let l = s.args.cells.now in
-    let cell = window_cell p.parameters (p.parameters + p.samples) l s.args.i nan (omega arith) in (
-      sym c.if1.true ∙ c.before.before.span.ensures ∙ ap (λ (x : Float). span_of floats (arrays_at p l).t p.count x) (sym cell),
-      s.requires.1,
+    let p = c.args.p in
+    let l = c.args.cells.now in
+    let cell = window_cell p.parameters (p.parameters + p.samples) l c.args.i nan (omega arith) in (
+      sym c.if-span-seen.true ∙ c.span-span.ensures ∙ ap (λ (x : Float). span_of floats (arrays_at p l).t p.count x) (sym cell),
+      c.requires.1,
     )
 
-is-dense-requires : tie.Need-is-dense-requires
+is-dense-requires : tie.Need-is_dense-dense-requires
 is-dense-requires c κs =
-    let s = c.before.before.before.before.before.before.before.before.before in
-    let p = s.args.p in
-    let l = s.args.cells.now in
-    let h = s.requires.0.0 in
-    let r = c.before.before.before.before.span in
+    let p = c.args.p in
+    let l = c.args.cells.now in
+    let h = c.requires.0.0 in
+    let r = c.span-span in
     let k : r.result < p.count = rw r.ensures (span_within _ p.count _ h.0).1 in
     span_ends p l h r.result k
 
-returns-2 : tie.Need-returns-2
+returns-2 : tie.Need-returns
 returns-2 c =
-    let s = c.before.before.before.before.before.before.before.before.before.before in
-    let p = s.args.p in
-    let l = s.args.cells.now in
-    let cell = window_cell p.parameters (p.parameters + p.samples) l s.args.i nan (omega arith) in (
-      c.before.before.before.before.before.span.ensures ∙ ap (λ (x : Float). span_of floats (arrays_at p l).t p.count x) (sym cell),
-      c.is-dense.ensures,
+    let p = c.args.p in
+    let l = c.args.cells.now in
+    let cell = window_cell p.parameters (p.parameters + p.samples) l c.args.i nan (omega arith) in (
+      c.span-span.ensures ∙ ap (λ (x : Float). span_of floats (arrays_at p l).t p.count x) (sym cell),
+      c.is_dense-dense.ensures,
     )
 
 pub look_spec : {M : Type 1} → statement M

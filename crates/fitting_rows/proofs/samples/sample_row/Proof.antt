@@ -7,14 +7,14 @@ use Rattle.fitting_rows.proofs.samples.sample_row.Tie as tie
 returns : tie.Need-returns
 unfolding sample_row_of
 returns c =
-    rw c.fitting-row.ensures (rw (
-      c.before.before.before.before.before.values.ensures,
-      c.before.before.before.before.weight.ensures,
-      c.before.before.before.point.ensures,
+    rw c.fitting_row.ensures (rw (
+      c.values-b.ensures,
+      c.weight-w.ensures,
+      c.point-p.ensures,
     ))
 
-pub sample-row-spec : {M : Type 1} → statement M
-sample-row-spec =
+pub sample_row_spec : {M : Type 1} → statement M
+sample_row_spec =
     tie.close
     (tie.spec
     (λ c. search rules)

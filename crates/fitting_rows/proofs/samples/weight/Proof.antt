@@ -5,20 +5,20 @@ use Rattle.fitting_rows.specs.Samples.{weight_of}
 use Rattle.fitting_rows.proofs.samples.weight.Statement.{statement}
 use Rattle.fitting_rows.proofs.samples.weight.Tie as tie
 
-returns : tie.Need-returns
+returns : tie.Need-returns-then-i-eq0
 unfolding weight_of of_bits
-returns c = rw (eq-eqb _ _ c.before.before.if1.true)
+returns c = rw (eq-eqb _ _ c.if-i-eq0.true)
 
-returns-2 : tie.Need-returns-2
+returns-2 : tie.Need-returns-then-i-n
 unfolding weight_of of_bits
-returns-2 c = rw (ne_eqb _ _ c.before.before.before.if1.false, eq-eqb _ _ c.before.before.if2.true)
+returns-2 c = rw (ne_eqb _ _ c.if-i-eq0.false, eq-eqb _ _ c.if-i-n.true)
 
-returns-3 : tie.Need-returns-3
+returns-3 : tie.Need-returns
 unfolding weight_of of_bits
-returns-3 c = rw (ne_eqb _ _ c.before.before.before.if1.false, ne_eqb _ _ c.before.before.if2.false)
+returns-3 c = rw (ne_eqb _ _ c.if-i-eq0.false, ne_eqb _ _ c.if-i-n.false)
 
-pub weight-spec : {M : Type 1} → statement M
-weight-spec =
+pub weight_spec : {M : Type 1} → statement M
+weight_spec =
     tie.close
     (tie.spec
     (λ c. search rules)

@@ -14,45 +14,45 @@ use Rattle.float.proofs.next.next_down.Reads as reads
 use Rattle.float.proofs.next.next_down.Lts as lts
 
 held : (c : lts.Start reads.Pre reads.Post) → T (fits binary64 c.args.x)
-held c = subst T (sym c.well-formed.0.1) tt
+held c = subst T (sym c.well_formed.0.1) tt
 
 -- x is no NaN: its bits are no NaN's, and give the answer's
-module _ (c : lts.Else1 reads.Pre reads.Post) where
+module _ (c : lts.Else-x reads.Pre reads.Post) where
   plain : to_bits binary64 c.before.args.x % 0x8000_0000_0000_0000 ≤ 0x7ff0_0000_0000_0000
-  plain = plain_bits c.before.args.x (held c.before) (nan_no c.before.args.x c.if1.false)
+  plain = plain_bits c.before.args.x (held c.before) (nan_no c.before.args.x c.if-x.false)
 
   answer : (n : ℕ) → down_bits binary64 (to_bits binary64 c.before.args.x) ≡ n → of_bits binary64 n
       ≡ next_down binary64 c.before.args.x
-  answer n e = sym (next_down_bits binary64 c.before.args.x (nan_no c.before.args.x c.if1.false) ∙ ap (of_bits binary64) e)
+  answer n e = sym (next_down_bits binary64 c.before.args.x (nan_no c.before.args.x c.if-x.false) ∙ ap (of_bits binary64) e)
 
-returns : tie.Need-returns
-returns c = rw (nan_yes c.before.args.x c.if1.true) (sym (next_down_nan binary64))
+returns : tie.Need-returns-then-x
+returns c = rw (nan_yes c.before.args.x c.if-x.true) (sym (next_down_nan binary64))
 
-float-to-bits-b : tie.Need-float-to-bits-b
-float-to-bits-b c = rw (nan_no c.before.args.x c.if1.false) tt
+float-to-bits-b : tie.Need-float_to_bits-b
+float-to-bits-b c = rw (nan_no c.before.args.x c.if-x.false) tt
 
-returns-2 : tie.Need-returns-2
-returns-2 c = answer c.before _ (down_when_plus_zero binary64 _ c.if2.true)
+returns-2 : tie.Need-returns-then-b-eq0
+returns-2 c = answer c.before _ (down_when_plus_zero binary64 _ c.if-b-eq0.true)
 
-float-from-bits-result-2 : tie.Need-float-from-bits-result-2
+float-from-bits-result-2 : tie.Need-float_from_bits-result-then-b-lt9223372036854775808
 float-from-bits-result-2 c = bits_plain _ (omega (arith, plain c.before.before))
 
-returns-3 : tie.Need-returns-3
-returns-3 c = answer c.before.before _ (down_when_positive binary64 _ c.before.if2.false c.if3.true)
+returns-3 : tie.Need-returns-then-b-lt9223372036854775808
+returns-3 c = answer c.before.before _ (down_when_positive binary64 _ c.before.if-b-eq0.false c.if-b-lt9223372036854775808.true)
 
-float-from-bits-result-3 : tie.Need-float-from-bits-result-3
+float-from-bits-result-3 : tie.Need-float_from_bits-result-then-b-lt18442240474082181120
 float-from-bits-result-3 c = bits_plain _ (omega arith)
 
-returns-4 : tie.Need-returns-4
-returns-4 c = answer c.before.before.before _ (down_when_negative binary64 _ c.before.if3.false c.if4.true)
+returns-4 : tie.Need-returns-then-b-lt18442240474082181120
+returns-4 c = answer c.before.before.before _ (down_when_negative binary64 _ c.before.if-b-lt9223372036854775808.false c.if-b-lt18442240474082181120.true)
 
-returns-5 : tie.Need-returns-5
+returns-5 : tie.Need-returns
 returns-5 c =
     let s = c.before.before.before in
-    sym (of_bits-to_bits binary64 _ (held s.before)) ∙ answer s _ (down_when_infinity binary64 _ c.if4.false)
+    sym (of_bits-to_bits binary64 _ (held s.before)) ∙ answer s _ (down_when_infinity binary64 _ c.if-b-lt18442240474082181120.false)
 
-pub next-down-spec : {M : Type 1} → statement M
-next-down-spec =
+pub next_down_spec : {M : Type 1} → statement M
+next_down_spec =
     tie.close
     (tie.spec
     returns

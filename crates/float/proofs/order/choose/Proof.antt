@@ -6,17 +6,17 @@ use Rattle.float.proofs.Tests.{nan_yes, nan_no}
 use Rattle.float.proofs.order.choose.Statement.{statement}
 use Rattle.float.proofs.order.choose.Tie as tie
 
-returns : tie.Need-returns
+returns : tie.Need-returns-then-x
 unfolding chosen is_nan
-returns c = sym (rw (nan_yes c.before.args.x c.if1.true))
+returns c = sym (rw (nan_yes c.before.args.x c.if-x.true))
 
-returns-2 : tie.Need-returns-2
+returns-2 : tie.Need-returns-then-second
 unfolding chosen
-returns-2 c = sym (rw (nan_no c.before.before.args.x c.before.if1.false, c.if2.true))
+returns-2 c = sym (rw (nan_no c.before.before.args.x c.before.if-x.false, c.if-second.true))
 
-returns-3 : tie.Need-returns-3
+returns-3 : tie.Need-returns
 unfolding chosen
-returns-3 c = sym (rw (nan_no c.before.before.args.x c.before.if1.false, c.if2.false))
+returns-3 c = sym (rw (nan_no c.before.before.args.x c.before.if-x.false, c.if-second.false))
 
 pub choose_spec : {M : Type 1} → statement M
 choose_spec = tie.close (tie.spec returns returns-2 returns-3)

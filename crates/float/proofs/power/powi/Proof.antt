@@ -18,13 +18,13 @@ use Rattle.float.proofs.power.powi.Tie as tie
 abbrev Left : Float → ℕ → Float → Float → ℕ → Type 0
 Left x n result base left = (d : ℕ) × (left < 2 ^ d) × (power_in floats d result base left ≡ power_of floats x n)
 
-abbrev invariant-loop : tie.invariant-loop
+abbrev invariant-loop : tie.invariant-loop-left
 invariant-loop x n result₀ base₀ left₀ result base left = Left x n result base left
 
-abbrev decreases-loop : tie.decreases-loop
+abbrev decreases-loop : tie.decreases-loop-left
 decreases-loop x n result₀ base₀ left₀ result base left = left
 
-loop-holds : tie.Need-loop-init invariant-loop decreases-loop
+loop-holds : tie.Need-loop-left-init invariant-loop decreases-loop
 unfolding power_of
 loop-holds c = (32, omega arith, refl)
 
@@ -48,13 +48,13 @@ odd-digit k r b h = sym (rw (is_true (eqb (k % 2) 1) (eq→eqb h)))
 even-digit : (k : ℕ) (r b : Float) → (k % 2 ≡ 1 → ⊥) → r ≡ cond (eqb (k % 2) 1) (mul binary64 r b) r
 even-digit k r b h = sym (rw (is_false (eqb (k % 2) 1) (not_T (eqb (k % 2) 1) (λ t. h (eqb→eq (k % 2) 1 t)))))
 
-loop-again : tie.Need-loop-preserved invariant-loop decreases-loop
+loop-again : tie.Need-loop-left-preserved invariant-loop decreases-loop
 loop-again c =
-    let l = c.before.before.loop in
+    let l = c.before.before.loop-left in
     let a = c.before.before.before.args in
-    turn a.x a.n l.result l.base l.left c.if1.result (omega arith)
-    (⊎_elim (λ w. w.1 ∙ odd-digit l.left l.result l.base w.0.taken) (λ w. w.1 ∙ even-digit l.left l.result l.base
-    w.0.left) c.if1.branch)
+    turn a.x a.n l.result l.base l.left c.if-left-eq1.result (omega arith)
+    (⊎_elim (λ w. w.result-is ∙ odd-digit l.left l.result l.base w.if-left-eq1.true) (λ w. w.result-is ∙ even-digit l.left l.result l.base
+    w.if-left-eq1.false) c.if-left-eq1.branch-raw)
     l.invariant
 
 none_left : (d : ℕ) (r b : Float) → power_in floats d r b 0 ≡ r
@@ -67,9 +67,9 @@ finish x n r b k e (d, l, p) = sym (ap (power_in floats d r b) e ∙ none_left d
 
 returns : tie.Need-returns invariant-loop decreases-loop
 returns c =
-    let l = c.before.loop in
+    let l = c.before.loop-left in
     let a = c.before.before.args in
     finish a.x a.n l.result l.base l.left (omega arith) l.invariant
 
-pub powi-spec : {M : Type 1} → statement M
-powi-spec = tie.close (tie.spec invariant-loop decreases-loop loop-holds (λ c. omega arith) loop-again returns)
+pub powi_spec : {M : Type 1} → statement M
+powi_spec = tie.close (tie.spec invariant-loop decreases-loop loop-holds (λ c. omega arith) loop-again returns)

@@ -30,26 +30,26 @@ bb k =
     let b : k % 0x400_0000 ≤ 0x400_0000 = omega arith in
     mul-le-mul b b
 
-mul-if1 : tie.Need-overflow-mul-if1
+mul-if1 : tie.Need-overflow_mul-a
 mul-if1 c = omega (arith, aa c.args.k (omega arith))
 
-mul-u : tie.Need-overflow-mul-u
+mul-u : tie.Need-overflow_mul-u
 mul-u c = omega (arith, ab c.before.before.args.k (omega arith))
 
-mul-u-2 : tie.Need-overflow-mul-u-2
+mul-u-2 : tie.Need-overflow_mul-u-2
 mul-u-2 c = omega (arith, ab c.before.before.args.k (omega arith))
 
-mul-if5 : tie.Need-overflow-mul-if5
+mul-if5 : tie.Need-overflow_mul-b
 mul-if5 c = omega (arith, bb c.before.before.before.before.args.k)
 
-returns-6 : tie.Need-returns-6
+returns-6 : tie.Need-returns
 returns-6 c e =
     let s = c.before.before.before.before.before in
     confirms s.args.w s.args.k (s.args.k / 0x400_0000) (s.args.k % 0x400_0000) (omega arith)
-    c.before.before.before.before.if1.false c.before.before.if3.false c.if5.false (leb-true _ _ e)
+    c.before.before.before.before.if-w-a.false c.before.before.if-t-u.false c.if-v-b.false (leb-true _ _ e)
 
-pub confirm-spec : {M : Type 1} → statement M
-confirm-spec =
+pub confirm_spec : {M : Type 1} → statement M
+confirm_spec =
     tie.close
     (tie.spec
     mul-if1

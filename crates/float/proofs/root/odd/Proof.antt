@@ -7,17 +7,17 @@ use Rattle.float.proofs.Exponents.{less_fits, left_fits, left_is, count_cast}
 use Rattle.float.proofs.root.odd.Statement.{statement}
 use Rattle.float.proofs.root.odd.Tie as tie
 
-sub-result : tie.Need-overflow-sub-result
+sub-result : tie.Need-overflow_sub-result
 sub-result c = less_fits c.args.above c.requires c.ranges.above
 
-sub-result-2 : tie.Need-overflow-sub-result-2
+sub-result-2 : tie.Need-overflow_sub-result-2
 sub-result-2 c = left_fits c.args.above c.requires c.ranges.above
 
-cast-result : tie.Need-overflow-cast-result
+cast-result : tie.Need-overflow_cast-result
 cast-result c = count_cast _ (nat_abs c.args.above % 2) (left_is c.args.above c.requires c.ranges.above) (omega arith)
 
 returns : tie.Need-returns
 returns c = ap nat_abs (left_is c.args.above c.requires c.ranges.above)
 
-pub odd-spec : {M : Type 1} → statement M
-odd-spec = tie.close (tie.spec sub-result sub-result-2 cast-result returns)
+pub odd_spec : {M : Type 1} → statement M
+odd_spec = tie.close (tie.spec sub-result sub-result-2 cast-result returns)

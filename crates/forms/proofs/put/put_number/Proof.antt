@@ -18,35 +18,35 @@ put : (l after groups : List ℕ) (at n to : ℕ) → groups_of 3 n ≡ groups �
 put l after groups at n to e h g m =
     (h ∙ ap (λ (v : List ℕ). written at v l) (sym e), g ∙ ap (λ (v : List ℕ). at + length v) (sym e), m)
 
-returns : tie.Need-returns
+returns : tie.Need-returns-then-n-lt128
 returns c =
-    let a = c.before.args in
-    put a.file.now _ _ a.at a.n _ (one_group a.n c.if1.true) (set_written a.file.now a.at _ (omega arith))
+    let a = c.args in
+    put a.file.now _ _ a.at a.n _ (one_group a.n c.if-n-lt128.true) (set_written a.file.now a.at _ (omega arith))
     (omega arith) (omega arith)
 
-slice-write-file-3 : tie.Need-slice-write-file-3
+slice-write-file-3 : tie.Need-bounds-file-at-then-rest-lt128
 slice-write-file-3 c = simp length-set (omega arith)
 
-returns-2 : tie.Need-returns-2
+returns-2 : tie.Need-returns-then-rest-lt128
 returns-2 c =
-    let a = c.before.before.args in
-    put a.file.now _ _ a.at a.n _ (two_groups a.n c.before.if1.false c.if2.true)
+    let a = c.args in
+    put a.file.now _ _ a.at a.n _ (two_groups a.n c.if-n-lt128.false c.if-rest-lt128.true)
     (two_bytes a.file.now a.at _ _ (omega arith)) (omega arith) (omega arith)
 
-slice-write-file-4 : tie.Need-slice-write-file-4
+slice-write-file-4 : tie.Need-bounds-file-at-3
 slice-write-file-4 c = simp length-set (omega arith)
 
-slice-write-file-5 : tie.Need-slice-write-file-5
+slice-write-file-5 : tie.Need-bounds-file-at-4
 slice-write-file-5 c = simp length-set (omega arith)
 
-returns-3 : tie.Need-returns-3
+returns-3 : tie.Need-returns
 returns-3 c =
-    let a = c.before.before.args in
-    put a.file.now _ _ a.at a.n _ (three_groups a.n (omega arith) c.if2.false)
+    let a = c.args in
+    put a.file.now _ _ a.at a.n _ (three_groups a.n (omega arith) c.if-rest-lt128.false)
     (three_bytes a.file.now a.at _ _ _ (omega arith)) (omega arith) (omega arith)
 
-pub put-number-spec : {M : Type 1} → statement M
-put-number-spec =
+pub put_number_spec : {M : Type 1} → statement M
+put_number_spec =
     tie.close
     (tie.spec
     (λ c. search rules)

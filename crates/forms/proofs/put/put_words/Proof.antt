@@ -7,40 +7,38 @@ use Rattle.forms.proofs.Putting.{Left, words_first, words_next, words_last, word
 use Rattle.forms.proofs.put.put_words.Statement.{statement}
 use Rattle.forms.proofs.put.put_words.Tie as tie
 
-abbrev invariant-loop : tie.invariant-loop
+abbrev invariant-loop : tie.invariant-loop-i
 invariant-loop file₀ at cells i₀ file i = (i ≤ length cells) × (length file ≡ length file₀) × Left file₀ at cells file i
 
-abbrev decreases-loop : tie.decreases-loop
+abbrev decreases-loop : tie.decreases-loop-i
 decreases-loop file₀ at cells i₀ file i = length cells - i
 
-loop-holds : tie.Need-loop-init invariant-loop decreases-loop
-loop-holds c = let a = c.before.before.args in (omega arith, refl, words_first a.file.now a.at a.cells.now)
+loop-holds : tie.Need-loop-i-init invariant-loop decreases-loop
+loop-holds c = let a = c.args in (omega arith, refl, words_first a.file.now a.at a.cells.now)
 
-put-word-requires : tie.Need-put-word-requires invariant-loop decreases-loop
-put-word-requires c κs = omega (arith, c.before.before.before.loop.invariant.1, c.before.before.before.before.before.before.requires)
+put-word-requires : tie.Need-put_word-requires invariant-loop decreases-loop
+put-word-requires c κs = omega (arith, c.loop-i.invariant.1, c.requires)
 
-loop-again : tie.Need-loop-preserved invariant-loop decreases-loop
+loop-again : tie.Need-loop-i-preserved invariant-loop decreases-loop
 loop-again c =
-    let s = c.before.before.before.before.before.before.before.before.before in
-    let l = c.before.before.before.before.before.before.loop in
-    let e = c.before.before.put_word.ensures in
-    let room : s.args.at + 8 * l.i + 8 ≤ length l.file = omega (arith, l.invariant.1, s.requires) in (
+    let l = c.loop-i in
+    let e = c.put_word.ensures in
+    let room : c.args.at + 8 * l.i + 8 ≤ length l.file = omega (arith, l.invariant.1, c.requires) in (
       omega arith,
-      ap length e ∙ word_length (s.args.at + 8 * l.i) (get_or s.args.cells.now l.i 0) l.file room ∙ l.invariant.1,
-      rw e (words_next s.args.file.now s.args.at s.args.cells.now l.file l.i _ (omega arith) room refl l.invariant.2),
+      ap length e ∙ word_length (c.args.at + 8 * l.i) (get_or c.args.cells.now l.i 0) l.file room ∙ l.invariant.1,
+      rw e (words_next c.args.file.now c.args.at c.args.cells.now l.file l.i _ (omega arith) room refl l.invariant.2),
     )
 
-same_length : tie.Need-same-length invariant-loop decreases-loop
-same_length c = c.before.loop.invariant.1
+same_length : tie.Need-shape_of-file invariant-loop decreases-loop
+same_length c = c.loop-i.invariant.1
 
 returns : tie.Need-returns invariant-loop decreases-loop
 returns c =
-    let s = c.before.before.before.before in
-    let l = c.before.loop in
-    words_last s.args.file.now s.args.at s.args.cells.now l.file l.i (omega arith) l.invariant.2
+    let l = c.loop-i in
+    words_last c.args.file.now c.args.at c.args.cells.now l.file l.i (omega arith) l.invariant.2
 
-pub put-words-spec : {M : Type 1} → statement M
-put-words-spec =
+pub put_words_spec : {M : Type 1} → statement M
+put_words_spec =
     tie.close
     (tie.spec
     invariant-loop

@@ -9,5 +9,5 @@ returns : tie.Need-returns
 unfolding held
 returns c = refl
 
-pub has-spec : {M : Type 1} → statement M
-has-spec = tie.close (tie.spec (λ c. omega arith) returns)
+pub has_spec : {M : Type 1} → statement M
+has_spec = tie.close (tie.spec (λ c. omega arith) returns)

@@ -12,5 +12,5 @@ returns c l =
     let a = c.args in
     held_or a.set _ l ∙ ap (λ (b : Bool). held a.set l || b) (held_one a.lane l (omega arith))
 
-pub insert-spec : {M : Type 1} → statement M
-insert-spec = tie.close (tie.spec (λ c. omega arith) returns)
+pub insert_spec : {M : Type 1} → statement M
+insert_spec = tie.close (tie.spec (λ c. omega arith) returns)

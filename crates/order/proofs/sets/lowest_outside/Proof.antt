@@ -12,38 +12,38 @@ use Rattle.order.proofs.sets.lowest_outside.Tie as tie
 abbrev outside : ℕ → ℕ → Bool
 outside set l = not (held set l)
 
-abbrev invariant-loop : tie.invariant-loop
+abbrev invariant-loop : tie.invariant-loop-lane
 invariant-loop set lanes lane₀ lane = (lane ≤ lanes) × (first_of lane (outside set) ≡ lane)
 
-abbrev decreases-loop : tie.decreases-loop
+abbrev decreases-loop : tie.decreases-loop-lane
 decreases-loop set lanes lane₀ lane = lanes - lane
 
-loop-holds : tie.Need-loop-init invariant-loop decreases-loop
+loop-holds : tie.Need-loop-lane-init invariant-loop decreases-loop
 unfolding first_of
 loop-holds c = (omega arith, refl)
 
-loop-again : tie.Need-loop-preserved invariant-loop decreases-loop
+loop-again : tie.Need-loop-lane-preserved invariant-loop decreases-loop
 loop-again c =
     let l = c.before.before.before in (
       omega arith,
-      first_next (outside l.before.args.set) l.loop.lane l.loop.invariant.1
-          (ap not (sym c.before.has.ensures ∙ c.if1.true)),
+      first_next (outside l.before.args.set) l.loop-lane.lane l.loop-lane.invariant.1
+          (ap not (sym c.before.has.ensures ∙ c.if-has.true)),
     )
 
-returns : tie.Need-returns invariant-loop decreases-loop
+returns : tie.Need-returns-else-has invariant-loop decreases-loop
 returns c =
     let l = c.before.before.before in
-    sym (first_found (outside l.before.args.set) l.before.args.lanes l.loop.lane c.before.before.loop-test.true
-    l.loop.invariant.1 (ap not (sym c.before.has.ensures ∙ c.if1.false)))
+    sym (first_found (outside l.before.args.set) l.before.args.lanes l.loop-lane.lane c.before.before.loop-lane-test.true
+    l.loop-lane.invariant.1 (ap not (sym c.before.has.ensures ∙ c.if-has.false)))
 
-returns-2 : tie.Need-returns-2 invariant-loop decreases-loop
+returns-2 : tie.Need-returns invariant-loop decreases-loop
 returns-2 c =
     let l = c.before in
-    let e : l.loop.lane ≡ l.before.args.lanes = omega arith in
-    e ∙ sym (rw e at l.loop.invariant.1)
+    let e : l.loop-lane.lane ≡ l.before.args.lanes = omega arith in
+    e ∙ sym (rw e at l.loop-lane.invariant.1)
 
-pub lowest-outside-spec : {M : Type 1} → statement M
-lowest-outside-spec =
+pub lowest_outside_spec : {M : Type 1} → statement M
+lowest_outside_spec =
     tie.close
     (tie.spec
     invariant-loop

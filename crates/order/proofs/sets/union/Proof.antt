@@ -6,5 +6,5 @@ use Rattle.order.proofs.sets.union.Tie as tie
 returns : tie.Need-returns
 returns c l = held_or _ _ l
 
-pub union-spec : {M : Type 1} → statement M
-union-spec = tie.close (tie.spec returns)
+pub union_spec : {M : Type 1} → statement M
+union_spec = tie.close (tie.spec returns)

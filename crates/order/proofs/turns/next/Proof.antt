@@ -9,9 +9,9 @@ returns : tie.Need-returns
 returns c list s =
     let w = c.before.before in
     let a = w.before.args in
-    c.lowest-outside.ensures
+    c.lowest_outside.ensures
     ∙ lowest_ready a.lanes a.pairs.now a.cut w.waiting.result c.before.union.result w.before.requires.1
     w.waiting.ensures c.before.union.ensures list s
 
-pub next-spec : {M : Type 1} → statement M
-next-spec = tie.close (tie.spec (λ c κs. search rules) (λ c κs. search rules) (λ c κs. search rules) returns)
+pub next_spec : {M : Type 1} → statement M
+next_spec = tie.close (tie.spec (λ c κs. search rules) (λ c κs. search rules) (λ c κs. search rules) returns)

@@ -3,13 +3,13 @@ use Rattle.fraction.specs.DirectedSum.{plain_zero}
 use Rattle.pairs.proofs.directed.plain.Statement.{statement}
 use Rattle.pairs.proofs.directed.plain.Tie as tie
 
-returns : tie.Need-returns
+returns : tie.Need-returns-then-x
 unfolding plain_zero
-returns c = rw c.if1.true
+returns c = rw c.if-x.true
 
-returns-2 : tie.Need-returns-2
+returns-2 : tie.Need-returns
 unfolding plain_zero
-returns-2 c = rw c.if1.false
+returns-2 c = rw c.if-x.false
 
-pub plain-spec : {M : Type 1} → statement M
-plain-spec = tie.close (tie.spec returns returns-2)
+pub plain_spec : {M : Type 1} → statement M
+plain_spec = tie.close (tie.spec returns returns-2)

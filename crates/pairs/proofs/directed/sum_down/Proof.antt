@@ -5,7 +5,7 @@ use Rattle.pairs.proofs.directed.sum_down.Statement.{statement}
 use Rattle.pairs.proofs.directed.sum_down.Tie as tie
 
 returns : tie.Need-returns
-returns c = c.plain.ensures ∙ c.before.lower-sum.ensures
+returns c = c.plain.ensures ∙ c.lower_sum.ensures
 
-pub sum-down-spec : {M : Type 1} → statement M
-sum-down-spec = tie.close (tie.spec (λ c κs. search rules) (λ c κs. search rules) returns)
+pub sum_down_spec : {M : Type 1} → statement M
+sum_down_spec = tie.close (tie.spec (λ c κs. search rules) (λ c κs. search rules) returns)

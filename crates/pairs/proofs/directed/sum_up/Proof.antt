@@ -10,8 +10,8 @@ use Rattle.pairs.proofs.directed.sum_up.Tie as tie
 returns : tie.Need-returns
 unfolding upward_sum
 returns c =
-    c.plain.ensures ∙ sym (plain_turned c.before.lower-sum.result)
-    ∙ ap (λ (z : Float). plain_zero binary64 (neg z)) c.before.lower-sum.ensures
+    c.plain.ensures ∙ sym (plain_turned c.lower_sum.result)
+    ∙ ap (λ (z : Float). plain_zero binary64 (neg z)) c.lower_sum.ensures
 
-pub sum-up-spec : {M : Type 1} → statement M
-sum-up-spec = tie.close (tie.spec (λ c κs. search rules) (λ c κs. search rules) returns)
+pub sum_up_spec : {M : Type 1} → statement M
+sum_up_spec = tie.close (tie.spec (λ c κs. search rules) (λ c κs. search rules) returns)

@@ -10,11 +10,10 @@ use Rattle.pairs.proofs.ends.add.Tie as tie
 returns : tie.Need-returns
 unfolding add_pairs
 returns c =
-    let d = c.before.before in
-    let a = d.before.before.before.args in
+    let a = c.args in
     operation_is (add_pairs binary64) (add_strict binary64) a.x.good a.y.good a.x.low a.x.high a.y.low a.y.high _ _ _
-    c.kept2.ensures c.before.kept.ensures
-    (rw (d.before.sum-up.ensures, d.before.before.sum-down.ensures) at d.finite-ends.ensures)
+    c.kept-2.ensures c.kept.ensures
+    (rw (c.sum_up.ensures, c.sum_down.ensures) at c.finite_ends-e.ensures)
 
 pub add_spec : {M : Type 1} → statement M
 add_spec = tie.close (tie.spec (λ c κs. search rules) (λ c κs. search rules) (λ c κs. search rules) (λ c κs. search rules)

@@ -2,5 +2,5 @@
 use Rattle.pairs.proofs.ends.and.Statement.{statement}
 use Rattle.pairs.proofs.ends.and.Tie as tie
 
-pub and-spec : {M : Type 1} → statement M
-and-spec = tie.close (tie.spec (λ c. rw c.if1.true) (λ c. rw c.if1.false))
+pub and_spec : {M : Type 1} → statement M
+and_spec = tie.close (tie.spec (λ c. rw c.if-a.true) (λ c. rw c.if-a.false))

@@ -12,10 +12,10 @@ use Rattle.pairs.proofs.ends.divide_by.Tie as tie
 returns : tie.Need-returns
 unfolding divide_pairs
 returns c =
-    let a = c.before.before.before.before.before.args in
-    operation_is (divide_pairs binary64) (divide_strict binary64) a.x.good true a.x.low a.x.high a.c a.c _ _ _ c.kept2.ensures
+    let a = c.args in
+    operation_is (divide_pairs binary64) (divide_strict binary64) a.x.good true a.x.low a.x.high a.c a.c _ _ _ c.kept-2.ensures
     refl
-    (rw c.before.before.widened.ensures at c.before.kept.ensures)
+    (rw c.widened.ensures at c.kept.ensures)
 
-pub divide-by-spec : {M : Type 1} → statement M
-divide-by-spec = tie.close (tie.spec (λ c κs. search rules) (λ c κs. search rules) (λ c κs. search rules) returns)
+pub divide_by_spec : {M : Type 1} → statement M
+divide_by_spec = tie.close (tie.spec (λ c κs. search rules) (λ c κs. search rules) (λ c κs. search rules) returns)

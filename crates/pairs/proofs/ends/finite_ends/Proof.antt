@@ -9,9 +9,9 @@ use Rattle.pairs.proofs.ends.finite_ends.Tie as tie
 returns : tie.Need-returns
 unfolding finite_ends
 returns c =
-    let a = c.before.before.before.before.args in
-    kept_twice (finite a.a) (finite a.b) (pair a.a a.b) _ _ (rw c.before.before.before.is_finite.ensures
-    at c.kept2.ensures) (rw c.before.before.is-finite2.ensures at c.before.kept.ensures)
+    let a = c.args in
+    kept_twice (finite a.a) (finite a.b) (pair a.a a.b) _ _ (rw c.is_finite.ensures
+    at c.kept-2.ensures) (rw c.is_finite-2.ensures at c.kept.ensures)
 
-pub finite-ends-spec : {M : Type 1} → statement M
-finite-ends-spec = tie.close (tie.spec (λ c κs. search rules) (λ c κs. search rules) (λ c κs. search rules) (λ c κs. search rules) returns)
+pub finite_ends_spec : {M : Type 1} → statement M
+finite_ends_spec = tie.close (tie.spec (λ c κs. search rules) (λ c κs. search rules) (λ c κs. search rules) (λ c κs. search rules) returns)

@@ -5,7 +5,7 @@ use Rattle.pairs.proofs.ends.kept.Statement.{statement}
 use Rattle.pairs.proofs.ends.kept.Tie as tie
 
 returns : tie.Need-returns
-returns c = rw c.and.ensures (kept_flag c.before.args.good c.before.args.e.good _)
+returns c = rw c.and.ensures (kept_flag c.args.good c.args.e.good _)
 
-pub kept-spec : {M : Type 1} → statement M
-kept-spec = tie.close (tie.spec (λ c κs. search rules) returns)
+pub kept_spec : {M : Type 1} → statement M
+kept_spec = tie.close (tie.spec (λ c κs. search rules) returns)

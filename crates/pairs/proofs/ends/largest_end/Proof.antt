@@ -6,7 +6,7 @@ use Rattle.pairs.proofs.ends.largest_end.Tie as tie
 
 returns : tie.Need-returns
 unfolding largest_absolute
-returns c = rw (c.higher.ensures, c.before.abs2.ensures, c.before.before.abs.ensures)
+returns c = rw (c.higher.ensures, c.abs-2.ensures, c.abs.ensures)
 
-pub largest-end-spec : {M : Type 1} → statement M
-largest-end-spec = tie.close (tie.spec (λ c κs. search rules) (λ c κs. search rules) (λ c κs. search rules) returns)
+pub largest_end_spec : {M : Type 1} → statement M
+largest_end_spec = tie.close (tie.spec (λ c κs. search rules) (λ c κs. search rules) (λ c κs. search rules) returns)

@@ -10,9 +10,9 @@ use Rattle.pairs.proofs.ends.multiply.Tie as tie
 returns : tie.Need-returns
 unfolding multiply_pairs
 returns c =
-    let a = c.before.before.before.before.before.before.before.before.before.before.before.args in
+    let a = c.args in
     operation_is (multiply_pairs binary64) (multiply_strict binary64) a.x.good a.y.good a.x.low a.x.high a.y.low a.y.high _ _ _
-    c.kept2.ensures c.before.kept.ensures c.before.before.widened.ensures
+    c.kept-2.ensures c.kept.ensures c.widened-e.ensures
 
-pub multiply-spec : {M : Type 1} → statement M
-multiply-spec = tie.close (tie.spec (λ c κs. search rules) (λ c κs. search rules) (λ c κs. search rules) returns)
+pub multiply_spec : {M : Type 1} → statement M
+multiply_spec = tie.close (tie.spec (λ c κs. search rules) (λ c κs. search rules) (λ c κs. search rules) returns)

@@ -12,9 +12,9 @@ use Rattle.pairs.proofs.ends.multiply_by.Tie as tie
 returns : tie.Need-returns
 unfolding multiply_pairs
 returns c =
-    let a = c.before.before.before.before.args in
+    let a = c.args in
     operation_is (multiply_pairs binary64) (multiply_strict binary64) a.x.good true a.x.low a.x.high a.c a.c _ _ _ c.kept.ensures refl
-    c.before.widened.ensures
+    c.widened.ensures
 
-pub multiply-by-spec : {M : Type 1} → statement M
-multiply-by-spec = tie.close (tie.spec (λ c κs. search rules) (λ c κs. search rules) returns)
+pub multiply_by_spec : {M : Type 1} → statement M
+multiply_by_spec = tie.close (tie.spec (λ c κs. search rules) (λ c κs. search rules) returns)

@@ -6,8 +6,7 @@ use Rattle.pairs.proofs.ends.product.Tie as tie
 
 returns : tie.Need-returns
 returns c =
-    let s = c.before.before.before in
-    product_is s.args.a s.args.b _ _ (rw c.before.before.is_finite.ensures at c.kept.ensures) c.before.widened.ensures
+    product_is c.args.a c.args.b _ _ (rw c.is_finite.ensures at c.kept.ensures) c.widened.ensures
 
-pub product-spec : {M : Type 1} → statement M
-product-spec = tie.close (tie.spec (λ c κs. search rules) (λ c κs. search rules) (λ c κs. search rules) returns)
+pub product_spec : {M : Type 1} → statement M
+product_spec = tie.close (tie.spec (λ c κs. search rules) (λ c κs. search rules) (λ c κs. search rules) returns)

@@ -10,12 +10,11 @@ use Rattle.pairs.proofs.ends.subtract.Tie as tie
 returns : tie.Need-returns
 unfolding subtract_pairs
 returns c =
-    let d = c.before.before in
-    let a = d.before.before.before.before.before.args in
+    let a = c.args in
     operation_is (subtract_pairs binary64) (subtract_strict binary64) a.x.good a.y.good a.x.low a.x.high a.y.low a.y.high _ _ _
-    c.kept2.ensures c.before.kept.ensures
-    (rw (d.before.sum-up.ensures, d.before.before.before.sum-down.ensures) at d.finite-ends.ensures)
+    c.kept-2.ensures c.kept.ensures
+    (rw (c.sum_up.ensures, c.sum_down.ensures) at c.finite_ends-e.ensures)
 
-pub subtract-spec : {M : Type 1} → statement M
-subtract-spec = tie.close (tie.spec (λ c κs. search rules) (λ c κs. search rules) (λ c κs. search rules) (λ c κs. search rules)
+pub subtract_spec : {M : Type 1} → statement M
+subtract_spec = tie.close (tie.spec (λ c κs. search rules) (λ c κs. search rules) (λ c κs. search rules) (λ c κs. search rules)
     (λ c κs. search rules) returns)

@@ -8,23 +8,21 @@ use Rattle.pairs.proofs.neighbours.step_up.Statement.{statement}
 use Rattle.pairs.proofs.neighbours.step_up.Tie as tie
 
 held : (c : tie.Start) → T (fits binary64 c.args.x)
-held c = subst T (sym c.well-formed.0.1) tt
+held c = subst T (sym c.well_formed.0.1) tt
 
-float-to-bits-up-bits : tie.Need-float-to-bits-up-bits
+float-to-bits-up-bits : tie.Need-float_to_bits-x
 float-to-bits-up-bits c = rw (below_number c.args.x c.requires) tt
 
-up-bits-requires : tie.Need-up-bits-requires
+up-bits-requires : tie.Need-up_bits-requires
 up-bits-requires c κs = below_bits c.args.x c.requires (held c)
 
-float-from-bits-result : tie.Need-float-from-bits-result
+float-from-bits-result : tie.Need-float_from_bits-result
 float-from-bits-result c =
-    let s = c.before in
-    rw (c.up-bits.ensures, up_not_nan binary64 s.args.x (held s) (rw (below_number s.args.x s.requires) tt)) tt
+    rw (c.up_bits.ensures, up_not_nan binary64 c.args.x (held c.before) (rw (below_number c.args.x c.requires) tt)) tt
 
 returns : tie.Need-returns
 returns c =
-    let s = c.before in
-    rw c.up-bits.ensures (sym (next_up_bits binary64 s.args.x (below_number s.args.x s.requires)))
+    rw c.up_bits.ensures (sym (next_up_bits binary64 c.args.x (below_number c.args.x c.requires)))
 
-pub step-up-spec : {M : Type 1} → statement M
-step-up-spec = tie.close (tie.spec float-to-bits-up-bits up-bits-requires float-from-bits-result returns)
+pub step_up_spec : {M : Type 1} → statement M
+step_up_spec = tie.close (tie.spec float-to-bits-up-bits up-bits-requires float-from-bits-result returns)

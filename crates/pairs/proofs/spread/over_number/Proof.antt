@@ -14,7 +14,7 @@ same : {e : Ends} {t : Spread} (a : ℕ) → Stands (suc (a + 0)) e t → Stands
 same {e = e} {t = t} a S = let z : a + 0 ≡ a = omega arith in subst (λ (k : ℕ). Stands (suc k) e t) z S
 
 returns : tie.Need-returns
-returns c = λ a b e l X C P. same a (over_stands a 0 (omega arith) e _ X _ (whole_divisor b _ C P) _ c.before.step.ensures c.step2.ensures)
+returns c = λ a b e l X C P. same a (over_stands a 0 (omega arith) e _ X _ (whole_divisor b _ C P) _ c.step.ensures c.step-2.ensures)
 
-pub over-number-spec : {M : Type 1} → statement M
-over-number-spec = tie.close (tie.spec (λ c κs. search rules) (λ c κs. search rules) returns)
+pub over_number_spec : {M : Type 1} → statement M
+over_number_spec = tie.close (tie.spec (λ c κs. search rules) (λ c κs. search rules) returns)

@@ -5,7 +5,7 @@ use Rattle.pairs.proofs.spread.product.Statement.{statement}
 use Rattle.pairs.proofs.spread.product.Tie as tie
 
 returns : tie.Need-returns
-returns c = λ a b l C P. read_stands a b l _ _ C P _ c.before.step.ensures c.step2.ensures
+returns c = λ a b l C P. read_stands a b l _ _ C P _ c.step.ensures c.step-2.ensures
 
-pub product-spec : {M : Type 1} → statement M
-product-spec = tie.close (tie.spec (λ c κs. search rules) (λ c κs. search rules) returns)
+pub product_spec : {M : Type 1} → statement M
+product_spec = tie.close (tie.spec (λ c κs. search rules) (λ c κs. search rules) returns)

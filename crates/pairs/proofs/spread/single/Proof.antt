@@ -7,5 +7,5 @@ use Rattle.pairs.proofs.spread.single.Tie as tie
 returns : tie.Need-returns
 returns c = λ a N. single_stands a _ N _ refl refl
 
-pub single-spec : {M : Type 1} → statement M
-single-spec = tie.close (tie.spec returns)
+pub single_spec : {M : Type 1} → statement M
+single_spec = tie.close (tie.spec returns)

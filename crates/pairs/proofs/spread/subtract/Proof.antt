@@ -6,8 +6,8 @@ use Rattle.pairs.proofs.spread.subtract.Statement.{statement}
 use Rattle.pairs.proofs.spread.subtract.Tie as tie
 
 returns : tie.Need-returns
-returns c = λ a e g l X Y. difference_stands a (omega arith) e g _ _ X Y _ (c.before.sum.ensures a l X.below_number Y.above_number)
-    (c.sum2.ensures a l X.above_number Y.below_number)
+returns c = λ a e g l X Y. difference_stands a (omega arith) e g _ _ X Y _ (c.sum.ensures a l X.below_number Y.above_number)
+    (c.sum-2.ensures a l X.above_number Y.below_number)
 
-pub subtract-spec : {M : Type 1} → statement M
-subtract-spec = tie.close (tie.spec (λ c κs. search rules) (λ c κs. search rules) returns)
+pub subtract_spec : {M : Type 1} → statement M
+subtract_spec = tie.close (tie.spec (λ c κs. search rules) (λ c κs. search rules) returns)

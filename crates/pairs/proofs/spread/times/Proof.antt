@@ -7,10 +7,10 @@ use Rattle.pairs.proofs.spread.times.Tie as tie
 
 returns : tie.Need-returns
 returns c = λ a b e g l X Y. times_stands a b l e g _ _ X Y _ (rw (
-  c.before.before.step.ensures,
-  c.before.before.before.highest.ensures,
+  c.step.ensures,
+  c.highest.ensures,
 ) refl)
-    (rw (c.step2.ensures, c.before.highest2.ensures) refl)
+    (rw (c.step-2.ensures, c.highest-2.ensures) refl)
 
-pub times-spec : {M : Type 1} → statement M
-times-spec = tie.close (tie.spec (λ c κs. search rules) (λ c κs. search rules) (λ c κs. search rules) (λ c κs. search rules) returns)
+pub times_spec : {M : Type 1} → statement M
+times_spec = tie.close (tie.spec (λ c κs. search rules) (λ c κs. search rules) (λ c κs. search rules) (λ c κs. search rules) returns)

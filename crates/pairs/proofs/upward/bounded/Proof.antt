@@ -9,7 +9,7 @@ use Rattle.pairs.proofs.upward.bounded.Tie as tie
 
 returns : tie.Need-returns
 unfolding of_bits
-returns c = rw c.lower.ensures (add_plain _ (lowest_fits c.before.args.x (subst T (sym c.before.well-formed.0.1) tt)))
+returns c = rw c.lower.ensures (add_plain _ (lowest_fits c.args.x (subst T (sym c.well_formed.0.1) tt)))
 
 pub bounded_spec : {M : Type 1} → statement M
 bounded_spec = tie.close (tie.spec (λ c κs. search rules) returns)

@@ -6,7 +6,7 @@ use Rattle.pairs.proofs.upward.sum.Statement.{statement}
 use Rattle.pairs.proofs.upward.sum.Tie as tie
 
 returns : tie.Need-returns
-returns c = λ a l N M. rw (c.step-if.ensures, c.before.or.ensures) (upward_stepped a l _ _ N M _ refl)
+returns c = λ a l N M. rw (c.step_if.ensures, c.or.ensures) (upward_stepped a l _ _ N M _ refl)
 
-pub sum-spec : {M : Type 1} → statement M
-sum-spec = tie.close (tie.spec (λ c κs. search rules) (λ c κs. search rules) returns)
+pub sum_spec : {M : Type 1} → statement M
+sum_spec = tie.close (tie.spec (λ c κs. search rules) (λ c κs. search rules) returns)

@@ -5,11 +5,11 @@ use Rattle.pairs.proofs.PlainNumbers.{step_pattern}
 use Rattle.pairs.proofs.upward.toward.Statement.{statement}
 use Rattle.pairs.proofs.upward.toward.Tie as tie
 
-returns : tie.Need-returns
-returns c = rw c.if1.true (step_pattern _ c.before.requires)
+returns : tie.Need-returns-then-up
+returns c = rw c.if-up.true (step_pattern _ c.requires)
 
-returns-2 : tie.Need-returns-2
-returns-2 c = rw c.if1.false refl
+returns-2 : tie.Need-returns
+returns-2 c = rw c.if-up.false refl
 
-pub toward-spec : {M : Type 1} → statement M
-toward-spec = tie.close (tie.spec (λ c. search rules) (λ c. search rules) (λ c. search rules) returns returns-2)
+pub toward_spec : {M : Type 1} → statement M
+toward_spec = tie.close (tie.spec (λ c. search rules) (λ c. search rules) (λ c. search rules) returns returns-2)

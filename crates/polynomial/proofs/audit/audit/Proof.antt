@@ -5,16 +5,16 @@ use Rattle.window.proofs.Windows.{length_window}
 use Rattle.polynomial.proofs.audit.audit.Statement.{statement}
 use Rattle.polynomial.proofs.audit.audit.Tie as tie
 
-audit-with-requires : tie.Need-audit-with-requires
+audit-with-requires : tie.Need-audit_with-requires
 audit-with-requires c κs =
-    let p = c.before.before.before.args.p in
-    (c.before.before.before.requires.0, omega arith, omega arith, omega arith)
+    let p = c.args.p in
+    (c.requires.0, omega arith, omega arith, omega arith)
 
 returns : tie.Need-returns
-returns c = c.before.before.before.audit-with.ensures
+returns c = c.audit_with.ensures
 
-pub audit-spec : {M : Type 1} → statement M
-audit-spec =
+pub audit_spec : {M : Type 1} → statement M
+audit_spec =
     tie.close
     (tie.spec
     (λ c. omega arith)

@@ -18,7 +18,7 @@ use Rattle.polynomial.proofs.Placed.{bounds_length, bounds_own, bounds_keep, bou
 use Rattle.polynomial.proofs.audit.audit_with.Statement.{statement}
 use Rattle.polynomial.proofs.audit.audit_with.Tie as tie
 
-abbrev invariant-loop : tie.invariant-loop
+abbrev invariant-loop : tie.invariant-loop-i
 invariant-loop work₀ p first last cells₀ k₀ checked₀ i₀ work cells k checked i =
     (k < p.segments)
     × (checked + first ≡ i)
@@ -33,18 +33,18 @@ invariant-loop work₀ p first last cells₀ k₀ checked₀ i₀ work cells k c
     (record { bounds = x; witness = z; span = k; checked = checked; outcome = Done })
     ≡ audit_at p first last work₀))
 
-abbrev decreases-loop : tie.decreases-loop
+abbrev decreases-loop : tie.decreases-loop-i
 decreases-loop work₀ p first last cells₀ k₀ checked₀ i₀ work cells k checked i = last - i
 
 fewer : (i last : ℕ) → i < last → last - (i + 1) < last - i
 fewer i last h = omega arith
 
-span-at-requires : tie.Need-span-at-requires invariant-loop decreases-loop
-span-at-requires c κs = (c.before.before.before.requires.0, omega arith)
+span-at-requires : tie.Need-span_at-k-requires invariant-loop decreases-loop
+span-at-requires c κs = (c.requires.0, omega arith)
 
-loop-holds : tie.Need-loop-init invariant-loop decreases-loop
+loop-holds : tie.Need-loop-i-init invariant-loop decreases-loop
 loop-holds c =
-    let a = c.before.before.before.before.args in
+    let a = c.args in
     let p = a.p in
     let w = a.work.now in
     let x = length_window p.bounds (p.bounds + (p.samples - 1) * p.axes) w (omega arith) (omega arith) in
@@ -53,89 +53,89 @@ loop-holds c =
       omega arith,
       refl,
       refl,
-      (bounds_at p w, witness_at p w, omega arith, omega arith, sym (bounds_own p w), unfold audit_of in rw c.span-at.ensures.0),
+      (bounds_at p w, witness_at p w, omega arith, omega arith, sym (bounds_own p w), unfold audit_of in rw c.span_at-k.ensures.0),
     )
 
-interval-at-requires : tie.Need-interval-at-requires invariant-loop decreases-loop
+interval-at-requires : tie.Need-interval_at-r-requires invariant-loop decreases-loop
 interval-at-requires c κs =
-    let l = c.before.before.before.loop in (
+    let l = c.loop-i in (
       omega (arith, l.invariant.3),
-      rw l.invariant.2 c.before.before.before.before.before.before.before.before.requires.0,
+      rw l.invariant.2 c.requires.0,
       omega arith,
       omega arith,
     )
 
-same_length : tie.Need-same-length invariant-loop decreases-loop
-same_length c = c.before.before.before.before.before.before.before.before.loop.invariant.2
+same_length : tie.Need-shape_of-work-then-not-is_done invariant-loop decreases-loop
+same_length c = c.loop-i.invariant.2
 
-same-length-2 : tie.Need-same-length-2 invariant-loop decreases-loop
+same-length-2 : tie.Need-shape_of-cells-then-not-is_done invariant-loop decreases-loop
 same-length-2 c = omega (
   arith,
-  c.before.before.before.before.before.before.before.before.loop.invariant.3,
-  c.before.before.before.cells.given,
+  c.loop-i.invariant.3,
+  c.cells-1.given,
 )
 
-returns : tie.Need-returns invariant-loop decreases-loop
+returns : tie.Need-returns-then-not-is_done invariant-loop decreases-loop
 returns c =
-    let l = c.before.before.before.before.before.before.before.before.loop in
-    let a = c.before.before.before.before.before.before.before.before.before.before.before.before.before.args in
+    let l = c.loop-i in
+    let a = c.args in
     let v = l.invariant.4 in
     let r = interval_same a.p a.work.now v.0 v.1
-    c.before.before.before.before.before.before.before.before.before.before.before.before.before.requires.0 v.2 v.3 l.i
-    l.k v.4 c.before.before.before.before.interval-at.ensures.0 in
-    let bad = sym c.before.is-done.ensures ∙ not-true _ c.if1.true in
+    c.requires.0 v.2 v.3 l.i
+    l.k v.4 c.interval_at-r.ensures.0 in
+    let bad = sym c.is_done.ensures ∙ not-true _ c.if-not-is_done.true-raw in
     let e = sym v.5 ∙ till_stop _ _ _ _ _ _ (omega arith) (stops _ _ _ _ _ _ _ _ r bad) in
     rw e (refl, refl, v.4)
 
 put-requires : tie.Need-put-requires invariant-loop decreases-loop
 put-requires c κs =
-    let l = c.before.before.before.before.before.before.before.before.before.before.loop in (
-      rw l.invariant.2 c.before.before.before.before.before.before.before.before.before.before.before.before.before.before.before.requires.0,
+    let l = c.loop-i in (
+      rw l.invariant.2 c.requires.0,
       omega arith,
-      omega (arith, l.invariant.3, c.before.before.before.before.before.cells.given),
+      omega (arith, l.invariant.3, c.cells-1.given),
     )
 
-loop-less : tie.Need-loop-smaller invariant-loop decreases-loop
-loop-less c = fewer _ _ c.before.before.before.before.before.before.before.before.before.before.before.before.loop-test.true
+loop-less : tie.Need-loop-i-smaller invariant-loop decreases-loop
+loop-less c = fewer _ _ c.loop-i-test.true
 
-loop-again : tie.Need-loop-preserved invariant-loop decreases-loop
+loop-again : tie.Need-loop-i-preserved invariant-loop decreases-loop
 loop-again c =
-    let l = c.before.before.before.before.before.before.before.before.before.before.before.before.before.loop in
-    let a = c.before.before.before.before.before.before.before.before.before.before.before.before.before.before.before.before.before.before.args in
+    let l = c.loop-i in
+    let a = c.args in
     let p = a.p in
-    let laid = c.before.before.before.before.before.before.before.before.before.before.before.before.before.before.before.before.before.before.requires.0 in
+    let laid = c.requires.0 in
     let v = l.invariant.4 in
-    let r = c.before.before.before.before.before.before.before.before.before.interval-at in
-    let found = r.new.0 in
+    let r = c.interval_at-r in
+    let found = r.new.bounds in
     let is = interval_same p a.work.now v.0 v.1 laid v.2 v.3 l.i l.k v.4 r.ensures.0 in
-    let good = sym c.before.before.before.before.before.before.is-done.ensures
-    ∙ not-false _ c.before.before.before.before.before.if1.false in
+    let good = sym c.is_done.ensures
+    ∙ not-false _ c.if-not-is_done.false-raw in
     let g : List Float → List Float = λ b. bounds_with (l.i * p.axes) p.axes found b in
     let h : List Float → List Float = λ b. set b l.i r.result.witness in
     let n : length (g v.0) ≡ (p.samples - 1) * p.axes = bounds_length (l.i * p.axes) p.axes found v.0 ∙ v.2 in
     let m : length (h v.1) ≡ p.samples - 1 = simp length-set v.3 in
-    let w = bounds_next p a.work.now v.0 v.1 laid v.2 v.3 g h n v.4 c.before.before.put.ensures in (
+    let w = bounds_next p a.work.now v.0 v.1 laid v.2 v.3 g h n v.4 c.put.ensures in (
       omega arith,
       omega arith,
       ap length w ∙ bounds_keep p a.work.now (g v.0) (h v.1) laid n m,
-      omega (arith, l.invariant.3, c.before.before.before.before.before.before.before.before.cells.given),
+      omega (arith, l.invariant.3, c.cells-1.given),
       (g v.0, h v.1, n, m, w, sym (till_next _ _ _ _ _ _ (omega arith) (goes_on _ _ _ _ _ _ _ _ is good)) ∙ v.5),
     )
 
-same-length-3 : tie.Need-same-length-3 invariant-loop decreases-loop
-same-length-3 c = c.before.loop.invariant.2
+same-length-3 : tie.Need-shape_of-work invariant-loop decreases-loop
+same-length-3 c = c.loop-i.invariant.2
 
-same-length-4 : tie.Need-same-length-4 invariant-loop decreases-loop
-same-length-4 c = c.before.loop.invariant.3
+same-length-4 : tie.Need-shape_of-cells invariant-loop decreases-loop
+same-length-4 c = c.loop-i.invariant.3
 
-returns-2 : tie.Need-returns-2 invariant-loop decreases-loop
+returns-2 : tie.Need-returns invariant-loop decreases-loop
 returns-2 c =
-    let v = c.before.loop.invariant.4 in
+    let v = c.loop-i.invariant.4 in
     let e = sym v.5 ∙ till_done _ _ _ _ _ (omega arith) in
     rw e (refl, refl, v.4)
 
-pub audit-with-spec : {M : Type 1} → statement M
-audit-with-spec =
+pub audit_with_spec : {M : Type 1} → statement M
+audit_with_spec =
     tie.close
     (tie.spec
     invariant-loop

@@ -10,9 +10,9 @@ use Rattle.polynomial.specs.Placed.{breaks_at}
 use Rattle.polynomial.proofs.audit.interval_at.Statement.{statement}
 use Rattle.polynomial.proofs.audit.interval_at.Tie as tie
 
-audit-interval-requires : tie.Need-audit-interval-requires
+audit-interval-requires : tie.Need-audit_interval-requires
 audit-interval-requires c κs =
-    let a = c.before.before.before.before.before.before.before.before.before.before.before.before.args in
+    let a = c.args in
     let p = a.p in
     let w = a.work.now in
     let n = length_window p.breaks (p.breaks + p.segments + 1) w (omega arith) (omega arith) in
@@ -26,15 +26,15 @@ audit-interval-requires c κs =
 
 returns : tie.Need-returns
 returns c =
-    let a = c.before.before.before.before.before.before.before.before.before.before.before.before.before.before.before.args in
+    let a = c.args in
     let p = a.p in
     let w = a.work.now in
     let n = length_window p.breaks (p.breaks + p.segments + 1) w (omega arith) (omega arith) in
     let cell = window_cell p.witness (p.witness + (p.samples - 1)) w a.i nan (omega arith) in
-    (rw cell c.before.before.audit-interval.ensures.0, omega arith)
+    (rw cell c.audit_interval.ensures.0, omega arith)
 
-pub interval-at-spec : {M : Type 1} → statement M
-interval-at-spec =
+pub interval_at_spec : {M : Type 1} → statement M
+interval_at_spec =
     tie.close
     (tie.spec
     (λ c. omega arith)

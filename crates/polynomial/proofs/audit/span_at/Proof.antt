@@ -11,14 +11,14 @@ use Rattle.polynomial.proofs.audit.span_at.Tie as tie
 
 returns : tie.Need-returns
 returns c =
-    let a = c.before.before.before.before.before.args in
+    let a = c.args in
     let w = a.work.now in
     let n = length_window a.p.breaks (a.p.breaks + a.p.segments + 1) w (omega arith) (omega arith) in
     let cell = window_cell a.p.parameters (a.p.parameters + a.p.samples) w a.i nan (omega arith) in
     (c.span.ensures ∙ ap (λ (x : Float). break_span (breaks_at a.p w) x) (sym cell), omega arith)
 
-pub span-at-spec : {M : Type 1} → statement M
-span-at-spec =
+pub span_at_spec : {M : Type 1} → statement M
+span_at_spec =
     tie.close
     (tie.spec
     (λ c. omega arith)

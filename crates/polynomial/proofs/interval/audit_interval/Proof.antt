@@ -23,7 +23,7 @@ use Rattle.polynomial.proofs.Walk.{turns_left, turns_most, turns_fall}
 use Rattle.polynomial.proofs.interval.audit_interval.Statement.{statement}
 use Rattle.polynomial.proofs.interval.audit_interval.Tie as tie
 
-abbrev invariant-loop : tie.invariant-loop
+abbrev invariant-loop : tie.invariant-loop-left
 invariant-loop bounds₀ breaks coefficients s y d i span before end left₀ k₀ f₀ bounds left k f =
     (k + 1 < length breaks)
     × (length bounds ≡ d)
@@ -33,7 +33,7 @@ invariant-loop bounds₀ breaks coefficients s y d i span before end left₀ k�
     (record { left = left; span = k; found = found bounds f })
     ≡ interval_of breaks coefficients s y d i span before))
 
-abbrev decreases-loop : tie.decreases-loop
+abbrev decreases-loop : tie.decreases-loop-left
 decreases-loop bounds₀ breaks coefficients s y d i span before end left₀ k₀ f₀ bounds left k f = turns_left breaks end left k
 
 -- a turn of the definition, by its tests
@@ -66,113 +66,113 @@ module _ (breaks coefficients s y : List Float) (d i j : ℕ) (w : Walk) where
       goes_on g = rw (more, ← ek, ← er, above, ← on-piece, g)
 
 -- the walk at the loop's head
-abbrev walk : tie.At-loop invariant-loop decreases-loop → Walk
-walk c = let l = c.loop in record { left = l.left; span = l.k; found = found l.bounds l.f }
+abbrev walk : tie.At-loop-left invariant-loop decreases-loop → Walk
+walk c = let l = c.loop-left in record { left = l.left; span = l.k; found = found l.bounds l.f }
 
-loop-holds : tie.Need-loop-init invariant-loop decreases-loop
+loop-holds : tie.Need-loop-left-init invariant-loop decreases-loop
 unfolding interval_of
 loop-holds c =
-    let a = c.before.before.before.before.before.before.before.before.before.before.before.args in
+    let a = c.args in
     let most = turns_most a.breaks.now (at a.s.now (a.i + 1)) (at a.s.now a.i) a.span (omega arith) in
     let n : length a.bounds.now ≡ a.d = omega arith in
-    let e : c.before.before.before.before.clear.new.0 ≡ zeros a.d = c.before.before.before.before.clear.ensures
+    let e : c.clear.new.s ≡ zeros a.d = c.clear.ensures
     ∙ ap zeros n in
     (omega arith, omega arith, (0, omega arith, rw e))
 
-returns : tie.Need-returns invariant-loop decreases-loop
+returns : tie.Need-returns-then-right-left invariant-loop decreases-loop
 unfolding ended_by
 returns c =
-    let l = c.before.before.before.before.before.loop in
-    let a = c.before.before.before.before.before.before.before.before.before.before.before.before.before.before.before.before.before.args in
+    let l = c.loop-left in
+    let a = c.args in
     let e = not_above a.breaks.now a.coefficients.now a.s.now a.y.now a.d a.i l.invariant.2.0
     (walk c.before.before.before.before.before) _ _
-    c.before.before.before.before.loop-test.true c.before.before.before.advance.ensures.0 c.before.min.ensures
-    c.if1.true in
+    c.loop-left-test.true c.advance-k.ensures.0 c.min-right.ensures
+    c.if-right-left.true in
     (sym (till_stop _ _ _ _ _ _ (omega arith) e) ∙ l.invariant.2.2, omega arith)
 
-same_length : tie.Need-same-length invariant-loop decreases-loop
-same_length c = c.before.before.before.before.before.loop.invariant.1 ∙ omega arith
+same_length : tie.Need-shape_of-bounds-then-right-left invariant-loop decreases-loop
+same_length c = c.loop-left.invariant.1 ∙ omega arith
 
 -- the segment's rows are there
-rows-there : (c : tie.After-place invariant-loop decreases-loop) → let a =
-    c.before.before.before.before.before.before.before.before.before.before.before.before.before.before.before.before.before.before.args in 6 * (c.before.before.before.before.advance.result * a.d + a.d) ≤ length a.coefficients.now
+rows-there : (c : tie.After-place-q invariant-loop decreases-loop) → let a =
+    c.args in 6 * (c.advance-k.result * a.d + a.d) ≤ length a.coefficients.now
 rows-there c =
-    let a = c.before.before.before.before.before.before.before.before.before.before.before.before.before.before.before.before.before.before.args in
-    let h = row_end c.before.before.before.before.advance.result (length a.breaks.now - 1) (6 * a.d)
+    let a = c.args in
+    let h = row_end c.advance-k.result (length a.breaks.now - 1) (6 * a.d)
     (length a.coefficients.now) (omega arith) (omega arith) in
     omega arith
 
-mul-axes : tie.Need-overflow-mul-axes invariant-loop decreases-loop
+mul-axes : tie.Need-overflow_mul-k invariant-loop decreases-loop
 mul-axes c = omega (arith, rows-there c.before)
 
-axes-requires : tie.Need-axes-requires invariant-loop decreases-loop
+axes-requires : tie.Need-axes-f-requires invariant-loop decreases-loop
 axes-requires c κs =
     let h = rows-there c.before in
     (omega arith, omega arith, omega arith)
 
-returns-2 : tie.Need-returns-2 invariant-loop decreases-loop
+returns-2 : tie.Need-returns-then-not-is_done invariant-loop decreases-loop
 unfolding ended_by
 returns-2 c =
-    let l = c.before.before.before.before.before.before.before.before.before.before.before.before.loop in
-    let a = c.before.before.before.before.before.before.before.before.before.before.before.before.before.before.before.before.before.before.before.before.before.before.before.before.args in
-    let bad = sym c.before.is-done.ensures ∙ not-true _ c.if2.true in
+    let l = c.loop-left in
+    let a = c.args in
+    let bad = sym c.is_done.ensures ∙ not-true _ c.if-not-is_done.true-raw in
     let e = not_finite a.breaks.now a.coefficients.now a.s.now a.y.now a.d a.i l.invariant.2.0
     (walk c.before.before.before.before.before.before.before.before.before.before.before.before) _ _
-    c.before.before.before.before.before.before.before.before.before.before.before.loop-test.true
-    c.before.before.before.before.before.before.before.before.before.before.advance.ensures.0
-    c.before.before.before.before.before.before.before.before.min.ensures
-    c.before.before.before.before.before.before.before.if1.false
-    c.before.before.before.before.before.before.place.ensures c.before.before.before.before.axes.ensures bad in
+    c.loop-left-test.true
+    c.advance-k.ensures.0
+    c.min-right.ensures
+    c.if-right-left.false
+    c.place-q.ensures c.axes-f.ensures bad in
     (sym (till_stop _ _ _ _ _ _ (omega arith) e) ∙ l.invariant.2.2, omega arith)
 
-same-length-2 : tie.Need-same-length-2 invariant-loop decreases-loop
+same-length-2 : tie.Need-shape_of-bounds-then-not-is_done invariant-loop decreases-loop
 same-length-2 c = omega (
   arith,
-  c.before.before.before.before.before.before.before.before.before.before.before.before.loop.invariant.1,
-  c.before.before.before.bounds2.given,
-  c.before.before.before.before.before.before.before.before.before.before.before.before.before.before.before.before.before.before.before.before.before.before.before.before.requires.0,
+  c.loop-left.invariant.1,
+  c.bounds-in-loop-left-1.given,
+  c.requires.0,
 )
 
-loop-less : tie.Need-loop-smaller invariant-loop decreases-loop
+loop-less : tie.Need-loop-left-smaller invariant-loop decreases-loop
 loop-less c =
-    let l = c.before.before.before.before.before.before.before.before.before.before.before.before.loop in
-    let a = c.before.before.before.before.before.before.before.before.before.before.before.before.before.before.before.before.before.before.before.before.before.before.before.before.args in
-    rw c.before.before.before.before.before.before.before.before.min.ensures
+    let l = c.loop-left in
+    let a = c.args in
+    rw c.min-right.ensures
     (turns_fall a.breaks.now _ l.left l.k
-    c.before.before.before.before.before.before.before.before.before.before.advance.result (omega arith) (omega arith)
-    c.before.before.before.before.before.before.before.before.before.before.before.loop-test.true
-    (rw c.before.before.before.before.before.before.before.before.min.ensures
-    at c.before.before.before.before.before.before.before.if1.false))
+    c.advance-k.result (omega arith) (omega arith)
+    c.loop-left-test.true
+    (rw c.min-right.ensures
+    at c.if-right-left.false))
 
-loop-again : tie.Need-loop-preserved invariant-loop decreases-loop
+loop-again : tie.Need-loop-left-preserved invariant-loop decreases-loop
 loop-again c =
-    let l = c.before.before.before.before.before.before.before.before.before.before.before.before.loop in
-    let a = c.before.before.before.before.before.before.before.before.before.before.before.before.before.before.before.before.before.before.before.before.before.before.before.before.args in
-    let good = sym c.before.is-done.ensures ∙ not-false _ c.if2.false in
+    let l = c.loop-left in
+    let a = c.args in
+    let good = sym c.is_done.ensures ∙ not-false _ c.if-not-is_done.false-raw in
     let e = goes_on a.breaks.now a.coefficients.now a.s.now a.y.now a.d a.i l.invariant.2.0
     (walk c.before.before.before.before.before.before.before.before.before.before.before.before) _ _
-    c.before.before.before.before.before.before.before.before.before.before.before.loop-test.true
-    c.before.before.before.before.before.before.before.before.before.before.advance.ensures.0
-    c.before.before.before.before.before.before.before.before.min.ensures
-    c.before.before.before.before.before.before.before.if1.false
-    c.before.before.before.before.before.before.place.ensures c.before.before.before.before.axes.ensures good in
+    c.loop-left-test.true
+    c.advance-k.ensures.0
+    c.min-right.ensures
+    c.if-right-left.false
+    c.place-q.ensures c.axes-f.ensures good in
     let less = loop-less c in
     (omega arith, omega arith, (l.invariant.2.0 + 1, omega arith, sym (till_next _ _ _ _ _ _ (omega arith) e) ∙ l.invariant.2.2))
 
-same-length-3 : tie.Need-same-length-3 invariant-loop decreases-loop
+same-length-3 : tie.Need-shape_of-bounds invariant-loop decreases-loop
 same-length-3 c = omega arith
 
-returns-3 : tie.Need-returns-3 invariant-loop decreases-loop
+returns-3 : tie.Need-returns invariant-loop decreases-loop
 unfolding ended_by
 returns-3 c =
-    let l = c.before.loop in
-    let a = c.before.before.before.before.before.before.before.before.before.before.before.before.before.args in
+    let l = c.loop-left in
+    let a = c.args in
     let e = at-end a.breaks.now a.coefficients.now a.s.now a.y.now a.d a.i l.invariant.2.0 (walk c.before)
-    c.loop-test.false in
+    c.loop-left-test.false in
     (sym (till_stop _ _ _ _ _ _ (omega arith) e) ∙ l.invariant.2.2, omega arith)
 
-pub audit-interval-spec : {M : Type 1} → statement M
-audit-interval-spec =
+pub audit_interval_spec : {M : Type 1} → statement M
+audit_interval_spec =
     tie.close
     (tie.spec
     invariant-loop

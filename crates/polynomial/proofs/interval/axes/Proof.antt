@@ -19,7 +19,7 @@ use Rattle.polynomial.specs.Interval.{Found, errors_on, all_finite, largest_turn
 use Rattle.polynomial.proofs.interval.axes.Statement.{statement}
 use Rattle.polynomial.proofs.interval.axes.Tie as tie
 
-abbrev invariant-loop : tie.invariant-loop
+abbrev invariant-loop : tie.invariant-loop-axis
 invariant-loop bounds₀ coefficients y d first row q peak₀ witness₀ outcome axis₀ bounds peak witness axis =
     (axis ≤ d)
     × (length bounds ≡ length bounds₀)
@@ -28,7 +28,7 @@ invariant-loop bounds₀ coefficients y d first row q peak₀ witness₀ outcome
     ≡ till (axis_turn coefficients y d first row q) (λ f. f) 0 d
     (record { bounds = bounds₀; peak = peak₀; witness = witness₀; outcome = outcome }))
 
-abbrev decreases-loop : tie.decreases-loop
+abbrev decreases-loop : tie.decreases-loop-axis
 decreases-loop bounds₀ coefficients y d first row q peak₀ witness₀ outcome axis₀ bounds peak witness axis = d - axis
 
 -- a turn of the definition: it goes on where all coefficients are finite, and ends the loop where one is not
@@ -46,51 +46,51 @@ module _ (coefficients y : List Float) (d first row : ℕ) (q : Piece) (axis : �
   unfolding axis_turn
   stops g = rw (← is, g)
 
-loop-holds : tie.Need-loop-init invariant-loop decreases-loop
+loop-holds : tie.Need-loop-axis-init invariant-loop decreases-loop
 loop-holds c = (omega arith, refl, refl)
 
-error-form-requires : tie.Need-error-form-requires invariant-loop decreases-loop
+error-form-requires : tie.Need-error_form-b-requires invariant-loop decreases-loop
 error-form-requires c κs =
-    let a = c.before.before.before.before.before.before.before.before.args in
-    let at = 6 * (a.first + c.before.before.before.before.loop.axis) in
+    let a = c.args in
+    let at = 6 * (a.first + c.loop-axis.axis) in
     length_window at (at + 6) a.coefficients.now (omega arith) (omega arith) ∙ (omega arith)
 
-returns : tie.Need-returns invariant-loop decreases-loop
+returns : tie.Need-returns-then-not-all_finite invariant-loop decreases-loop
 unfolding axes_of
 returns c =
-    let l = c.before.before.before.before.before.before.before.before.loop in
-    let a = c.before.before.before.before.before.before.before.before.before.before.before.before.args in
-    let bad = sym c.before.all-finite.ensures ∙ not-true _ c.if1.true in
+    let l = c.loop-axis in
+    let a = c.args in
+    let bad = sym c.all_finite.ensures ∙ not-true _ c.if-not-all_finite.true-raw in
     let e = stops a.coefficients.now a.y.now a.d a.first a.row a.q l.axis _ _
-    c.before.before.before.error-form.ensures bad in
+    c.error_form-b.ensures bad in
     sym (till_stop _ _ _ _ _ _ (omega arith) e) ∙ l.invariant.2
 
-good : (c : tie.After-slice-known2 invariant-loop decreases-loop) → all_finite c.before.before.before.before.error-form.result.cells ≡ true
-good c = sym c.before.before.all-finite.ensures ∙ not-false _ c.before.if1.false
+good : (c : tie.After-slice_known-in-loop-axis-1 invariant-loop decreases-loop) → all_finite c.error_form-b.result.cells ≡ true
+good c = sym c.all_finite.ensures ∙ not-false _ c.if-not-all_finite.false-raw
 
-take-in-requires : tie.Need-take-in-requires invariant-loop decreases-loop
+take-in-requires : tie.Need-take_in-l-requires invariant-loop decreases-loop
 take-in-requires c κs = good c
 
-loop-again : tie.Need-loop-preserved invariant-loop decreases-loop
+loop-again : tie.Need-loop-axis-preserved invariant-loop decreases-loop
 loop-again c =
-    let l = c.before.before.before.before.before.before.before.before.before.before.loop in
-    let a = c.before.before.before.before.before.before.before.before.before.before.before.before.before.before.args in
+    let l = c.loop-axis in
+    let a = c.args in
     let e = goes_on a.coefficients.now a.y.now a.d a.first a.row a.q l.axis _ _
-    c.before.before.before.before.before.error-form.ensures _
-    (good c.before) c.take_in.ensures in
+    c.error_form-b.ensures _
+    (good c.before) c.take_in-l.ensures in
     (omega arith, simp length-set l.invariant.1, sym (till_next _ _ _ _ _ _ (omega arith) e) ∙ l.invariant.2)
 
-same_length : tie.Need-same-length invariant-loop decreases-loop
-same_length c = c.before.before.before.before.before.before.before.before.loop.invariant.1
+same_length : tie.Need-shape_of-bounds-then-not-all_finite invariant-loop decreases-loop
+same_length c = c.loop-axis.invariant.1
 
-same-length-2 : tie.Need-same-length-2 invariant-loop decreases-loop
-same-length-2 c = c.before.loop.invariant.1
+same-length-2 : tie.Need-shape_of-bounds invariant-loop decreases-loop
+same-length-2 c = c.loop-axis.invariant.1
 
-returns-2 : tie.Need-returns-2 invariant-loop decreases-loop
-returns-2 c = unfold axes_of in sym (till_done _ _ _ _ _ (omega arith)) ∙ c.before.loop.invariant.2
+returns-2 : tie.Need-returns invariant-loop decreases-loop
+returns-2 c = unfold axes_of in sym (till_done _ _ _ _ _ (omega arith)) ∙ c.loop-axis.invariant.2
 
-pub axes-spec : {M : Type 1} → statement M
-axes-spec =
+pub axes_spec : {M : Type 1} → statement M
+axes_spec =
     tie.close
     (tie.spec
     invariant-loop

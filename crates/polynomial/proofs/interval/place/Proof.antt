@@ -10,8 +10,8 @@ returns : tie.Need-returns
 unfolding piece_at piece_from
 returns c = refl
 
-pub place-spec : {M : Type 1} → statement M
-place-spec =
+pub place_spec : {M : Type 1} → statement M
+place_spec =
     tie.close
     (tie.spec
     (λ c. omega arith)

@@ -8,16 +8,16 @@ returns : tie.Need-returns
 unfolding bernstein_coefficients
 returns c =
     rw (
-      c.bernstein6.ensures,
-      c.before.bernstein5.ensures,
-      c.before.before.bernstein4.ensures,
-      c.before.before.before.bernstein3.ensures,
-      c.before.before.before.before.bernstein2.ensures,
-      c.before.before.before.before.before.bernstein.ensures,
+      c.bernstein-6.ensures,
+      c.bernstein-5.ensures,
+      c.bernstein-4.ensures,
+      c.bernstein-3.ensures,
+      c.bernstein-2.ensures,
+      c.bernstein.ensures,
     )
 
-pub bernsteins-spec : {M : Type 1} → statement M
-bernsteins-spec =
+pub bernsteins_spec : {M : Type 1} → statement M
+bernsteins_spec =
     tie.close
     (tie.spec
     (λ c κs. search rules)

@@ -8,7 +8,7 @@ use Rattle.polynomial.proofs.piece.curve_form.Tie as tie
 
 returns : tie.Need-returns
 unfolding curve_form
-returns c = c.bernsteins.ensures ∙ ap (bernstein_coefficients floats) c.before.before.powers.ensures
+returns c = c.bernsteins.ensures ∙ ap (bernstein_coefficients floats) c.powers-e.ensures
 
-pub curve-form-spec : {M : Type 1} → statement M
-curve-form-spec = tie.close (tie.spec (λ c κs. search rules) (λ c κs. search rules) returns)
+pub curve_form_spec : {M : Type 1} → statement M
+curve_form_spec = tie.close (tie.spec (λ c κs. search rules) (λ c κs. search rules) returns)

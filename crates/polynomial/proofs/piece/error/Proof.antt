@@ -8,16 +8,16 @@ returns : tie.Need-returns
 unfolding error_of
 returns c =
     rw (
-      c.power6.ensures,
-      c.before.power5.ensures,
-      c.before.before.power4.ensures,
-      c.before.before.before.power3.ensures,
-      c.before.before.before.before.power2.ensures,
-      c.before.before.before.before.before.power.ensures,
+      c.power-6.ensures,
+      c.power-5.ensures,
+      c.power-4.ensures,
+      c.power-3.ensures,
+      c.power-2.ensures,
+      c.power.ensures,
     )
 
-pub error-spec : {M : Type 1} → statement M
-error-spec =
+pub error_spec : {M : Type 1} → statement M
+error_spec =
     tie.close
     (tie.spec
     (λ c κs. search rules)

@@ -8,7 +8,7 @@ use Rattle.polynomial.proofs.piece.error_form.Tie as tie
 
 returns : tie.Need-returns
 unfolding error_form
-returns c = c.bernsteins.ensures ∙ ap (bernstein_coefficients floats) c.before.before.error.ensures
+returns c = c.bernsteins.ensures ∙ ap (bernstein_coefficients floats) c.error-e.ensures
 
-pub error-form-spec : {M : Type 1} → statement M
-error-form-spec = tie.close (tie.spec (λ c κs. search rules) (λ c κs. search rules) returns)
+pub error_form_spec : {M : Type 1} → statement M
+error_form_spec = tie.close (tie.spec (λ c κs. search rules) (λ c κs. search rules) returns)

@@ -10,31 +10,31 @@ use Rattle.polynomial.specs.Piece.{add_term, piece_power}
 use Rattle.polynomial.proofs.piece.power.Statement.{statement}
 use Rattle.polynomial.proofs.piece.power.Tie as tie
 
-abbrev invariant-loop : tie.invariant-loop
+abbrev invariant-loop : tie.invariant-loop-k
 invariant-loop p u w j value₀ k₀ value k =
     (j ≤ k) × (k ≤ 6) × (each (add_term floats (power_of floats) p u j) k 6 value ≡ each (add_term floats (power_of floats) p u j) j 6 value₀)
 
-abbrev decreases-loop : tie.decreases-loop
+abbrev decreases-loop : tie.decreases-loop-k
 decreases-loop p u w j value₀ k₀ value k = 6 - k
 
-loop-holds : tie.Need-loop-init invariant-loop decreases-loop
+loop-holds : tie.Need-loop-k-init invariant-loop decreases-loop
 loop-holds c = (omega arith, omega arith, refl)
 
-loop-again : tie.Need-loop-preserved invariant-loop decreases-loop
+loop-again : tie.Need-loop-k-preserved invariant-loop decreases-loop
 unfolding add_term
 loop-again c = (
   omega arith,
   omega arith,
-  rw (c.before.powi.ensures, c.before.before.choose.ensures)
-      (sym (each_turn _ _ _ _ (omega arith)) ∙ c.before.before.before.before.loop.invariant.2),
+  rw (c.powi-q.ensures, c.choose-c.ensures)
+      (sym (each_turn _ _ _ _ (omega arith)) ∙ c.loop-k.invariant.2),
 )
 
 returns : tie.Need-returns invariant-loop decreases-loop
 unfolding piece_power
-returns c = rw (c.powi2.ensures, sym (each_done _ _ _ _ (omega arith)) ∙ c.before.before.loop.invariant.2)
+returns c = rw (c.powi.ensures, sym (each_done _ _ _ _ (omega arith)) ∙ c.loop-k.invariant.2)
 
-pub power-spec : {M : Type 1} → statement M
-power-spec =
+pub power_spec : {M : Type 1} → statement M
+power_spec =
     tie.close
     (tie.spec
     invariant-loop

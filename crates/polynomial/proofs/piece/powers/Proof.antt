@@ -8,16 +8,16 @@ returns : tie.Need-returns
 unfolding piece_powers
 returns c =
     rw (
-      c.power6.ensures,
-      c.before.power5.ensures,
-      c.before.before.power4.ensures,
-      c.before.before.before.power3.ensures,
-      c.before.before.before.before.power2.ensures,
-      c.before.before.before.before.before.power.ensures,
+      c.power-6.ensures,
+      c.power-5.ensures,
+      c.power-4.ensures,
+      c.power-3.ensures,
+      c.power-2.ensures,
+      c.power.ensures,
     )
 
-pub powers-spec : {M : Type 1} → statement M
-powers-spec =
+pub powers_spec : {M : Type 1} → statement M
+powers_spec =
     tie.close
     (tie.spec
     (λ c κs. search rules)

@@ -6,17 +6,17 @@ use Rattle.polynomial.proofs.piece.take_in.Tie as tie
 
 returns : tie.Need-returns
 returns c =
-    let a = c.before.before.before.before.before.args in
+    let a = c.args in
     rw (
-      c.either2.ensures,
-      c.before.either.ensures,
-      c.before.before.max.ensures,
-      c.before.before.before.before.maximum.ensures,
+      c.either-2.ensures,
+      c.either.ensures,
+      c.max.ensures,
+      c.maximum-m.ensures,
     )
-    (largest_takes a.b a.middle a.before c.before.before.before.before.before.requires)
+    (largest_takes a.b a.middle a.before c.requires)
 
-pub take-in-spec : {M : Type 1} → statement M
-take-in-spec =
+pub take_in_spec : {M : Type 1} → statement M
+take_in_spec =
     tie.close
     (tie.spec
     (λ c κs. omega arith)

@@ -7,16 +7,15 @@ use Rattle.query.proofs.Answered.{malformed}
 use Rattle.query.proofs.entry.evaluate.Statement.{statement}
 use Rattle.query.proofs.entry.evaluate.Tie as tie
 
-returns : tie.Need-returns
+returns : tie.Need-returns-then-not-well_formed
 unfolding evaluate_of
-returns c = malformed _ _ _ _ _ _ (sym c.before.well-formed-2.ensures ∙ not-true _ c.if1.true)
+returns c = malformed _ _ _ _ _ _ (sym c.well-formed-2.ensures ∙ not-true _ c.if-not-well_formed.true-raw)
 
-evaluate-formed-requires : tie.Need-evaluate-formed-requires
-evaluate-formed-requires c κs = let e = c.before.before.before.before in
-    sym e.before.well-formed-2.ensures ∙ not-false _ e.if1.false
+evaluate-formed-requires : tie.Need-evaluate_formed-requires
+evaluate-formed-requires c κs = sym c.well-formed-2.ensures ∙ not-false _ c.if-not-well_formed.false-raw
 
-pub evaluate-spec : {M : Type 1} → statement M
-evaluate-spec =
+pub evaluate_spec : {M : Type 1} → statement M
+evaluate_spec =
     tie.close
     (tie.spec
     (λ c κs. search rules)

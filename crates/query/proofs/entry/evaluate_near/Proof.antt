@@ -14,7 +14,7 @@ use Rattle.query.proofs.Answered.{Passed, above_three, too_short, outside, done}
 use Rattle.query.proofs.entry.evaluate_near.Statement.{statement}
 use Rattle.query.proofs.entry.evaluate_near.Tie as tie
 
-abbrev start : tie.After-slice-known4 → tie.Start
+abbrev start : tie.After-slice_known-4-1 → tie.Start
 start c = c.before.before.before.before.before.before.before.before
 
 abbrev read : tie.Start → Slices
@@ -23,39 +23,38 @@ read b = slices b.args.breaks.now b.args.coefficients.now b.args.other_breaks.no
 abbrev given : tie.Start → Outputs
 given b = outputs b.args.q.now b.args.dq.now b.args.ddq.now b.args.dddq.now
 
-passed : (c : tie.Else2) → let b = start c.before.before.before in
+passed : (c : tie.Else-short) → let b = start c.before.before.before in
     Passed b.args.curve (read b) b.args.order b.args.curve.d (given b)
 passed c = record {
   formed = (start c.before.before.before).requires;
-  order_low = c.before.before.if1.false;
-  long = sym c.before.short.ensures ∙ c.if2.false;
+  order_low = c.if-order-gt3.false;
+  long = sym c.short.ensures ∙ c.if-short.false;
 }
 
-returns : tie.Need-returns
+returns : tie.Need-returns-then-order-gt3
 unfolding evaluate_of
-returns c = (above_three _ _ _ _ _ _ (start c.before).requires c.if1.true, (refl, refl))
+returns c = (above_three _ _ _ _ _ _ (start c.before).requires c.if-order-gt3.true, (refl, refl))
 
-returns-2 : tie.Need-returns-2
+returns-2 : tie.Need-returns-then-short
 unfolding evaluate_of
 returns-2 c = (
-  too_short _ _ _ _ _ _ (start c.before.before.before).requires c.before.before.if1.false (sym c.before.short.ensures
-      ∙ c.if2.true),
+  too_short _ _ _ _ _ _ (start c.before.before.before).requires c.if-order-gt3.false (sym c.short.ensures
+      ∙ c.if-short.true),
   (refl, refl),
 )
 
-returns-3 : tie.Need-returns-3
+returns-3 : tie.Need-returns-then-ranged
 returns-3 c = (
-  outside _ _ _ _ _ (passed c.before.before) (sym (ap (λ (r : Ranged). r.refused) c.before.in-range.ensures) ∙ c.if3.true),
+  outside _ _ _ _ _ (passed c.before.before) (sym (ap (λ (r : Ranged). r.refused) c.in_range-ranged.ensures) ∙ c.if-ranged.true),
   (refl, refl),
 )
 
-write-all-requires : tie.Need-write-all-requires
+write-all-requires : tie.Need-write_all-last-requires
 write-all-requires c κs =
-    let e = c.before.before.before.before.before.before.before in
-    let b = start e.before.before.before in
+    let b = start c.before.before.before.before.before.before.before.before.before.before in
     let d = b.args.curve.d in
-    let r = rooms b.args.order d (given b) (passed e).long in (
-      b.pre,
+    let r = rooms b.args.order d (given b) (passed c.before.before.before.before.before.before.before).long in (
+      b.requires,
       (
         λ h. absurd (true≢false (sym h)),
         room_for b.args.order (1 * d) d (given b) (given b) (omega arith) (as_long (given b)) r,
@@ -63,17 +62,16 @@ write-all-requires c κs =
     )
 
 -- the queries at one parameter are the query at it
-returns-4 : tie.Need-returns-4
+returns-4 : tie.Need-returns
 returns-4 c =
-    let w = c.before.before.before.before.before.before.before.before in
-    let e = w.before.before.before.before.before.before in (
-      done _ _ _ _ _ (passed e.before.before) _ (sym (ap (λ (r : Ranged). r.refused) e.before.in-range.ensures) ∙ e.if3.false)
-          w.write-all.ensures.0,
-      w.write-all.ensures.1 0 refl,
+    (
+      done _ _ _ _ _ (passed c.before.before.before.before.before.before.before.before.before.before.before.before.before.before.before.before) _ (sym (ap (λ (r : Ranged). r.refused) c.in_range-ranged.ensures) ∙ c.if-ranged.false)
+          c.write_all-last.ensures.0,
+      c.write_all-last.ensures.1 0 refl,
     )
 
-pub evaluate-near-spec : {M : Type 1} → statement M
-evaluate-near-spec =
+pub evaluate_near_spec : {M : Type 1} → statement M
+evaluate_near_spec =
     tie.close
     (tie.spec
     returns

@@ -19,46 +19,42 @@ use Rattle.query.proofs.entry.first_refused.Tie as tie
 abbrev refused-at : Curve → List Float → ℕ → Bool
 refused-at c xs j = (ranged_of c (at xs j)).refused
 
-abbrev invariant-loop : tie.invariant-loop
+abbrev invariant-loop : tie.invariant-loop-i
 invariant-loop curve xs inside i₀ i = (i ≤ length xs) × (first_of i (refused-at curve xs) ≡ i)
 
-abbrev decreases-loop : tie.decreases-loop
+abbrev decreases-loop : tie.decreases-loop-i
 decreases-loop curve xs inside i₀ i = length xs - i
 
-returns : tie.Need-returns invariant-loop decreases-loop
-returns c = let b = c.before.before in
-    let a = b.args in
+returns : tie.Need-returns-then-inside invariant-loop decreases-loop
+returns c = let a = c.args in
     sym (first_all (refused-at a.curve a.xs.now) (length a.xs.now)
-    (λ j l. ap (λ (r : Ranged). r.refused) (b.requires c.if1.true j l)))
+    (λ j l. ap (λ (r : Ranged). r.refused) (c.requires c.if-inside.true j l)))
 
-loop-holds : tie.Need-loop-init invariant-loop decreases-loop
+loop-holds : tie.Need-loop-i-init invariant-loop decreases-loop
 unfolding first_of
 loop-holds c = (omega arith, refl)
 
 -- what the test of parameter i says
-tested : (c : tie.After-in-range invariant-loop decreases-loop) → let a = c.before.before.before.before.before.before.args in
-    refused-at a.curve a.xs.now c.before.before.before.loop.i ≡ c.in-range.result.refused
-tested c = sym (ap (λ (r : Ranged). r.refused) c.in-range.ensures)
+tested : (c : tie.After-in_range-ranged invariant-loop decreases-loop) → let a = c.args in
+    refused-at a.curve a.xs.now c.loop-i.i ≡ c.in_range-ranged.result.refused
+tested c = sym (ap (λ (r : Ranged). r.refused) c.in_range-ranged.ensures)
 
-returns-2 : tie.Need-returns-2 invariant-loop decreases-loop
-returns-2 c = let l = c.before.before.before.before in
-    let a = l.before.before.before.args in
+returns-2 : tie.Need-returns-then-ranged invariant-loop decreases-loop
+returns-2 c = let a = c.args in
     let t = refused-at a.curve a.xs.now in
-    sym (first_found t (length a.xs.now) l.loop.i c.before.before.before.loop-test.true l.loop.invariant.1
-    (tested c.before ∙ c.if2.true))
+    sym (first_found t (length a.xs.now) c.loop-i.i c.loop-i-test.true c.loop-i.invariant.1
+    (tested c.before ∙ c.if-ranged.true))
 
-loop-again : tie.Need-loop-preserved invariant-loop decreases-loop
-loop-again c = let l = c.before.before.before.before in
-    let a = l.before.before.before.args in
-    (omega arith, first_next (refused-at a.curve a.xs.now) l.loop.i l.loop.invariant.1 (tested c.before ∙ c.if2.false))
+loop-again : tie.Need-loop-i-preserved invariant-loop decreases-loop
+loop-again c = let a = c.args in
+    (omega arith, first_next (refused-at a.curve a.xs.now) c.loop-i.i c.loop-i.invariant.1 (tested c.before ∙ c.if-ranged.false))
 
-returns-3 : tie.Need-returns-3 invariant-loop decreases-loop
-returns-3 c = let l = c.before in
-    let e : l.loop.i ≡ length l.before.before.before.args.xs.now = omega arith in
-    e ∙ sym (rw e at l.loop.invariant.1)
+returns-3 : tie.Need-returns invariant-loop decreases-loop
+returns-3 c = let e : c.loop-i.i ≡ length c.args.xs.now = omega arith in
+    e ∙ sym (rw e at c.loop-i.invariant.1)
 
-pub first-refused-spec : {M : Type 1} → statement M
-first-refused-spec =
+pub first_refused_spec : {M : Type 1} → statement M
+first_refused_spec =
     tie.close
     (tie.spec
     invariant-loop

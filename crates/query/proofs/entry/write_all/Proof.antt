@@ -6,30 +6,27 @@ use Rattle.curve.proofs.Formed.{formed}
 use Rattle.query.proofs.entry.write_all.Statement.{statement}
 use Rattle.query.proofs.entry.write_all.Tie as tie
 
-find-places-requires : tie.Need-find-places-requires
-find-places-requires c κs = let b = c.before.before.before.before.before.before.before.before.before.before.before in
-    let f = formed _ _ b.requires.0 in
+find-places-requires : tie.Need-find_places-found-requires
+find-places-requires c κs = let f = formed _ _ c.requires.0 in
     (omega (arith, f.k_high, f.d_high), f.d_high)
 
-write-rows-requires : tie.Need-write-rows-requires
-write-rows-requires c κs = let begun = c.before.before.before.before.before in
-    let found = begun.before.before.before.before in
-    let b = found.before.before.before.before.before.before.before.before.before.before.before.before in (
-      b.requires.0,
+write-rows-requires : tie.Need-write_rows-requires
+write-rows-requires c κs = (
+      c.requires.0,
       (
-        found.find-places.ensures,
+        c.find_places-found.ensures,
         (
           (refl, refl),
           (
-            b.requires.1.0,
-            ((begun.before.begin.ensures, begun.begin2.ensures), b.requires.1.1),
+            c.requires.1.0,
+            ((c.begin-from.ensures, c.begin-other_from.ensures), c.requires.1.1),
           ),
         ),
       ),
     )
 
-pub write-all-spec : {M : Type 1} → statement M
-write-all-spec =
+pub write_all_spec : {M : Type 1} → statement M
+write_all_spec =
     tie.close
     (tie.spec
     find-places-requires

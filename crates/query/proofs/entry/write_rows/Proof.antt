@@ -28,7 +28,7 @@ use Rattle.query.proofs.entry.write_rows.Tie as tie
 abbrev column : Curve → Slices → List Float → (Derivatives → Float) → ℕ → List Float
 column c s xs part j = column_of part c s (ranged_of c (at xs j))
 
-abbrev invariant-loop : tie.invariant-loop
+abbrev invariant-loop : tie.invariant-loop-i
 invariant-loop curve table whole scale breaks coefficients other_breaks other_coefficients near other-near xs inside order q₀ dq₀ ddq₀ dddq₀
     d k n others m start from other_from span₀ other-span₀ i₀ q dq ddq dddq span other-span i =
     let s = slices breaks coefficients other_breaks other_coefficients in
@@ -37,7 +37,7 @@ invariant-loop curve table whole scale breaks coefficients other_breaks other_co
     (i ≤ length xs) × Begins breaks span × Begins other_breaks other-span × SameLengths o₀ o
     × (o ≡ filled order 0 (λ part. join i (column curve s xs part)) o₀) × Last curve s xs i span other-span
 
-abbrev decreases-loop : tie.decreases-loop
+abbrev decreases-loop : tie.decreases-loop-i
 decreases-loop curve table whole scale breaks coefficients other_breaks other_coefficients near other-near xs inside order q₀ dq₀ ddq₀ dddq₀
     d k n others m start from other_from span₀ other-span₀ i₀ q dq ddq dddq span other-span i =
     length xs - i
@@ -52,18 +52,18 @@ abbrev given : Start → Outputs
 given b = outputs b.args.q.now b.args.dq.now b.args.ddq.now b.args.dddq.now
 
 -- from a turn of the loop back to the start
-abbrev start : tie.At-loop invariant-loop decreases-loop → Start
+abbrev start : tie.At-loop-i invariant-loop decreases-loop → Start
 start l = l.before.before.before.before.before.before.before.before.before.before
 
 well_formed_law : (b : Start) → Formed b.args.curve (read b)
 well_formed_law b = formed _ _ b.requires.0
 
-sub-m : tie.Need-overflow-sub-m invariant-loop decreases-loop
+sub-m : tie.Need-overflow_sub-m invariant-loop decreases-loop
 sub-m c = omega (arith, (well_formed_law c.before.before.before.before.before.before.before.before.before).k_high)
 
 -- the coefficients are few
-few : (c : tie.After-slice-known4 invariant-loop decreases-loop)
-    → let v = c.before.before.before.before.before.before.before.before.before.args.curve in
+few : (c : tie.After-slice_known-4-1 invariant-loop decreases-loop)
+    → let v = c.args.curve in
     (v.segments * v.k ≤ 320000) × (v.other_segments * (v.d - v.k) ≤ 320000)
 few c =
     let f = well_formed_law c.before.before.before.before.before.before.before.before.before in (
@@ -71,33 +71,27 @@ few c =
       others_few _ _ _ _ (omega (arith, f.d_high)) f.others_formed_law,
     )
 
-loop-holds : tie.Need-loop-init invariant-loop decreases-loop
+loop-holds : tie.Need-loop-i-init invariant-loop decreases-loop
 unfolding join
-loop-holds c = let b = c.before.before.before.before.before.before.before.before.before in
-    let n = b.requires.1.1.1.1.0 in
-    (omega arith, n.0, n.1, as_long (given b), filled_none b.args.order 0 (given b), λ j e. absurd (omega arith))
+loop-holds c = let n = c.requires.1.1.1.1.0 in
+    (omega arith, n.0, n.1, as_long (given c.before.before.before.before.before.before.before.before.before), filled_none c.args.order 0 (given c.before.before.before.before.before.before.before.before.before), λ j e. absurd (omega arith))
 
-answered-requires : tie.Need-answered-requires invariant-loop decreases-loop
-answered-requires c κs = λ h. (start c.before.before).requires.1.1.1.0 h c.before.before.loop.i c.before.loop-test.true
+answered-requires : tie.Need-answered-ranged-requires invariant-loop decreases-loop
+answered-requires c κs = λ h. (start c.before.before).requires.1.1.1.0 h c.loop-i.i c.loop-i-test.true
 
-locate-requires : tie.Need-locate-requires invariant-loop decreases-loop
-locate-requires c κs = let l = c.before.before.before.before in
-    let known = l.before.before.before.before.before.before.before.before in
-    let f = (well_formed_law (start l)).set_formed_law in
-    (set_rising _ _ _ _ f, l.loop.invariant.1, set_widths _ _ _ _ known.shared-slice-known2.given f)
+locate-requires : tie.Need-locate-here-requires invariant-loop decreases-loop
+locate-requires c κs = let f = (well_formed_law (start c.before.before.before.before)).set_formed_law in
+    (set_rising _ _ _ _ f, c.loop-i.invariant.1, set_widths _ _ _ _ c.shared_slice_known-2-1.given f)
 
-locate-requires-2 : tie.Need-locate-requires-2 invariant-loop decreases-loop
-locate-requires-2 c κs = let l = c.before.before.before.before.before in
-    let known = l.before.before.before.before.before.before in
-    let f = (well_formed_law (start l)).others_formed_law in
-    (others_rising _ _ _ _ f, l.loop.invariant.2, other_widths _ _ _ _ known.shared-slice-known4.given f)
+locate-requires-2 : tie.Need-locate-there-requires invariant-loop decreases-loop
+locate-requires-2 c κs = let f = (well_formed_law (start c.before.before.before.before.before)).others_formed_law in
+    (others_rising _ _ _ _ f, c.loop-i.invariant.2, other_widths _ _ _ _ c.shared_slice_known-4-1.given f)
 
-mul-put-axes : tie.Need-overflow-mul-put-axes invariant-loop decreases-loop
-mul-put-axes c = let l = c.before.before.before.before.before.before in
-    let b = start l in
+mul-put-axes : tie.Need-overflow_mul-i invariant-loop decreases-loop
+mul-put-axes c = let b = start c.before.before.before.before.before.before in
     let g = b.args in
-    let r = row_end l.loop.i (length g.xs.now) g.curve.d (length g.q.now)
-    c.before.before.before.before.before.loop-test.true b.pre.1.1.1.1.1.0 in
+    let r = row_end c.loop-i.i (length g.xs.now) g.curve.d (length g.q.now)
+    c.loop-i-test.true b.requires.1.1.1.1.1.0 in
     omega (arith, r, b.good)
 
 -- the place of an axis is below d
@@ -111,72 +105,65 @@ places-below b a h =
     (axes_good g.curve.axes g.curve.k g.curve.d f.axes_formed_law) a o in
     rw (b.requires.1.0 a o) (omega (arith, f.k_high, w))
 
-put-axes-requires : tie.Need-put-axes-requires invariant-loop decreases-loop
-put-axes-requires c κs = let t = c.before.before.before.before in
-    let l = t.before.before.before.before.before.before in
-    let b = start l in
+put-axes-requires : tie.Need-put_axes-requires invariant-loop decreases-loop
+put-axes-requires c κs = let b = start c.before.before.before.before.before.before.before.before.before.before in
     let g = b.args in
     let f = well_formed_law b in
     let d = g.curve.d in
     let n = length g.xs.now in
-    let i = l.loop.i in
-    let r = row_end i n d (n * d) t.before.before.before.before.before.loop-test.true (omega arith) in
-    let o = outputs l.loop.q l.loop.dq l.loop.ddq l.loop.dddq in (
+    let i = c.loop-i.i in
+    let r = row_end i n d (n * d) c.loop-i-test.true (omega arith) in
+    let o = outputs c.loop-i.q c.loop-i.dq c.loop-i.ddq c.loop-i.dddq in (
       (
         omega (arith, f.k_high, f.d_high),
-        rw t.before.locate.ensures (set_rows _ _ _ _ _ f.set_formed_law),
-        rw t.locate2.ensures (other_rows_law _ _ _ _ _ f.others_formed_law),
+        rw c.locate-here.ensures (set_rows _ _ _ _ _ f.set_formed_law),
+        rw c.locate-there.ensures (other_rows_law _ _ _ _ _ f.others_formed_law),
       ),
       (
         places-below b,
-        room_for g.order (i * d + (g.curve.k + (d - g.curve.k))) (n * d) (given b) o (omega (arith, f.k_high, r)) l.loop.invariant.3
-            b.pre.1.1.1.1.1,
+        room_for g.order (i * d + (g.curve.k + (d - g.curve.k))) (n * d) (given b) o (omega (arith, f.k_high, r)) c.loop-i.invariant.3
+            b.requires.1.1.1.1.1,
       ),
     )
 
-add-i : tie.Need-overflow-add-i invariant-loop decreases-loop
-add-i c = let t = c.before.before.before.before.before.before.before.before.before.before.before.before.before in
-    omega (arith, t.before.before.before.before.before.loop-test.true, (start t.before.before.before.before.before.before).well-formed)
+add-i : tie.Need-overflow_add-i invariant-loop decreases-loop
+add-i c = omega (arith, c.loop-i-test.true, (start c.before.before.before.before.before.before.before.before.before.before.before.before.before.before.before.before.before.before.before).well-formed)
 
-loop-again : tie.Need-loop-preserved invariant-loop decreases-loop
-loop-again c = let p = c.before.before.before.before.before.before.before.before in
-    let t = p.before.before.before.before.before in
-    let l = t.before.before.before.before.before.before in
-    let b = start l in
+loop-again : tie.Need-loop-i-preserved invariant-loop decreases-loop
+loop-again c = let b = start c.before.before.before.before.before.before.before.before.before.before.before.before.before.before.before.before.before.before.before in
     let g = b.args in
     let f = well_formed_law b in
     let d = g.curve.d in
-    let i = l.loop.i in
-    let h = t.before.before.before.before.before.loop-test.true in
-    let x = t.before.before.before.answered.ensures in
-    let w = b.pre.1.1.0 in
-    let o = outputs l.loop.q l.loop.dq l.loop.ddq l.loop.dddq in
-    let e = rows_columns g.curve (read b) (ranged_of g.curve (at g.xs.now i)) g.table.now f.k_high b.pre.1.0
+    let i = c.loop-i.i in
+    let h = c.loop-i-test.true in
+    let x = c.answered-ranged.ensures in
+    let w = b.requires.1.1.0 in
+    let o = outputs c.loop-i.q c.loop-i.dq c.loop-i.ddq c.loop-i.dddq in
+    let e = rows_columns g.curve (read b) (ranged_of g.curve (at g.xs.now i)) g.table.now f.k_high b.requires.1.0
     g.order
-    (i * d) o _ _ _ _ _ _ x w.0 w.1 t.before.locate.ensures t.locate2.ensures p.put-axes.ensures in
+    (i * d) o _ _ _ _ _ _ x w.0 w.1 c.locate-here.ensures c.locate-there.ensures c.put_axes.ensures in
     let r = rows_next g.order 0 d i (length g.xs.now) (i * d) (column g.curve (read b) g.xs.now) (given b) o _ (omega arith)
     (λ part j. column_length part g.curve (read b) (ranged_of g.curve (at g.xs.now j))) h
     (room_for g.order (0 + length g.xs.now * d) (length g.xs.now * d) (given b) (given b) (omega arith) (as_long (given b))
-    b.pre.1.1.1.1.1)
-    l.loop.invariant.4 e in (
+    b.requires.1.1.1.1.1)
+    c.loop-i.invariant.4 e in (
       omega (arith, h),
-      rw t.before.locate.ensures (located_within _ _),
-      rw t.locate2.ensures (located_within _ _),
+      rw c.locate-here.ensures (located_within _ _),
+      rw c.locate-there.ensures (located_within _ _),
       r.0,
       r.1,
       λ j e. let same : j ≡ i = omega arith in (
-        rw same (span_found g.curve g.breaks.now _ _ _ _ x w.0 t.before.locate.ensures),
-        rw same (span_found g.curve g.other_breaks.now _ _ _ _ x w.0 t.locate2.ensures),
+        rw same (span_found g.curve g.breaks.now _ _ _ _ x w.0 c.locate-here.ensures),
+        rw same (span_found g.curve g.other_breaks.now _ _ _ _ x w.0 c.locate-there.ensures),
       ),
     )
 
 returns : tie.Need-returns invariant-loop decreases-loop
-returns c = let l = c.before in
-    let e : l.loop.i ≡ length (start l).args.xs.now = omega arith in
-    (rw e at l.loop.invariant.4, rw e at l.loop.invariant.5)
+returns c = let e : c.loop-i.i ≡ length (start c.before).args.xs.now = omega arith in
+    (rw e at c.loop-i.invariant.4, rw e at c.loop-i.invariant.5)
 
-pub write-rows-spec : {M : Type 1} → statement M
-write-rows-spec =
+pub write_rows_spec : {M : Type 1} → statement M
+write_rows_spec =
     tie.close
     (tie.spec
     invariant-loop

@@ -9,21 +9,21 @@ use Rattle.curve.proofs.Placing.{listed_place, listed_next, other_place, other_n
 use Rattle.query.proofs.places.find_places.Statement.{statement}
 use Rattle.query.proofs.places.find_places.Tie as tie
 
-abbrev invariant-loop : tie.invariant-loop
+abbrev invariant-loop : tie.invariant-loop-a
 invariant-loop axes k d at₀ others₀ a₀ at others a = (a ≤ d) × (length at ≡ 16) × (others ≡ others_below axes k a) × (others ≤ a)
     × ((b : ℕ) → b < a → get_or at b 0 ≡ axis_place axes k b)
 
-abbrev decreases-loop : tie.decreases-loop
+abbrev decreases-loop : tie.decreases-loop-a
 decreases-loop axes k d at₀ others₀ a₀ at others a = d - a
 
-loop-holds : tie.Need-loop-init invariant-loop decreases-loop
+loop-holds : tie.Need-loop-a-init invariant-loop decreases-loop
 unfolding others_below
 loop-holds c = (omega arith, refl, refl, omega arith, λ b h. absurd (omega arith))
 
-loop-again : tie.Need-loop-preserved invariant-loop decreases-loop
-loop-again c = let l = c.before.before.before.loop in
-    let g = c.before.before.before.before.args in
-    let p = c.before.position.ensures in
+loop-again : tie.Need-loop-a-preserved invariant-loop decreases-loop
+loop-again c = let l = c.loop-a in
+    let g = c.args in
+    let p = c.position-i.ensures in
     ⊎_elim
     (λ w.
     let h : position_of g.axes.now g.k l.a < g.k = omega (arith, w.0.taken) in (
@@ -31,7 +31,7 @@ loop-again c = let l = c.before.before.before.loop in
       rw w.1 (simp length-set l.invariant.1),
       w.2 ∙ l.invariant.2 ∙ sym (listed_next g.axes.now g.k l.a h),
       omega (arith, w.2),
-      rw w.1 (place_next g.axes.now g.k l.at l.a c.before.position.result (omega arith)
+      rw w.1 (place_next g.axes.now g.k l.at l.a c.position-i.result (omega arith)
           (p ∙ sym (listed_place g.axes.now g.k l.a h)) l.invariant.4),
     ))
     (λ w.
@@ -43,13 +43,13 @@ loop-again c = let l = c.before.before.before.loop in
       rw w.1 (place_next g.axes.now g.k l.at l.a (g.k + l.others) (omega arith)
           (ap (λ (n : ℕ). g.k + n) l.invariant.2 ∙ sym (other_place g.axes.now g.k l.a h)) l.invariant.4),
     ))
-    c.if1.branch
+    c.if-i-k.branch
 
 returns : tie.Need-returns invariant-loop decreases-loop
-returns c = λ b h. c.before.loop.invariant.4 b (omega arith)
+returns c = λ b h. c.loop-a.invariant.4 b (omega arith)
 
-pub find-places-spec : {M : Type 1} → statement M
-find-places-spec =
+pub find_places_spec : {M : Type 1} → statement M
+find_places_spec =
     tie.close
     (tie.spec
     invariant-loop

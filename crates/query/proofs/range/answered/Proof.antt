@@ -4,11 +4,11 @@ use borrow.Author.Rules.{rules}
 use Rattle.query.proofs.range.answered.Statement.{statement}
 use Rattle.query.proofs.range.answered.Tie as tie
 
-returns : tie.Need-returns
-returns c = sym (c.before.requires c.if1.true)
+returns : tie.Need-returns-then-inside
+returns c = sym (c.requires c.if-inside.true)
 
-returns-2 : tie.Need-returns-2
-returns-2 c = c.in-range.ensures
+returns-2 : tie.Need-returns
+returns-2 c = c.in_range.ensures
 
-pub answered-spec : {M : Type 1} → statement M
-answered-spec = tie.close (tie.spec returns (λ c κs. search rules) returns-2)
+pub answered_spec : {M : Type 1} → statement M
+answered_spec = tie.close (tie.spec returns (λ c κs. search rules) returns-2)

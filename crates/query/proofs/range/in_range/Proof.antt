@@ -16,17 +16,17 @@ unequal x = go (ne x x) refl
     go true e = e ∙ sym (differs_nan x e)
     go false e = e ∙ sym (equal_number x e)
 
-returns : tie.Need-returns
+returns : tie.Need-returns-then-x-start
 unfolding ranged_of
-returns c = rw c.before.if1.true c.beyond.ensures
+returns c = rw c.if-x-start.true c.beyond.ensures
 
-returns-2 : tie.Need-returns-2
+returns-2 : tie.Need-returns-then-end-x
 unfolding ranged_of
-returns-2 c = rw (c.before.before.if1.false, c.before.if2.true) c.beyond2.ensures
+returns-2 c = rw (c.if-x-start.false, c.if-end-x.true) c.beyond-then-end-x.ensures
 
-returns-3 : tie.Need-returns-3
+returns-3 : tie.Need-returns
 unfolding ranged_of
-returns-3 c = rw (c.before.if1.false, c.if2.false, unequal c.before.before.args.x)
+returns-3 c = rw (c.if-x-start.false, c.if-end-x.false, unequal c.args.x)
 
-pub in-range-spec : {M : Type 1} → statement M
-in-range-spec = tie.close (tie.spec (λ c κs. search rules) returns (λ c κs. search rules) returns-2 returns-3)
+pub in_range_spec : {M : Type 1} → statement M
+in_range_spec = tie.close (tie.spec (λ c κs. search rules) returns (λ c κs. search rules) returns-2 returns-3)

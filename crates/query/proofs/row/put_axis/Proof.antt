@@ -23,39 +23,39 @@ filled_in : (b : tie.Start) → let a = b.args in
     ≡ filled a.order a.i (λ part. part a.v ∷ []) (given b)
 filled_in b = cells_filled b.args.order b.args.i b.args.v (given b) b.requires
 
-slice-write-q : tie.Need-slice-write-q
+slice-write-q : tie.Need-bounds-q-i
 slice-write-q c = omega (arith, c.requires.0)
 
-returns : tie.Need-returns
-returns c = let n = c.before.args.order in
-    rw (lt-leb 1 n c.if1.true, lt-leb 2 n (omega arith), lt-leb 3 n (omega arith)) at (filled_in c.before)
+returns : tie.Need-returns-then-order-lt1
+returns c = let n = c.args.order in
+    rw (lt-leb 1 n c.if-order-lt1.true, lt-leb 2 n (omega arith), lt-leb 3 n (omega arith)) at (filled_in c.before)
 
-slice-write-dq : tie.Need-slice-write-dq
-slice-write-dq c = omega (arith, c.before.requires.1 (le-leb 1 _ c.if1.false))
+slice-write-dq : tie.Need-bounds-dq-i
+slice-write-dq c = omega (arith, c.requires.1 (le-leb 1 _ c.if-order-lt1.false))
 
-returns-2 : tie.Need-returns-2
-returns-2 c = let n = c.before.before.args.order in
-    rw (le-leb 1 n c.before.if1.false, lt-leb 2 n (omega (arith, c.if2.true)), lt-leb 3 n (omega arith))
+returns-2 : tie.Need-returns-then-order-lt2
+returns-2 c = let n = c.args.order in
+    rw (le-leb 1 n c.if-order-lt1.false, lt-leb 2 n (omega (arith, c.if-order-lt2.true)), lt-leb 3 n (omega arith))
     at (filled_in c.before.before)
 
-slice-write-ddq : tie.Need-slice-write-ddq
-slice-write-ddq c = let b = c.before.before in omega (arith, b.requires.2 (le-leb 2 b.args.order (omega (arith, c.if2.false))))
+slice-write-ddq : tie.Need-bounds-ddq-i
+slice-write-ddq c = omega (arith, c.requires.2 (le-leb 2 c.args.order (omega (arith, c.if-order-lt2.false))))
 
-returns-3 : tie.Need-returns-3
-returns-3 c = let n = c.before.before.before.args.order in
-    rw (le-leb 1 n c.before.before.if1.false, le-leb 2 n (omega (arith, c.before.if2.false)), lt-leb 3 n c.if3.true)
+returns-3 : tie.Need-returns-then-order-lt3
+returns-3 c = let n = c.args.order in
+    rw (le-leb 1 n c.if-order-lt1.false, le-leb 2 n (omega (arith, c.if-order-lt2.false)), lt-leb 3 n c.if-order-lt3.true)
     at (filled_in c.before.before.before)
 
-slice-write-dddq : tie.Need-slice-write-dddq
-slice-write-dddq c = omega (arith, c.before.before.before.requires.3 (le-leb 3 _ c.if3.false))
+slice-write-dddq : tie.Need-bounds-dddq-i
+slice-write-dddq c = omega (arith, c.requires.3 (le-leb 3 _ c.if-order-lt3.false))
 
-returns-4 : tie.Need-returns-4
-returns-4 c = let n = c.before.before.before.args.order in
-    rw (le-leb 1 n c.before.before.if1.false, le-leb 2 n (omega (arith, c.before.if2.false)), le-leb 3 n c.if3.false)
+returns-4 : tie.Need-returns
+returns-4 c = let n = c.args.order in
+    rw (le-leb 1 n c.if-order-lt1.false, le-leb 2 n (omega (arith, c.if-order-lt2.false)), le-leb 3 n c.if-order-lt3.false)
     at (filled_in c.before.before.before)
 
-pub put-axis-spec : {M : Type 1} → statement M
-put-axis-spec =
+pub put_axis_spec : {M : Type 1} → statement M
+put_axis_spec =
     tie.close
     (tie.spec
     (λ c. search rules)

@@ -11,21 +11,21 @@ use Rattle.query.proofs.search.at_or_below.Reads as reads
 use Rattle.query.proofs.search.at_or_below.Lts as lts
 
 v-held : (c : lts.Start reads.Pre reads.Post) → T (fits binary64 c.args.v)
-v-held c = subst T (sym c.well-formed.0.1) tt
+v-held c = subst T (sym c.well_formed.0.1) tt
 
 x-held : (c : lts.Start reads.Pre reads.Post) → T (fits binary64 c.args.x)
-x-held c = subst T (sym c.well-formed.1.0.1) tt
+x-held c = subst T (sym c.well_formed.1.0.1) tt
 
-float-to-bits-top : tie.Need-float-to-bits-top
+float-to-bits-top : tie.Need-float_to_bits-top
 float-to-bits-top c = rw (at_least_number c.args.x (lt_le _ _ c.requires.1)) tt
 
-add-top : tie.Need-overflow-add-top
+add-top : tie.Need-overflow_add-top
 add-top c = omega (arith, above_room c.args.x (x-held c) c.requires.1)
 
-float-to-bits-result : tie.Need-float-to-bits-result
+float-to-bits-result : tie.Need-float_to_bits-result
 float-to-bits-result c = rw (at_least_number c.args.v c.requires.0) tt
 
-sub-result : tie.Need-overflow-sub-result
+sub-result : tie.Need-overflow_sub-result
 sub-result c = omega (arith, clear_room c.args.v (v-held c) c.requires.0)
 
 returns : tie.Need-returns
@@ -36,5 +36,5 @@ returns c = let a = above_room c.args.x (x-held c) c.requires.1 in
       λ e p. order_lt c.args.v c.args.x (v-held c) (x-held c) c.requires.1 p (omega arith),
     )
 
-pub at-or-below-spec : {M : Type 1} → statement M
-at-or-below-spec = tie.close (tie.spec float-to-bits-top add-top float-to-bits-result sub-result returns)
+pub at_or_below_spec : {M : Type 1} → statement M
+at_or_below_spec = tie.close (tie.spec float-to-bits-top add-top float-to-bits-result sub-result returns)

@@ -6,22 +6,19 @@ use Rattle.query.proofs.segment.at.Tie as tie
 
 returns : tie.Need-returns
 unfolding at_of
-returns c = let second = c.before.before in
-    let first = second.before.before in
-    let value = first.before.before in
-    rw (
-      c.powi4.ensures,
-      c.before.horner4.ensures,
-      second.powi3.ensures,
-      second.before.horner3.ensures,
-      first.powi2.ensures,
-      first.before.horner2.ensures,
-      value.powi.ensures,
-      value.before.horner.ensures,
+returns c = rw (
+      c.powi-4.ensures,
+      c.horner-4.ensures,
+      c.powi-3.ensures,
+      c.horner-3.ensures,
+      c.powi-2.ensures,
+      c.horner-2.ensures,
+      c.powi.ensures,
+      c.horner.ensures,
     )
 
-pub at-spec : {M : Type 1} → statement M
-at-spec =
+pub at_spec : {M : Type 1} → statement M
+at_spec =
     tie.close
     (tie.spec
     (λ c κs. search rules)

@@ -11,25 +11,22 @@ use Rattle.query.proofs.segment.axis.Statement.{statement}
 use Rattle.query.proofs.segment.axis.Tie as tie
 
 -- the six coefficients of the axis
-six : (c : tie.After-coefficients) → 6 ≤ length c.coefficients.result.now
-six c = let b = c.before.before.before in
-    let a = b.args in
-    let e = six_cells a.selected.now a.other.now a.k a.m a.place a.here.span a.there.span b.requires.0 b.requires.1
-    b.requires.2 in
-    rw c.coefficients.ensures (omega (arith, e))
+six : (c : tie.After-coefficients-p) → 6 ≤ length c.coefficients-p.result.now
+six c = let a = c.args in
+    let e = six_cells a.selected.now a.other.now a.k a.m a.place a.here.span a.there.span c.requires.0 c.requires.1
+    c.requires.2 in
+    rw c.coefficients-p.ensures (omega (arith, e))
 
-returns : tie.Need-returns
+returns : tie.Need-returns-then-place-k
 unfolding axis_at
-returns c = let part = c.before.before in
-    rw (lt-ltb _ _ part.if1.true) (c.scaled.ensures ∙ rw (c.before.at.ensures, part.before.coefficients.ensures))
+returns c = rw (lt-ltb _ _ c.if-place-k.true) (c.scaled.ensures ∙ rw (c.at.ensures, c.coefficients-p.ensures))
 
-returns-2 : tie.Need-returns-2
+returns-2 : tie.Need-returns
 unfolding axis_at
-returns-2 c = let part = c.before.before in
-    rw (le-ltb _ _ part.if1.false) (c.scaled2.ensures ∙ rw (c.before.at2.ensures, part.before.coefficients.ensures))
+returns-2 c = rw (le-ltb _ _ c.if-place-k.false) (c.scaled-2.ensures ∙ rw (c.at-2.ensures, c.coefficients-p.ensures))
 
-pub axis-spec : {M : Type 1} → statement M
-axis-spec =
+pub axis_spec : {M : Type 1} → statement M
+axis_spec =
     tie.close
     (tie.spec
     (λ c κs. search rules)

@@ -5,16 +5,16 @@ use Rattle.query.specs.Segment.{coefficients_of}
 use Rattle.query.proofs.segment.coefficients.Statement.{statement}
 use Rattle.query.proofs.segment.coefficients.Tie as tie
 
-returns : tie.Need-returns
+returns : tie.Need-returns-then-place-k
 unfolding coefficients_of
-returns c = rw (lt-ltb _ _ c.before.if1.true)
+returns c = rw (lt-ltb _ _ c.if-place-k.true)
 
-returns-2 : tie.Need-returns-2
+returns-2 : tie.Need-returns
 unfolding coefficients_of
-returns-2 c = rw (le-ltb _ _ c.before.if1.false)
+returns-2 c = rw (le-ltb _ _ c.if-place-k.false)
 
-pub coefficients-spec : {M : Type 1} → statement M
-coefficients-spec =
+pub coefficients_spec : {M : Type 1} → statement M
+coefficients_spec =
     tie.close
     (tie.spec
     (λ c. search rules)

@@ -11,25 +11,25 @@ use Rattle.query.specs.Segment.{horner_turn, horner_of}
 use Rattle.query.proofs.segment.horner.Statement.{statement}
 use Rattle.query.proofs.segment.horner.Tie as tie
 
-abbrev invariant-loop : tie.invariant-loop
+abbrev invariant-loop : tie.invariant-loop-k
 invariant-loop p u r v₀ k₀ v k = (r ≤ k) × (k ≤ 6) × (back (horner_turn p u r) r k v ≡ back (horner_turn p u r) r 6 +0)
 
-abbrev decreases-loop : tie.decreases-loop
+abbrev decreases-loop : tie.decreases-loop-k
 decreases-loop p u r v₀ k₀ v k = k
 
-loop-holds : tie.Need-loop-init invariant-loop decreases-loop
+loop-holds : tie.Need-loop-k-init invariant-loop decreases-loop
 loop-holds c = (omega arith, omega arith, refl)
 
-loop-again : tie.Need-loop-preserved invariant-loop decreases-loop
+loop-again : tie.Need-loop-k-preserved invariant-loop decreases-loop
 unfolding horner_turn factorials of_bits round
-loop-again c = (omega arith, omega arith, sym (back_turn _ _ _ _ c.before.loop-test.true) ∙ c.before.before.loop.invariant.2)
+loop-again c = (omega arith, omega arith, sym (back_turn _ _ _ _ c.loop-k-test.true) ∙ c.loop-k.invariant.2)
 
 returns : tie.Need-returns invariant-loop decreases-loop
 unfolding horner_of
-returns c = sym (back_done _ _ _ _ (omega arith)) ∙ c.before.loop.invariant.2
+returns c = sym (back_done _ _ _ _ (omega arith)) ∙ c.loop-k.invariant.2
 
-pub horner-spec : {M : Type 1} → statement M
-horner-spec =
+pub horner_spec : {M : Type 1} → statement M
+horner_spec =
     tie.close
     (tie.spec
     invariant-loop

@@ -11,33 +11,31 @@ use Rattle.query.proofs.Sets.{span_below}
 use Rattle.query.proofs.segment.locate.Statement.{statement}
 use Rattle.query.proofs.segment.locate.Tie as tie
 
-returns : tie.Need-returns
+returns : tie.Need-returns-then-breaks-lt2
 unfolding located
-returns c = rw (lt-ltb _ _ c.if1.true)
+returns c = rw (lt-ltb _ _ c.if-breaks-lt2.true)
 
-span-requires : tie.Need-span-requires
-span-requires c κs = let b = c.before.before.before in (b.requires.0, b.requires.1 c.if1.false)
+span-requires : tie.Need-span-span-requires
+span-requires c κs = (c.requires.0, c.requires.1 c.if-breaks-lt2.false)
 
 -- the width of the segment that was found
-width : (c : tie.After-span) → let a = c.before.before.before.before.args in
-    (a.from + c.span.result < length a.cells.now) × (at a.cells.now (a.from + c.span.result) ≡ width_of a.breaks.now
-    c.span.result)
+width : (c : tie.After-span-span) → let a = c.args in
+    (a.from + c.span-span.result < length a.cells.now) × (at a.cells.now (a.from + c.span-span.result) ≡ width_of a.breaks.now
+    c.span-span.result)
 width c =
-    let b = c.before.before.before.before in
-    let a = b.args in
-    b.requires.2 c.span.result (rw c.span.ensures (span_below a.breaks.now a.x c.before.if1.false))
+    let a = c.args in
+    c.requires.2 c.span-span.result (rw c.span-span.ensures (span_below a.breaks.now a.x c.if-breaks-lt2.false))
 
-on-span-requires : tie.Need-on-span-requires
-on-span-requires c κs = (omega (arith, c.before.span.ensures), (width c.before).1)
+on-span-requires : tie.Need-on_span-requires
+on-span-requires c κs = (omega (arith, c.span-span.ensures), (width c.before).1)
 
-returns-2 : tie.Need-returns-2
+returns-2 : tie.Need-returns
 unfolding located
 returns-2 c =
-    let s = c.before.before in
-    rw (le-ltb _ _ s.before.if1.false) (c.on-span.ensures ∙ rw s.span.ensures)
+    rw (le-ltb _ _ c.if-breaks-lt2.false) (c.on_span.ensures ∙ rw c.span-span.ensures)
 
-pub locate-spec : {M : Type 1} → statement M
-locate-spec =
+pub locate_spec : {M : Type 1} → statement M
+locate_spec =
     tie.close
     (tie.spec
     returns

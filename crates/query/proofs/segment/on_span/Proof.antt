@@ -4,7 +4,7 @@ use Rattle.query.proofs.segment.on_span.Statement.{statement}
 use Rattle.query.proofs.segment.on_span.Tie as tie
 
 returns : tie.Need-returns
-returns c = rw c.before.requires.1
+returns c = rw c.requires.1
 
-pub on-span-spec : {M : Type 1} → statement M
-on-span-spec = tie.close (tie.spec (λ c. search rules) (λ c. search rules) returns)
+pub on_span_spec : {M : Type 1} → statement M
+on_span_spec = tie.close (tie.spec (λ c. search rules) (λ c. search rules) returns)

@@ -8,5 +8,5 @@ returns : tie.Need-returns
 unfolding scaled_of
 returns c = refl
 
-pub scaled-spec : {M : Type 1} → statement M
-scaled-spec = tie.close (tie.spec returns)
+pub scaled_spec : {M : Type 1} → statement M
+scaled_spec = tie.close (tie.spec returns)

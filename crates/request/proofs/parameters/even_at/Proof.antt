@@ -9,8 +9,8 @@ returns : tie.Need-returns
 unfolding even_of
 returns c = refl
 
-pub even-at-spec : {M : Type 1} → statement M
-even-at-spec =
+pub even_at_spec : {M : Type 1} → statement M
+even_at_spec =
     tie.close
     (tie.spec
     (λ c. search rules)

@@ -4,8 +4,8 @@ use borrow.Author.Rules.{rules}
 use Rattle.request.proofs.parameters.is_misplaced.Statement.{statement}
 use Rattle.request.proofs.parameters.is_misplaced.Tie as tie
 
-returns : tie.Need-returns
-returns c = rw (sym c.before.is_finite.ensures ∙ c.if1.true) refl
+returns : tie.Need-returns-then-is_finite
+returns c = rw (sym c.is_finite.ensures ∙ c.if-is_finite.true) refl
 
-pub is-misplaced-spec : {M : Type 1} → statement M
-is-misplaced-spec = tie.close (tie.spec (λ c κs. search rules) returns (λ c. search rules))
+pub is_misplaced_spec : {M : Type 1} → statement M
+is_misplaced_spec = tie.close (tie.spec (λ c κs. search rules) returns (λ c. search rules))

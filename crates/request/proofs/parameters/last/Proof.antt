@@ -8,35 +8,35 @@ use Rattle.request.proofs.Spaced.{even_at, chord_at}
 use Rattle.request.proofs.parameters.last.Statement.{statement}
 use Rattle.request.proofs.parameters.last.Tie as tie
 
-shared-slice-read-result : tie.Need-shared-slice-read-result
+shared-slice-read-result : tie.Need-bounds-list-n
 shared-slice-read-result c =
-    let l = c.before.before.before.before.before.requires.3 c.before.enum_told.given.1 in omega arith
+    let l = c.requires.3 c.in-Listed.is in omega arith
 
 chords-requires : tie.Need-chords-requires
 chords-requires c κs =
-    let a = c.before.before.before.before.args in
+    let a = c.args in
     let e : a.n - 1 + 1 ≡ a.n = omega arith in
     let g = ap (λ (k : ℕ). k * a.d) e in
     (omega arith, omega (arith, g))
 
-returns : tie.Need-returns
+returns : tie.Need-returns-in-Listed
 unfolding parameter_list
-returns c = rw c.before.enum_told.given.1
+returns c = rw c.in-Listed.is
 
-returns-2 : tie.Need-returns-2
+returns-2 : tie.Need-returns-in-Even
 returns-2 c =
-    let a = c.before.before.before.before.before.args in
-    rw c.before.enum-told2.given.1
-    (c.even-at.ensures ∙ sym (even_at a.list.now a.points.now a.d a.n (a.n - 1) (omega arith)))
+    let a = c.args in
+    rw c.in-Even.is
+    (c.even_at.ensures ∙ sym (even_at a.list.now a.points.now a.d a.n (a.n - 1) (omega arith)))
 
-returns-3 : tie.Need-returns-3
+returns-3 : tie.Need-returns-in-Chord
 returns-3 c =
-    let a = c.before.before.before.before.before.args in
-    rw c.before.enum-told3.given.1
+    let a = c.args in
+    rw c.in-Chord.is
     (c.chords.ensures ∙ sym (chord_at a.list.now a.points.now a.d a.n (a.n - 1) (omega arith)))
 
-pub last-spec : {M : Type 1} → statement M
-last-spec =
+pub last_spec : {M : Type 1} → statement M
+last_spec =
     tie.close
     (tie.spec
     (λ c. search rules)

@@ -11,23 +11,23 @@ use Rattle.request.proofs.parameters.placed.Statement.{statement}
 use Rattle.request.proofs.parameters.placed.Tie as tie
 
 -- the count, as it was tested
-tested : (c : tie.After-miscounted) → let a = c.before.before.before.args in
+tested : (c : tie.After-miscounted) → let a = c.args in
     c.miscounted.result ≡ not (eqb (length (parameter_list a.spacing a.list.now a.points.now a.d a.n)) a.n)
 tested c = c.miscounted.ensures _ _
 
-returns : tie.Need-returns
+returns : tie.Need-returns-then-miscounted
 unfolding misplaced
-returns c = (rw (sym (tested c.before) ∙ c.if1.true), λ h. absurd (true≢false h))
+returns c = (rw (sym (tested c.before) ∙ c.if-miscounted.true), λ h. absurd (true≢false h))
 
 tested-requires : tie.Need-tested-requires
 tested-requires c κs =
-    let a = c.before.before.before.before.args in
-    let e = counted a.spacing a.list.now a.points.now a.d a.n (sym (tested c.before) ∙ c.if1.false) in
+    let a = c.args in
+    let e = counted a.spacing a.list.now a.points.now a.d a.n (sym (tested c.before) ∙ c.if-miscounted.false) in
     (omega arith, omega arith, omega arith, λ s. let l = e s in omega arith)
 
-returns-2 : tie.Need-returns-2
+returns-2 : tie.Need-returns
 unfolding misplaced
-returns-2 c = (rw (sym (tested c.before.before) ∙ c.before.if1.false) c.tested.ensures.0, c.tested.ensures.1)
+returns-2 c = (rw (sym (tested c.before.before) ∙ c.if-miscounted.false) c.tested.ensures.0, c.tested.ensures.1)
 
-pub placed-spec : {M : Type 1} → statement M
-placed-spec = tie.close (tie.spec (λ c κs. search rules) returns tested-requires returns-2)
+pub placed_spec : {M : Type 1} → statement M
+placed_spec = tie.close (tie.spec (λ c κs. search rules) returns tested-requires returns-2)

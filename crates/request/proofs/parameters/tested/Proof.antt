@@ -14,11 +14,11 @@ use Rattle.request.proofs.InPlace.{InPlace, in_place_first, in_place_next, in_pl
 use Rattle.request.proofs.parameters.tested.Statement.{statement}
 use Rattle.request.proofs.parameters.tested.Tie as tie
 
-abbrev invariant-loop : tie.invariant-loop
+abbrev invariant-loop : tie.invariant-loop-i
 invariant-loop spacing list points d n start previous₀ i₀ previous i =
     (i ≤ n - 1) × (previous ≡ at (parameter_list spacing list points d n) i) × InPlace (at (parameter_list spacing list points d n)) i
 
-abbrev decreases-loop : tie.decreases-loop
+abbrev decreases-loop : tie.decreases-loop-i
 decreases-loop spacing list points d n start previous₀ i₀ previous i = n - i
 
 -- the parameters
@@ -26,66 +26,60 @@ abbrev p : tie.Start invariant-loop decreases-loop → List Float
 p s = let a = s.args in parameter_list a.spacing a.list.now a.points.now a.d a.n
 
 -- the first one is finite, or not
-checked : (c : tie.After-is-finite invariant-loop decreases-loop) → let s = c.before.before.before.before in
-    c.is_finite.result ≡ finite (at (p s) 0)
-checked c = c.is_finite.ensures ∙ ap finite (c.before.first.ensures _ _)
+checked : (c : tie.After-is_finite invariant-loop decreases-loop) → c.is_finite.result ≡ finite (at (p c.before.before.before.before) 0)
+checked c = c.is_finite.ensures ∙ ap finite (c.first-start.ensures _ _)
 
-returns : tie.Need-returns invariant-loop decreases-loop
+returns : tie.Need-returns-then-not-is_finite invariant-loop decreases-loop
 returns c =
-    let s = c.before.before.before.before.before in (
-      sym (misplaced_first (at (p s)) s.args.n (omega arith) (sym (checked c.before) ∙ not-true _ c.if1.true)),
+    (
+      sym (misplaced_first (at (p c.before.before.before.before.before)) c.args.n (omega arith) (sym (checked c.before) ∙ not-true _ c.if-not-is_finite.true-raw)),
       λ h. absurd (true≢false h),
     )
 
-loop-holds : tie.Need-loop-init invariant-loop decreases-loop
+loop-holds : tie.Need-loop-i-init invariant-loop decreases-loop
 loop-holds c =
-    let s = c.before.before.before.before.before in (
+    (
       omega arith,
-      c.before.before.first.ensures _ _,
-      in_place_first (at (p s)) (sym (checked c.before) ∙ not-false _ c.if1.false),
+      c.first-start.ensures _ _,
+      in_place_first (at (p c.before.before.before.before.before)) (sym (checked c.before) ∙ not-false _ c.if-not-is_finite.false-raw),
     )
 
-following-requires : tie.Need-following-requires invariant-loop decreases-loop
+following-requires : tie.Need-following-x-requires invariant-loop decreases-loop
 following-requires c κs =
-    let s = c.before.before.before.before.before.before.before in
-    ((omega arith, omega arith, omega arith, s.requires.3), c.before.loop.invariant.1)
+    ((omega arith, omega arith, omega arith, c.requires.3), c.loop-i.invariant.1)
 
 -- the next one is as it was tested
-turned : (c : tie.After-is-misplaced invariant-loop decreases-loop) → let l = c.before.before.before.loop in
-    let s = c.before.before.before.before.before.before.before.before.before in
-    (not (finite (at (p s) (l.i + 1))) || le (at (p s) (l.i + 1)) (at (p s) l.i)) ≡ c.is-misplaced.result
-turned c = test_same _ _ _ _ c.before.following.ensures c.before.before.before.loop.invariant.1 c.is-misplaced.ensures
+turned : (c : tie.After-is_misplaced invariant-loop decreases-loop) → let l = c.loop-i in
+    (not (finite (at (p c.before.before.before.before.before.before.before.before.before) (l.i + 1))) || le (at (p c.before.before.before.before.before.before.before.before.before) (l.i + 1)) (at (p c.before.before.before.before.before.before.before.before.before) l.i)) ≡ c.is_misplaced.result
+turned c = test_same _ _ _ _ c.following-x.ensures c.loop-i.invariant.1 c.is_misplaced.ensures
 
-returns-2 : tie.Need-returns-2 invariant-loop decreases-loop
+returns-2 : tie.Need-returns-then-is_misplaced invariant-loop decreases-loop
 returns-2 c =
-    let l = c.before.before.before.before.loop in
-    let s = c.before.before.before.before.before.before.before.before.before.before in (
-      sym (misplaced_found (at (p s)) s.args.n (omega arith) l.i c.before.before.before.loop-test.true
-          (turned c.before ∙ c.if2.true)),
+    let l = c.loop-i in
+    (
+      sym (misplaced_found (at (p c.before.before.before.before.before.before.before.before.before.before)) c.args.n (omega arith) l.i c.loop-i-test.true
+          (turned c.before ∙ c.if-is_misplaced.true)),
       λ h. absurd (true≢false h),
     )
 
-loop-again : tie.Need-loop-preserved invariant-loop decreases-loop
+loop-again : tie.Need-loop-i-preserved invariant-loop decreases-loop
 loop-again c =
-    let l = c.before.before.before.before.loop in
-    let s = c.before.before.before.before.before.before.before.before.before.before in
-    (omega arith, c.before.before.following.ensures, in_place_next (at (p s)) l.i l.invariant.2 (turned c.before ∙ c.if2.false))
+    let l = c.loop-i in
+    (omega arith, c.following-x.ensures, in_place_next (at (p c.before.before.before.before.before.before.before.before.before.before)) l.i l.invariant.2 (turned c.before ∙ c.if-is_misplaced.false))
 
-returns-3 : tie.Need-returns-3 invariant-loop decreases-loop
+returns-3 : tie.Need-returns invariant-loop decreases-loop
 unfolding length_of
 returns-3 c =
-    let l = c.before.loop in
-    let b = c.before.before.before.before in
-    let s = b.before.before.before in
-    let e : l.i ≡ s.args.n - 1 = omega arith in
-    let last : l.previous ≡ at (p s) (s.args.n - 1) = rw e at l.invariant.1 in
-    let start = b.first.ensures s.args.points.now s.args.d in (
-      sym (in_place_last (at (p s)) s.args.n (omega arith) l.i e l.invariant.2),
+    let l = c.loop-i in
+    let e : l.i ≡ c.args.n - 1 = omega arith in
+    let last : l.previous ≡ at (p c.before.before.before.before.before.before.before) (c.args.n - 1) = rw e at l.invariant.1 in
+    let start = c.first-start.ensures c.args.points.now c.args.d in (
+      sym (in_place_last (at (p c.before.before.before.before.before.before.before)) c.args.n (omega arith) l.i e l.invariant.2),
       λ h j. sub binary64 (last j) (start j),
     )
 
-pub tested-spec : {M : Type 1} → statement M
-tested-spec =
+pub tested_spec : {M : Type 1} → statement M
+tested_spec =
     tie.close
     (tie.spec
     invariant-loop

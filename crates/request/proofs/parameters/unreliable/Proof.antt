@@ -5,14 +5,14 @@ use Rattle.request.specs.Parameters.{unreliable}
 use Rattle.request.proofs.parameters.unreliable.Statement.{statement}
 use Rattle.request.proofs.parameters.unreliable.Tie as tie
 
-returns : tie.Need-returns
+returns : tie.Need-returns-then-is_finite
 unfolding unreliable
-returns c = rw (← c.before.before.before.before.before.requires.1, sym c.before.before.is_finite.ensures ∙ c.before.if1.true)
+returns c = rw (← c.requires.1, sym c.is_finite.ensures ∙ c.if-is_finite.true)
     c.falls.ensures
 
-returns-2 : tie.Need-returns-2
+returns-2 : tie.Need-returns
 unfolding unreliable
-returns-2 c = rw (← c.before.before.before.before.requires.1, sym c.before.is_finite.ensures ∙ c.if1.false)
+returns-2 c = rw (← c.requires.1, sym c.is_finite.ensures ∙ c.if-is_finite.false)
 
-pub unreliable-spec : {M : Type 1} → statement M
-unreliable-spec = tie.close (tie.spec (λ c κs. search rules) (λ c κs. search rules) returns returns-2)
+pub unreliable_spec : {M : Type 1} → statement M
+unreliable_spec = tie.close (tie.spec (λ c κs. search rules) (λ c κs. search rules) returns returns-2)

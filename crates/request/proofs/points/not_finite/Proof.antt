@@ -12,39 +12,39 @@ use Rattle.request.proofs.Anys.{any_next, any_found}
 use Rattle.request.proofs.points.not_finite.Statement.{statement}
 use Rattle.request.proofs.points.not_finite.Tie as tie
 
-abbrev invariant-loop : tie.invariant-loop
+abbrev invariant-loop : tie.invariant-loop-i
 invariant-loop points i₀ i = (i ≤ length points) × (any i (λ j. not (finite (at points j))) ≡ false)
 
-abbrev decreases-loop : tie.decreases-loop
+abbrev decreases-loop : tie.decreases-loop-i
 decreases-loop points i₀ i = length points - i
 
-loop-holds : tie.Need-loop-init invariant-loop decreases-loop
+loop-holds : tie.Need-loop-i-init invariant-loop decreases-loop
 unfolding any
 loop-holds c = (omega arith, refl)
 
-loop-again : tie.Need-loop-preserved invariant-loop decreases-loop
+loop-again : tie.Need-loop-i-preserved invariant-loop decreases-loop
 loop-again c =
-    let a = c.before.before.before.before.before.before.args in
-    let l = c.before.before.before.before.loop in
+    let a = c.args in
+    let l = c.loop-i in
     let test : ℕ → Bool = λ j. not (finite (at a.points.now j)) in
-    (omega arith, any_next test l.i l.invariant.1 (ap not (sym c.before.is_finite.ensures ∙ c.if1.true)))
+    (omega arith, any_next test l.i l.invariant.1 (ap not (sym c.is_finite.ensures ∙ c.if-is_finite.true)))
 
-returns : tie.Need-returns invariant-loop decreases-loop
+returns : tie.Need-returns-else-is_finite invariant-loop decreases-loop
 returns c =
-    let a = c.before.before.before.before.before.before.args in
-    let l = c.before.before.before.before.loop in
+    let a = c.args in
+    let l = c.loop-i in
     let test : ℕ → Bool = λ j. not (finite (at a.points.now j)) in
-    sym (any_found test (length a.points.now) l.i c.before.before.before.loop-test.true
-    (ap not (sym c.before.is_finite.ensures ∙ c.if1.false)))
+    sym (any_found test (length a.points.now) l.i c.loop-i-test.true
+    (ap not (sym c.is_finite.ensures ∙ c.if-is_finite.false)))
 
-returns-2 : tie.Need-returns-2 invariant-loop decreases-loop
+returns-2 : tie.Need-returns invariant-loop decreases-loop
 returns-2 c =
-    let l = c.before.loop in
-    let e : l.i ≡ length c.before.before.before.args.points.now = omega arith in
+    let l = c.loop-i in
+    let e : l.i ≡ length c.args.points.now = omega arith in
     sym (rw e at l.invariant.1)
 
-pub not-finite-spec : {M : Type 1} → statement M
-not-finite-spec =
+pub not_finite_spec : {M : Type 1} → statement M
+not_finite_spec =
     tie.close
     (tie.spec
     invariant-loop

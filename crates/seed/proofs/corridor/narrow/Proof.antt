@@ -12,47 +12,45 @@ use Rattle.seed.proofs.Narrowing.{turn_cut}
 use Rattle.seed.proofs.corridor.narrow.Statement.{statement}
 use Rattle.seed.proofs.corridor.narrow.Tie as tie
 
-abbrev invariant-loop : tie.invariant-loop
+abbrev invariant-loop : tie.invariant-loop-j
 invariant-loop s y d anchor i ds from to lo₀ hi₀ ok₀ j₀ lo hi ok j =
     (j ≤ d)
     × (from + d ≤ length y)
     × (to + d ≤ length y)
     × (each (axis_turn s y d anchor i) j d (corridor (take d lo) (take d hi) ok) ≡ narrowed s y d anchor i (take d lo₀) (take d hi₀))
 
-abbrev decreases-loop : tie.decreases-loop
+abbrev decreases-loop : tie.decreases-loop-j
 decreases-loop s y d anchor i ds from to lo₀ hi₀ ok₀ j₀ lo hi ok j = d - j
 
-mul-from : tie.Need-overflow-mul-from invariant-loop decreases-loop
+mul-from : tie.Need-overflow_mul-from invariant-loop decreases-loop
 mul-from c =
-    let k = c.before.before.before.before in
-    omega (arith, row_end k.args.anchor _ k.args.d _ k.requires.2 k.requires.1)
+    omega (arith, row_end c.args.anchor _ c.args.d _ c.requires.2 c.requires.1)
 
-mul-to : tie.Need-overflow-mul-to invariant-loop decreases-loop
+mul-to : tie.Need-overflow_mul-to invariant-loop decreases-loop
 mul-to c =
-    let k = c.before.before.before.before in
-    omega (arith, row_end k.args.i _ k.args.d _ k.requires.3 k.requires.1)
+    omega (arith, row_end c.args.i _ c.args.d _ c.requires.3 c.requires.1)
 
-loop-holds : tie.Need-loop-init invariant-loop decreases-loop
+loop-holds : tie.Need-loop-j-init invariant-loop decreases-loop
 unfolding narrowed
 loop-holds c =
-    let k = c.before.before.before.before.before.before in (
+    (
       omega arith,
-      row_end k.args.anchor _ k.args.d _ k.requires.2 k.requires.1,
-      row_end k.args.i _ k.args.d _ k.requires.3
-          k.requires.1,
+      row_end c.args.anchor _ c.args.d _ c.requires.2 c.requires.1,
+      row_end c.args.i _ c.args.d _ c.requires.3
+          c.requires.1,
       refl,
     )
 
-loop-again : tie.Need-loop-preserved invariant-loop decreases-loop
+loop-again : tie.Need-loop-j-preserved invariant-loop decreases-loop
 unfolding axis_turn of_bits round
 loop-again c =
-    let l = c.before.before.before.before.before.loop in
-    let a = c.before.before.before.before.before.before.before.before.before.before.before.before.args in
-    let go = c.before.before.before.before.loop-test.true in (
+    let l = c.loop-j in
+    let a = c.args in
+    let go = c.loop-j-test.true in (
       omega arith,
       l.invariant.1,
       l.invariant.2,
-      rw (c.between.ensures, c.before.before.max.ensures, c.before.min.ensures, c.before.before.before.slope.ensures)
+      rw (c.between-ok.ensures, c.max-low.ensures, c.min-high.ensures, c.slope-slope.ensures)
           (ap (each (axis_turn a.s.now a.y.now a.d a.anchor a.i) (l.j + 1) a.d)
           (sym (turn_cut a.s.now a.y.now a.d a.anchor a.i l.j (corridor l.lo l.hi l.ok) go))
           ∙ sym (each_turn _ _ _ _ go)
@@ -60,10 +58,10 @@ loop-again c =
     )
 
 returns : tie.Need-returns invariant-loop decreases-loop
-returns c = sym (each_done _ _ _ _ c.loop-test.false) ∙ c.before.loop.invariant.3
+returns c = sym (each_done _ _ _ _ c.loop-j-test.false) ∙ c.loop-j.invariant.3
 
-pub narrow-spec : {M : Type 1} → statement M
-narrow-spec =
+pub narrow_spec : {M : Type 1} → statement M
+narrow_spec =
     tie.close
     (tie.spec
     invariant-loop

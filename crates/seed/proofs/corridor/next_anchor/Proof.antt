@@ -9,49 +9,49 @@ use Rattle.seed.proofs.Scanning.{next_on, next_here, next_ends}
 use Rattle.seed.proofs.corridor.next_anchor.Statement.{statement}
 use Rattle.seed.proofs.corridor.next_anchor.Tie as tie
 
-abbrev invariant-loop : tie.invariant-loop
+abbrev invariant-loop : tie.invariant-loop-i
 invariant-loop s y d anchor c₀ i₀ c i =
     (anchor < i)
     × (i ≤ length s)
     × (next_from s y d (length s - i) anchor i (take d c.lo) (take d c.hi) ≡ next_anchor s y d anchor)
 
-abbrev decreases-loop : tie.decreases-loop
+abbrev decreases-loop : tie.decreases-loop-i
 decreases-loop s y d anchor c₀ i₀ c i = length s - i
 
-loop-holds : tie.Need-loop-init invariant-loop decreases-loop
+loop-holds : tie.Need-loop-i-init invariant-loop decreases-loop
 unfolding next_anchor
 loop-holds c =
-    let e = c.opened.ensures in
+    let e = c.opened-c.ensures in
     (omega arith, omega arith, rw (ap (λ (k : Corridor). k.lo) e, ap (λ (k : Corridor). k.hi) e))
 
-returns : tie.Need-returns invariant-loop decreases-loop
+returns : tie.Need-returns-then-breaks invariant-loop decreases-loop
 returns c =
-    let l = c.before.before.before.before.loop in
-    let a = c.before.before.before.before.before.before.before.before.args in
-    let n = c.before.before.narrow in
+    let l = c.loop-i in
+    let a = c.args in
+    let n = c.narrow-c in
     next_here a.s.now a.y.now a.d a.anchor l.i _ _ (corridor (take a.d n.result.lo) (take a.d n.result.hi)
-    n.result.ok) n.ensures (omega arith) (sym c.before.breaks.ensures ∙ c.if1.true)
+    n.result.ok) n.ensures (omega arith) (sym c.breaks.ensures ∙ c.if-breaks.true)
     ∙ l.invariant.2
 
-loop-again : tie.Need-loop-preserved invariant-loop decreases-loop
+loop-again : tie.Need-loop-i-preserved invariant-loop decreases-loop
 loop-again c =
-    let l = c.before.before.before.before.loop in
-    let a = c.before.before.before.before.before.before.before.before.args in
-    let n = c.before.before.narrow in (
+    let l = c.loop-i in
+    let a = c.args in
+    let n = c.narrow-c in (
       omega arith,
       omega arith,
       next_on a.s.now a.y.now a.d a.anchor l.i _ _ (corridor (take a.d n.result.lo) (take a.d n.result.hi)
-          n.result.ok) n.ensures (omega arith) (sym c.before.breaks.ensures ∙ c.if1.false)
+          n.result.ok) n.ensures (omega arith) (sym c.breaks.ensures ∙ c.if-breaks.false)
           ∙ l.invariant.2,
     )
 
-returns-2 : tie.Need-returns-2 invariant-loop decreases-loop
+returns-2 : tie.Need-returns invariant-loop decreases-loop
 returns-2 c =
-    let l = c.before.loop in
-    sym (next_ends _ _ _ _ l.i _ _ c.loop-test.false) ∙ l.invariant.2
+    let l = c.loop-i in
+    sym (next_ends _ _ _ _ l.i _ _ c.loop-i-test.false) ∙ l.invariant.2
 
-pub next-anchor-spec : {M : Type 1} → statement M
-next-anchor-spec =
+pub next_anchor_spec : {M : Type 1} → statement M
+next_anchor_spec =
     tie.close
     (tie.spec
     invariant-loop

@@ -9,5 +9,5 @@ returns : tie.Need-returns
 unfolding div neg of_bits
 returns c = rw (take_replicate c.args.d 16 (inf true) c.requires, take_replicate c.args.d 16 (inf false) c.requires)
 
-pub opened-spec : {M : Type 1} → statement M
-opened-spec = tie.close (tie.spec returns)
+pub opened_spec : {M : Type 1} → statement M
+opened_spec = tie.close (tie.spec returns)

@@ -10,7 +10,7 @@ use Rattle.seed.specs.Knots.{jump_turn, jump_of}
 use Rattle.seed.proofs.knots.jump.Statement.{statement}
 use Rattle.seed.proofs.knots.jump.Tie as tie
 
-abbrev invariant-loop : tie.invariant-loop
+abbrev invariant-loop : tie.invariant-loop-j
 invariant-loop s y d a b c h0 h1 p q r jump₀ j₀ jump j =
     (j ≤ d)
     × (p + d ≤ length y)
@@ -18,52 +18,49 @@ invariant-loop s y d a b c h0 h1 p q r jump₀ j₀ jump j =
     × (r + d ≤ length y)
     × (each (jump_turn s y d a b c) j d jump ≡ jump_of s y d a b c)
 
-abbrev decreases-loop : tie.decreases-loop
+abbrev decreases-loop : tie.decreases-loop-j
 decreases-loop s y d a b c h0 h1 p q r jump₀ j₀ jump j = d - j
 
-mul-first : tie.Need-overflow-mul-first invariant-loop decreases-loop
+mul-first : tie.Need-overflow_mul-first invariant-loop decreases-loop
 mul-first c =
-    let k = c.before.before.before.before.before.before in
-    omega (arith, row_end k.args.a _ k.args.d _ k.requires.1 k.requires.0)
+    omega (arith, row_end c.args.a _ c.args.d _ c.requires.1 c.requires.0)
 
-mul-second : tie.Need-overflow-mul-second invariant-loop decreases-loop
+mul-second : tie.Need-overflow_mul-second invariant-loop decreases-loop
 mul-second c =
-    let k = c.before.before.before.before.before.before in
-    omega (arith, row_end k.args.b _ k.args.d _ k.requires.2 k.requires.0)
+    omega (arith, row_end c.args.b _ c.args.d _ c.requires.2 c.requires.0)
 
-mul-third : tie.Need-overflow-mul-third invariant-loop decreases-loop
+mul-third : tie.Need-overflow_mul-third invariant-loop decreases-loop
 mul-third c =
-    let k = c.before.before.before.before.before.before in
-    omega (arith, row_end k.args.c _ k.args.d _ k.requires.3 k.requires.0)
+    omega (arith, row_end c.args.c _ c.args.d _ c.requires.3 c.requires.0)
 
-loop-holds : tie.Need-loop-init invariant-loop decreases-loop
+loop-holds : tie.Need-loop-j-init invariant-loop decreases-loop
 unfolding jump_of
 loop-holds c =
-    let k = c.before.before.before.before.before.before in (
+    (
       omega arith,
-      row_end k.args.a _ k.args.d _ k.requires.1 k.requires.0,
-      row_end k.args.b _ k.args.d _ k.requires.2 k.requires.0,
-      row_end k.args.c _ k.args.d _ k.requires.3 k.requires.0,
+      row_end c.args.a _ c.args.d _ c.requires.1 c.requires.0,
+      row_end c.args.b _ c.args.d _ c.requires.2 c.requires.0,
+      row_end c.args.c _ c.args.d _ c.requires.3 c.requires.0,
       refl,
     )
 
-loop-again : tie.Need-loop-preserved invariant-loop decreases-loop
+loop-again : tie.Need-loop-j-preserved invariant-loop decreases-loop
 unfolding jump_turn
 loop-again c =
-    let l = c.before.before.before.before.before.loop in (
+    let l = c.loop-j in (
       omega arith,
       l.invariant.1,
       l.invariant.2,
       l.invariant.3,
-      rw (c.max.ensures, c.before.abs.ensures, c.before.before.slope2.ensures, c.before.before.before.slope.ensures)
-          (sym (each_turn _ _ _ _ c.before.before.before.before.loop-test.true) ∙ l.invariant.4),
+      rw (c.max-jump.ensures, c.abs.ensures, c.slope-before.ensures, c.slope-after.ensures)
+          (sym (each_turn _ _ _ _ c.loop-j-test.true) ∙ l.invariant.4),
     )
 
 returns : tie.Need-returns invariant-loop decreases-loop
-returns c = sym (each_done _ _ _ _ c.loop-test.false) ∙ c.before.loop.invariant.4
+returns c = sym (each_done _ _ _ _ c.loop-j-test.false) ∙ c.loop-j.invariant.4
 
-pub jump-spec : {M : Type 1} → statement M
-jump-spec =
+pub jump_spec : {M : Type 1} → statement M
+jump_spec =
     tie.close
     (tie.spec
     invariant-loop

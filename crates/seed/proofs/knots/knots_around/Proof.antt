@@ -6,10 +6,10 @@ use Rattle.seed.proofs.knots.knots_around.Tie as tie
 
 returns : tie.Need-returns
 unfolding around
-returns c = rw (c.width.ensures, c.before.jump.ensures)
+returns c = rw (c.width-w.ensures, c.jump.ensures)
 
-pub knots-around-spec : {M : Type 1} → statement M
-knots-around-spec =
+pub knots_around_spec : {M : Type 1} → statement M
+knots_around_spec =
     tie.close
     (tie.spec
     (λ c. search rules)

@@ -10,18 +10,18 @@ use Rattle.seed.proofs.Writing.{parameters_length}
 use Rattle.seed.proofs.knots.knots_at.Statement.{statement}
 use Rattle.seed.proofs.knots.knots_at.Tie as tie
 
-knots-around-requires : tie.Need-knots-around-requires
+knots-around-requires : tie.Need-knots_around-requires
 knots-around-requires c κs =
-    let g = c.before.before.before.before.before.args in
+    let g = c.args in
     let p = g.p in
     let w = g.work.now in
-    let n = parameters_length p w c.before.before.before.before.before.requires.0 in
+    let n = parameters_length p w c.requires.0 in
     let e : length (parameters_at p w) * p.axes ≡ p.samples * p.axes = ap (λ (k : ℕ). k * p.axes) n in
     let y = length_window p.points (p.points + p.samples * p.axes) w (omega arith) (omega arith) in
     (omega arith, omega arith, omega arith, omega arith)
 
-pub knots-at-spec : {M : Type 1} → statement M
-knots-at-spec =
+pub knots_at_spec : {M : Type 1} → statement M
+knots_at_spec =
     tie.close
     (tie.spec
     (λ c. search rules)

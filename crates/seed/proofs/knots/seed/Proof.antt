@@ -12,9 +12,9 @@ use Rattle.seed.proofs.Seeded.{seeded_empty, settled}
 use Rattle.seed.proofs.knots.seed.Statement.{statement}
 use Rattle.seed.proofs.knots.seed.Tie as tie
 
-returns : tie.Need-returns
+returns : tie.Need-returns-then-p-lt2
 returns c =
-    let g = c.before.before.before.args in
+    let g = c.args in
     let p = g.p in
     let w = g.work.now in
     let h : length (parameters_at p w) < 2 = simp length-take (omega arith) in
@@ -22,28 +22,28 @@ returns c =
     rw (e.0, e.1) (refl, sym (written_none p.knots w))
 
 -- the raw knots fit
-room : (c : tie.After-raw-knots) → let g = c.before.before.before.before.before.args in
+room : (c : tie.After-raw_knots) → let g = c.args in
     g.p.knots + length (raw_knots (parameters_at g.p g.work.now) (points_at g.p g.work.now) g.p.axes)
     ≤ length g.work.now
 room c =
-    let g = c.before.before.before.before.before.args in
+    let g = c.args in
     let p = g.p in
     let w = g.work.now in
     let n = parameters_length p w (omega arith) in
     omega (arith, raw_count (parameters_at p w) (points_at p w) p.axes (omega arith))
 
-returns-2 : tie.Need-returns-2
+returns-2 : tie.Need-returns
 returns-2 c =
-    let g = c.before.before.before.before.before.before.before.before.before.before.before.args in
+    let g = c.args in
     let p = g.p in
     let w = g.work.now in
-    let r = c.before.before.before.before.before.before.raw-knots.ensures in
-    let v = c.before.before.settle.ensures in
+    let r = c.raw_knots.ensures in
+    let v = c.settle.ensures in
     settled (parameters_at p w) (points_at p w) p.axes p.knots w _ _ _ _ (room c.before.before.before.before.before.before)
     r.0 r.1 v.0 v.1
 
-pub seed-spec : {M : Type 1} → statement M
-seed-spec =
+pub seed_spec : {M : Type 1} → statement M
+seed_spec =
     tie.close
     (tie.spec
     returns

@@ -4,7 +4,7 @@ use Rattle.seed.proofs.knots.settle.Statement.{statement}
 use Rattle.seed.proofs.knots.settle.Tie as tie
 
 returns : tie.Need-returns
-returns c = rw c.before.before.before.before.before.before.sort.ensures at c.before.before.keep_apart.ensures
+returns c = rw c.sort.ensures at c.keep_apart.ensures
 
-pub settle-spec : {M : Type 1} → statement M
-settle-spec = tie.close (tie.spec (λ c κs. search rules) (λ c κs. search rules) (λ c. search rules) returns)
+pub settle_spec : {M : Type 1} → statement M
+settle_spec = tie.close (tie.spec (λ c κs. search rules) (λ c κs. search rules) (λ c. search rules) returns)

@@ -7,7 +7,7 @@ use Rattle.seed.proofs.knots.width.Tie as tie
 
 returns : tie.Need-returns
 unfolding width_of of_bits round
-returns c = rw (c.min2.ensures, c.before.min.ensures)
+returns c = rw (c.min-2.ensures, c.min.ensures)
 
 pub width_spec : {M : Type 1} → statement M
 width_spec = tie.close (tie.spec (λ c κs. search rules) (λ c κs. search rules) returns)

@@ -5,24 +5,24 @@ use Rattle.seed.proofs.Joining.{over_le, clipped}
 use Rattle.seed.proofs.regions.affected.Statement.{statement}
 use Rattle.seed.proofs.regions.affected.Tie as tie
 
-sub-z : tie.Need-overflow-sub-z
-sub-z c = over_le _ _ _ _ c.before.down3.ensures c.down4.ensures
+sub-z : tie.Need-overflow_sub-z
+sub-z c = over_le _ _ _ _ c.down-2.ensures c.down-3.ensures
 
 returns : tie.Need-returns
 unfolding range_of
 returns c =
-    let down = c.before.before.before.before.down in
-    let span = c.before.before.before.before.before.span in
+    let down = c.down-last in
+    let span = c.span-k in
     rw (
-      clipped down.result c.before.down3.result c.down4.result span.result c.before.down3.ensures c.down4.ensures,
-      c.before.before.larger.ensures,
-      c.before.before.before.down2.ensures,
+      clipped down.result c.down-2.result c.down-3.result span.result c.down-2.ensures c.down-3.ensures,
+      c.larger-a.ensures,
+      c.down.ensures,
       down.ensures,
       span.ensures,
     )
 
-pub affected-spec : {M : Type 1} → statement M
-affected-spec =
+pub affected_spec : {M : Type 1} → statement M
+affected_spec =
     tie.close
     (tie.spec
     (λ c κs. search rules)

@@ -5,7 +5,7 @@ use Rattle.seed.proofs.regions.joins.Statement.{statement}
 use Rattle.seed.proofs.regions.joins.Tie as tie
 
 returns : tie.Need-returns
-returns c = rw c.down.ensures (leb_down c.before.args.a c.before.args.z)
+returns c = rw c.down.ensures (leb_down c.args.a c.args.z)
 
-pub joins-spec : {M : Type 1} → statement M
-joins-spec = tie.close (tie.spec (λ c κs. search rules) returns)
+pub joins_spec : {M : Type 1} → statement M
+joins_spec = tie.close (tie.spec (λ c κs. search rules) returns)

@@ -9,52 +9,52 @@ use Rattle.seed.proofs.Joining.{region_opens, region_grows, region_parts, region
 use Rattle.seed.proofs.regions.next_region.Statement.{statement}
 use Rattle.seed.proofs.regions.next_region.Tie as tie
 
-abbrev invariant-loop : tie.invariant-loop
+abbrev invariant-loop : tie.invariant-loop-i
 invariant-loop t m x from a z₀ i₀ z i =
     (from < i) × (i ≤ length x) × (merged t m (range a z) (drop i x) ≡ regions_of t m (drop from x))
 
-abbrev decreases-loop : tie.decreases-loop
+abbrev decreases-loop : tie.decreases-loop-i
 decreases-loop t m x from a z₀ i₀ z i = length x - i
 
-loop-holds : tie.Need-loop-init invariant-loop decreases-loop
+loop-holds : tie.Need-loop-i-init invariant-loop decreases-loop
 loop-holds c =
-    let a = c.before.before.before.before.args in
-    let r = c.affected in (
+    let a = c.args in
+    let r = c.affected-first in (
       omega arith,
       omega arith,
       region_opens a.t.now a.m a.x.now a.from (range r.result.a r.result.z) (omega arith)
           r.ensures,
     )
 
-loop-again : tie.Need-loop-preserved invariant-loop decreases-loop
+loop-again : tie.Need-loop-i-preserved invariant-loop decreases-loop
 loop-again c =
-    let l = c.before.before.before.before.before.before.loop in
-    let r = c.before.before.before.affected2 in
-    let a = c.before.before.before.before.before.before.before.before.before.before.before.args in (
+    let l = c.loop-i in
+    let r = c.affected-r in
+    let a = c.args in (
       omega arith,
       omega arith,
-      rw c.larger.ensures (sym (region_grows a.t.now a.m a.x.now l.i _ l.z (range r.result.a r.result.z)
-          (omega arith) r.ensures (sym c.before.before.joins.ensures ∙ c.before.if1.true)) ∙ l.invariant.2),
+      rw c.larger-z.ensures (sym (region_grows a.t.now a.m a.x.now l.i _ l.z (range r.result.a r.result.z)
+          (omega arith) r.ensures (sym c.joins.ensures ∙ c.if-joins.true)) ∙ l.invariant.2),
     )
 
-returns : tie.Need-returns invariant-loop decreases-loop
+returns : tie.Need-returns-else-joins invariant-loop decreases-loop
 returns c =
-    let l = c.before.before.before.before.before.loop in
-    let r = c.before.before.affected2 in
-    let a = c.before.before.before.before.before.before.before.before.before.before.args in (
+    let l = c.loop-i in
+    let r = c.affected-r in
+    let a = c.args in (
       sym l.invariant.2 ∙ region_parts a.t.now a.m a.x.now l.i _ l.z (range r.result.a r.result.z) (omega arith)
-          r.ensures (sym c.before.joins.ensures ∙ c.if1.false),
+          r.ensures (sym c.joins.ensures ∙ c.if-joins.false),
       (omega arith, omega arith),
     )
 
-returns-2 : tie.Need-returns-2 invariant-loop decreases-loop
+returns-2 : tie.Need-returns invariant-loop decreases-loop
 returns-2 c =
-    let l = c.before.loop in
-    let a = c.before.before.before.before.before.before.args in
+    let l = c.loop-i in
+    let a = c.args in
     (sym l.invariant.2 ∙ region_ends a.t.now a.m a.x.now l.i _ l.z (omega arith), (omega arith, omega arith))
 
-pub next-region-spec : {M : Type 1} → statement M
-next-region-spec =
+pub next_region_spec : {M : Type 1} → statement M
+next_region_spec =
     tie.close
     (tie.spec
     invariant-loop

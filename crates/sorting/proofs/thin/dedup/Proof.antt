@@ -6,7 +6,7 @@ use Rattle.sorting.proofs.thin.dedup.Tie as tie
 
 returns : tie.Need-returns
 unfolding dedup_of test_of
-returns c = c.before.before.thin.ensures
+returns c = c.thin.ensures
 
-pub dedup-spec : {M : Type 1} → statement M
-dedup-spec = tie.close (tie.spec (λ c κs. search rules) (λ c. search rules) returns)
+pub dedup_spec : {M : Type 1} → statement M
+dedup_spec = tie.close (tie.spec (λ c κs. search rules) (λ c. search rules) returns)

@@ -4,13 +4,13 @@ use Rattle.sorting.specs.Thin.{inside, gap}
 use Rattle.sorting.proofs.thin.is_inside.Statement.{statement}
 use Rattle.sorting.proofs.thin.is_inside.Tie as tie
 
-returns : tie.Need-returns
+returns : tie.Need-returns-then-x
 unfolding inside gap of_bits round mul
-returns c = rw c.if1.true
+returns c = rw c.if-x.true
 
-returns-2 : tie.Need-returns-2
+returns-2 : tie.Need-returns
 unfolding inside gap of_bits round mul
-returns-2 c = rw c.if1.false
+returns-2 c = rw c.if-x.false
 
-pub is-inside-spec : {M : Type 1} → statement M
-is-inside-spec = tie.close (tie.spec returns returns-2)
+pub is_inside_spec : {M : Type 1} → statement M
+is_inside_spec = tie.close (tie.spec returns returns-2)

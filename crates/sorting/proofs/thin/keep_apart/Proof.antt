@@ -6,7 +6,7 @@ use Rattle.sorting.proofs.thin.keep_apart.Tie as tie
 
 returns : tie.Need-returns
 unfolding kept_of test_of
-returns c = c.before.before.thin.ensures
+returns c = c.thin.ensures
 
-pub keep-apart-spec : {M : Type 1} → statement M
-keep-apart-spec = tie.close (tie.spec (λ c κs. search rules) (λ c. search rules) returns)
+pub keep_apart_spec : {M : Type 1} → statement M
+keep_apart_spec = tie.close (tie.spec (λ c κs. search rules) (λ c. search rules) returns)

@@ -4,13 +4,13 @@ use Rattle.sorting.specs.Thin.{test_of}
 use Rattle.sorting.proofs.thin.keeps.Statement.{statement}
 use Rattle.sorting.proofs.thin.keeps.Tie as tie
 
-returns : tie.Need-returns
+returns : tie.Need-returns-in-Distinct
 unfolding test_of
-returns c = rw c.before.enum_told.given.1 c.is-distinct.ensures
+returns c = rw c.in-Distinct.is c.is_distinct.ensures
 
-returns-2 : tie.Need-returns-2
+returns-2 : tie.Need-returns-in-Apart
 unfolding test_of
-returns-2 c = rw c.before.enum-told2.given.1 c.is-apart.ensures
+returns-2 c = rw c.in-Apart.is c.is_apart.ensures
 
 pub keeps_spec : {M : Type 1} → statement M
 keeps_spec =
