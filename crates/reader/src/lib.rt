@@ -1,6 +1,8 @@
 // A curve reader: it keeps a curve with its lent slices, whether it is well formed, and the segments of the
 // last answer, and answers as a single query does. The struct holds references, so the functions over it
-// are thin, and each is proved by a walk of its MIR; the work is done in functions over plain parameters.
+// are thin; the work is done in functions over plain parameters.
+#![tactic(auto)]
+
 ghost use Rattle.std.specs.Prelude.{◌≡◌};
 ghost use Rattle.curve.specs.Form.{slices, well_formed};
 ghost use Rattle.query.specs.Row.{outputs};

@@ -1,5 +1,7 @@
 // The running report of the source's `build`, "one record that each stage adds to" (document 01): the adders of a fit and
 // of an audit, to which it is lent by `&mut`, and the two stages that lend it.
+#![tactic(auto)]
+
 ghost use Rattle.std.specs.Prelude.{◌≡◌, ◌+◌, ◌<◌, ◌^◌};
 ghost use Rattle.smoothing.specs.State.{add_rows, add_intervals};
 ghost use Rattle.running_report.specs.Counted.{counts_of};

@@ -13,7 +13,7 @@ use Rattle.return_lane.proofs.Answered.{selected_cells, others_cells, used_well_
 use Rattle.return_lane.proofs.return_lane.Statement.{statement}
 use Rattle.return_lane.proofs.return_lane.Tie as tie
 
-abbrev start : tie.After-well-formed → tie.Start
+abbrev start : tie.After-well_formed-2 → tie.Start
 start w = w.before.before.before.before.before.before.before.before.before
 
 abbrev lane : tie.Start → Slices
@@ -21,36 +21,33 @@ lane s = let a = s.args in slices a.breaks.now a.coefficients.now a.other_breaks
 
 abbrev lent : tie.Start → Slices
 lent s = let a = s.args in
-    slices a.lent-breaks.now a.lent-coefficients.now a.lent-other-breaks.now a.lent-other-coefficients.now
+    slices a.lent_breaks.now a.lent_coefficients.now a.lent_other_breaks.now a.lent_other_coefficients.now
 
-returns : tie.Need-returns
+returns : tie.Need-returns-then-not-well_formed
 returns c = let s = start c.before in (
-  malformed s.args.curve (lane s) (lent s) (sym c.before.well-formed-2.ensures ∙ not-true _ c.if1.true),
+  malformed s.args.curve (lane s) (lent s) (sym c.well_formed-2.ensures ∙ not-true _ c.if-not-well_formed.true-raw),
   λ e. absurd (omega arith),
 )
 
-returns-2 : tie.Need-returns-2
+returns-2 : tie.Need-returns-then-short
 returns-2 c =
-    let p = c.before.before in
-    let s = start p.before in (
-      selected_short_law s.args.curve (lane s) (lent s) (sym p.before.well-formed-2.ensures ∙ not-false _ p.if1.false)
-          (sym c.before.short.ensures ∙ c.if2.true),
+    let s = start c.before.before.before in (
+      selected_short_law s.args.curve (lane s) (lent s) (sym c.well_formed-2.ensures ∙ not-false _ c.if-not-well_formed.false-raw)
+          (sym c.short.ensures ∙ c.if-short.true),
       λ e. absurd (omega arith),
     )
 
-returns-3 : tie.Need-returns-3
+returns-3 : tie.Need-returns-then-short-2
 returns-3 c =
-    let q = c.before.before in
-    let p = q.before.before in
-    let s = start p.before in (
-      others_short_law s.args.curve (lane s) (lent s) (sym p.before.well-formed-2.ensures ∙ not-false _ p.if1.false)
-          (sym q.before.short.ensures ∙ q.if2.false) (sym c.before.short2.ensures ∙ c.if3.true),
+    let s = start c.before.before.before.before.before in (
+      others_short_law s.args.curve (lane s) (lent s) (sym c.well_formed-2.ensures ∙ not-false _ c.if-not-well_formed.false-raw)
+          (sym c.short.ensures ∙ c.if-short.false) (sym c.short-2.ensures ∙ c.if-short-2.true),
       λ e. absurd (omega arith),
     )
 
 -- what the first two checks let through
-module _ (c : tie.Else3) where
-  abbrev checked : tie.After-well-formed
+module _ (c : tie.Else-short-2) where
+  abbrev checked : tie.After-well_formed-2
   checked = c.before.before.before.before.before
 
   abbrev begun : tie.Start
@@ -58,73 +55,62 @@ module _ (c : tie.Else3) where
 
   roomy : Roomy begun.args.curve (lane begun) (lent begun)
   roomy = record {
-    formed = sym checked.well-formed.ensures ∙ not-false _ c.before.before.before.before.if1.false;
-    selected_long = sym c.before.before.before.short.ensures ∙ c.before.before.if2.false;
-    others_long = sym c.before.short2.ensures ∙ c.if3.false;
+    formed = sym checked.well_formed-2.ensures ∙ not-false _ c.if-not-well_formed.false-raw;
+    selected_long = sym c.short.ensures ∙ c.if-short.false;
+    others_long = sym c.short-2.ensures ∙ c.if-short-2.false;
   }
 
-returns-4 : tie.Need-returns-4
+returns-4 : tie.Need-returns-then-not-rise_back
 returns-4 c =
-    let e = c.before.before in
-    let s = begun e in (
-      not_rising s.args.curve (lane s) (lent s) (roomy e) (rw (sym c.before.rise-back.ensures ∙ not-true _ c.if4.true)),
+    let s = begun c.before.before in (
+      not_rising s.args.curve (lane s) (lent s) (roomy c.before.before) (rw (sym c.rise_back.ensures ∙ not-true _ c.if-not-rise_back.true-raw)),
       λ e. absurd (omega arith),
     )
 
 -- both sets of breaks rise
-selected-rise : (c : tie.Else4) → rises_back (begun c.before.before).args.breaks.now ≡ true
-selected-rise c = sym c.before.rise-back.ensures ∙ not-false _ c.if4.false
+selected-rise : (c : tie.Else-not-rise_back) → rises_back (begun c.before.before).args.breaks.now ≡ true
+selected-rise c = sym c.rise_back.ensures ∙ not-false _ c.if-not-rise_back.false-raw
 
-others_rise : (c : tie.Else5) → rises_back (begun c.before.before.before.before).args.other_breaks.now ≡ true
-others_rise c = sym c.before.rise-back2.ensures ∙ not-false _ c.if5.false
+others_rise : (c : tie.Else-not-rise_back-2) → rises_back (begun c.before.before.before.before).args.other_breaks.now ≡ true
+others_rise c = sym c.rise_back-2.ensures ∙ not-false _ c.if-not-rise_back-2.false-raw
 
-returns-5 : tie.Need-returns-5
+returns-5 : tie.Need-returns-then-not-rise_back-2
 returns-5 c =
-    let f = c.before.before in
-    let e = f.before.before in
-    let s = begun e in (
-      not_rising s.args.curve (lane s) (lent s) (roomy e)
-          (rw (selected-rise f, sym c.before.rise-back2.ensures ∙ not-true _ c.if5.true)),
+    let s = begun c.before.before.before.before in (
+      not_rising s.args.curve (lane s) (lent s) (roomy c.before.before.before.before)
+          (rw (selected-rise c.before.before, sym c.rise_back-2.ensures ∙ not-true _ c.if-not-rise_back-2.true-raw)),
       λ e. absurd (omega arith),
     )
 
-sub-m : tie.Need-overflow-sub-m
+sub-m : tie.Need-overflow_sub-m
 sub-m c =
-    let e = c.before.before.before.before in
-    omega (arith, (formed _ _ (roomy e).formed).k_high)
+    omega (arith, (formed _ _ (roomy c.before.before.before.before).formed).k_high)
 
-put-set-requires : tie.Need-put-set-requires
+put-set-requires : tie.Need-put_set-requires
 put-set-requires c κs =
-    let e = c.before.before.before.before.before.before in
-    let s = begun e in
-    let l = lengths _ _ _ (roomy e) in
-    let k = selected_cells s.args.curve (lane s) (roomy e).formed in
+    let s = begun c.before.before.before.before.before.before in
+    let l = lengths _ _ _ (roomy c.before.before.before.before.before.before) in
+    let k = selected_cells s.args.curve (lane s) (roomy c.before.before.before.before.before.before).formed in
     (l.0, omega (arith, k), omega (arith, k, l.1))
 
-put-set-requires-2 : tie.Need-put-set-requires-2
+put-set-requires-2 : tie.Need-put_set-requires-2
 put-set-requires-2 c κs =
-    let e = c.before.before.before.before.before.before.before.before.before.before.before.before.before in
-    let s = begun e in
-    let l = lengths _ _ _ (roomy e) in
-    let k = others_cells s.args.curve (lane s) (roomy e).formed in
+    let s = begun c.before.before.before.before.before.before.before.before.before.before.before.before.before in
+    let l = lengths _ _ _ (roomy c.before.before.before.before.before.before.before.before.before.before.before.before.before) in
+    let k = others_cells s.args.curve (lane s) (roomy c.before.before.before.before.before.before.before.before.before.before.before.before.before).formed in
     (l.2, omega (arith, k), omega (arith, k, l.3))
 
-returns-6 : tie.Need-returns-6
+returns-6 : tie.Need-returns
 returns-6 c =
-    let w = c.before.before.before.before in
-    let p = w.before.before.before.before.before.before.before in
-    let g = p.before.before.before in
-    let f = g.before.before in
-    let e = f.before.before in
-    let s = begun e in
+    let s = begun c.before.before.before.before.before.before.before.before.before.before.before.before.before.before.before.before.before.before in
     let after : _ ≡ _ =
-    λ i. slices (p.put-set.ensures.0 i) (p.put-set.ensures.1 i) (w.put-set2.ensures.0 i) (w.put-set2.ensures.1 i) in (
-      done s.args.curve (lane s) (lent s) (roomy e) _ (selected-rise f) (others_rise g) after,
-      λ z. used_well_formed s.args.curve (lane s) (roomy e).formed (lent s) _ (selected-rise f) (others_rise g) after,
+    λ i. slices (c.put_set.ensures.0 i) (c.put_set.ensures.1 i) (c.put_set-2.ensures.0 i) (c.put_set-2.ensures.1 i) in (
+      done s.args.curve (lane s) (lent s) (roomy c.before.before.before.before.before.before.before.before.before.before.before.before.before.before.before.before.before.before) _ (selected-rise c.before.before.before.before.before.before.before.before.before.before.before.before.before.before.before.before) (others_rise c.before.before.before.before.before.before.before.before.before.before.before.before.before.before) after,
+      λ z. used_well_formed s.args.curve (lane s) (roomy c.before.before.before.before.before.before.before.before.before.before.before.before.before.before.before.before.before.before).formed (lent s) _ (selected-rise c.before.before.before.before.before.before.before.before.before.before.before.before.before.before.before.before) (others_rise c.before.before.before.before.before.before.before.before.before.before.before.before.before.before) after,
     )
 
-pub return-lane-spec : {M : Type 1} → statement M
-return-lane-spec =
+pub return_lane_spec : {M : Type 1} → statement M
+return_lane_spec =
     tie.close
     (tie.spec
     (λ c κs. search rules)

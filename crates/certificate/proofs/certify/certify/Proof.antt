@@ -8,13 +8,13 @@ use Rattle.certificate.proofs.certify.certify.Tie as tie
 
 returns : tie.Need-returns
 returns c =
-    let a = c.before.before.before.before.before.before.before.args in
+    let a = c.args in
     let s = slices a.breaks.now a.coefficients.now a.other_breaks.now a.other_coefficients.now in
     let e = c.checked.ensures in (
       e,
       λ F h. certificate_theorem a.curve s a.points.now a.n a.spacing a.parameters.now a.axis a.depth F
-          c.before.shared-slice-known6.given (sym e ∙ h),
+          c.shared_slice_known-6-1.given (sym e ∙ h),
     )
 
-pub certify-spec : {M : Type 1} → statement M
-certify-spec = tie.close (tie.spec (λ c κs. search rules) returns)
+pub certify_spec : {M : Type 1} → statement M
+certify_spec = tie.close (tie.spec (λ c κs. search rules) returns)

@@ -9,13 +9,13 @@ use Rattle.certificate.proofs.Coefficients.{halved_same}
 use Rattle.certificate.proofs.halving.deep_figure.Statement.{statement}
 use Rattle.certificate.proofs.halving.deep_figure.Tie as tie
 
-returns : tie.Need-returns
+returns : tie.Need-returns-then-depth-eq0
 unfolding intersection_figure halved_figure
-returns c = rw c.if1.true c.before.requires
+returns c = rw c.if-depth-eq0.true c.requires
 
-returns-2 : tie.Need-returns-2
+returns-2 : tie.Need-returns
 unfolding intersection_figure
-returns-2 c = c.halved-figure.ensures ∙ halved_same _ (pair_at c.before.bernstein-pairs.result.ends) _ (λ k l. c.before.bernstein-pairs.ensures k (omega arith))
+returns-2 c = c.halved_figure.ensures ∙ halved_same _ (pair_at c.bernstein_pairs.result.ends) _ (λ k l. c.bernstein_pairs.ensures k (omega arith))
 
-pub deep-figure-spec : {M : Type 1} → statement M
-deep-figure-spec = tie.close (tie.spec returns (λ c κs. search rules) (λ c κs. search rules) returns-2)
+pub deep_figure_spec : {M : Type 1} → statement M
+deep_figure_spec = tie.close (tie.spec returns (λ c κs. search rules) (λ c κs. search rules) returns-2)

@@ -8,37 +8,31 @@ use Rattle.certificate.proofs.Skipped.{none_own, skipped}
 use Rattle.certificate.proofs.halving.with_computed.Statement.{statement}
 use Rattle.certificate.proofs.halving.with_computed.Tie as tie
 
-returns : tie.Need-returns
+returns : tie.Need-returns-in_default
 unfolding larger
-returns c = rw c.enum_told.given.1
+returns c = rw c.in_default.is
 
-returns-2 : tie.Need-returns-2
+returns-2 : tie.Need-returns-in_default-own
 returns-2 c =
-    let s = c.before.before.before.before.before in
-    let a = s.before.args in
-    none_own a.depth (intersection_of a.x) (figure_in a.so_far) (sym (ap figure_in c.enum-told2.given.1) ∙ s.own-figure.ensures)
+    let a = c.args in
+    none_own a.depth (intersection_of a.x) (figure_in a.so_far) (sym (ap figure_in c.in_default-own.is) ∙ c.own_figure-own.ensures)
 
-deep-figure-requires : tie.Need-deep-figure-requires
+deep-figure-requires : tie.Need-deep_figure-requires
 deep-figure-requires c κs =
-    let own = c.before.before in
-    sym (ap figure_in own.own.given.1) ∙ own.before.before.before.before.before.own-figure.ensures
+    sym (ap figure_in c.in-Known-own.is) ∙ c.own_figure-own.ensures
 
-returns-3 : tie.Need-returns-3
+returns-3 : tie.Need-returns-then-largest-most
 returns-3 c =
-    let known = c.before.before.before.before.before.before.before in
-    rw known.so_far.given.1 (c.larger.ensures ∙ ap (larger _) c.before.deep-figure.ensures)
+    rw c.in-Known.is (c.larger.ensures ∙ ap (larger _) c.deep_figure.ensures)
 
-returns-4 : tie.Need-returns-4
+returns-4 : tie.Need-returns
 returns-4 c =
-    let own = c.before.before in
-    let known = own.before.before.before in
-    let s = known.before.before in
-    let a = s.before.args in
-    rw known.so_far.given.1 (skipped a.depth (intersection_of a.x) _ _
-    (sym (ap figure_in own.own.given.1) ∙ s.own-figure.ensures) c.if1.false)
+    let a = c.args in
+    rw c.in-Known.is (skipped a.depth (intersection_of a.x) _ _
+    (sym (ap figure_in c.in-Known-own.is) ∙ c.own_figure-own.ensures) c.if-largest-most.false)
 
-pub with-computed-spec : {M : Type 1} → statement M
-with-computed-spec =
+pub with_computed_spec : {M : Type 1} → statement M
+with_computed_spec =
     tie.close
     (tie.spec (λ c κs. search rules) (λ c. search rules) (λ c. search rules) returns (λ c. search rules) (λ c. search rules) returns-2
     deep-figure-requires (λ c κs. search rules) returns-3 returns-4)

@@ -7,23 +7,21 @@ use Rattle.certificate.proofs.Skipped.{skipped}
 use Rattle.certificate.proofs.halving.with_figure.Statement.{statement}
 use Rattle.certificate.proofs.halving.with_figure.Tie as tie
 
-returns : tie.Need-returns
+returns : tie.Need-returns-in_default
 unfolding larger
-returns c = rw c.enum_told.given.1
+returns c = rw c.in_default.is
 
-returns-2 : tie.Need-returns-2
+returns-2 : tie.Need-returns-then-not_above
 returns-2 c =
-    let known = c.before.before.before in
-    let a = known.before.before.args in
-    let n = c.before.not_above.ensures c.if1.true in
-    rw known.so_far.given.1 (skipped a.depth (intersection_of a.x) _ _ (sym n.is) n.not_above)
+    let a = c.args in
+    let n = c.not_above.ensures c.if-not_above.true in
+    rw c.in-Known.is (skipped a.depth (intersection_of a.x) _ _ (sym n.is) n.not_above)
 
-returns-3 : tie.Need-returns-3
+returns-3 : tie.Need-returns
 returns-3 c =
-    let known = c.before.before.before.before in
-    rw known.so_far.given.1 c.with-computed.ensures
+    rw c.in-Known.is c.with_computed.ensures
 
-pub with-figure-spec : {M : Type 1} → statement M
-with-figure-spec =
+pub with_figure_spec : {M : Type 1} → statement M
+with_figure_spec =
     tie.close
     (tie.spec (λ c. search rules) (λ c. search rules) returns (λ c κs. search rules) returns-2 (λ c κs. search rules) returns-3)

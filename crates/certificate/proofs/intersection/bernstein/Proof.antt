@@ -17,41 +17,39 @@ use Rattle.certificate.proofs.intersection.bernstein.Tie as tie
 abbrev terms : (ℕ → pairs.Ends) → ℕ → ℕ → pairs.Ends
 terms q k j = ends.over (ends.times (q j) (ends.whole (choose k j))) (ends.whole (choose 5 j))
 
-abbrev invariant-loop : tie.invariant-loop
+abbrev invariant-loop : tie.invariant-loop-j
 invariant-loop k q c d sum₀ j₀ sum j = (j ≤ k + 1) × (ends_of sum ≡ total ends 0 j (terms (pair_at q.ends) k))
 
-abbrev decreases-loop : tie.decreases-loop
+abbrev decreases-loop : tie.decreases-loop-j
 decreases-loop k q c d sum₀ j₀ sum j = k + 1 - j
 
-loop-holds : tie.Need-loop-init invariant-loop decreases-loop
+loop-holds : tie.Need-loop-j-init invariant-loop decreases-loop
 unfolding bernstein
 loop-holds c = (omega arith, c.requires.1)
 
-loop-again : tie.Need-loop-preserved invariant-loop decreases-loop
+loop-again : tie.Need-loop-j-preserved invariant-loop decreases-loop
 loop-again c =
-    let d = c.before in
-    let m = d.before in
-    let at-loop = m.before.before.before in
-    let l = at-loop.loop in
-    let a = at-loop.before.args in
-    let f = terms (pair_at a.t1.ends) a.k in
-    let t : ends_of d.divide-by.result ≡ f l.j = rw (
-      d.divide-by.ensures,
-      m.multiply-by.ensures,
-      at-loop.before.requires.2 l.j (omega arith),
-      at-loop.before.requires.3 l.j (omega arith),
+    let at-loop = c.before.before.before.before.before in
+    let l = at-loop.loop-j in
+    let a = at-loop.args in
+    let f = terms (pair_at a.q.ends) a.k in
+    let t : ends_of c.divide_by.result ≡ f l.j = rw (
+      c.divide_by.ensures,
+      c.multiply_by-part.ensures,
+      at-loop.requires.2 l.j (omega arith),
+      at-loop.requires.3 l.j (omega arith),
     ) in
-    (omega arith, total_more ends 0 l.j (l.j + 1) l.j f _ _ _ (omega arith) (omega arith) l.invariant.1 t c.add.ensures)
+    (omega arith, total_more ends 0 l.j (l.j + 1) l.j f _ _ _ (omega arith) (omega arith) l.invariant.1 t c.add-sum.ensures)
 
 returns : tie.Need-returns invariant-loop decreases-loop
 unfolding bernstein
 returns c =
-    let a = c.before.before.args in
-    let e : c.before.loop.j ≡ suc a.k = omega arith in
-    c.before.loop.invariant.1 ∙ ap (λ (n : ℕ). total ends 0 n (terms (pair_at a.t1.ends) a.k)) e
+    let a = c.args in
+    let e : c.loop-j.j ≡ suc a.k = omega arith in
+    c.loop-j.invariant.1 ∙ ap (λ (n : ℕ). total ends 0 n (terms (pair_at a.q.ends) a.k)) e
 
-pub bernstein-spec : {M : Type 1} → statement M
-bernstein-spec =
+pub bernstein_spec : {M : Type 1} → statement M
+bernstein_spec =
     tie.close
     (tie.spec invariant-loop decreases-loop loop-holds (λ c. omega arith) (λ c. omega arith) (λ c. omega arith) (λ c. omega arith) (λ c. omega arith)
     (λ c κs. search rules) (λ c. omega arith) (λ c. omega arith) (λ c κs. search rules) (λ c κs. search rules) (λ c. omega arith)

@@ -16,25 +16,19 @@ use Rattle.certificate.proofs.intersection.bernstein_pairs.Tie as tie
 
 returns : tie.Need-returns
 returns c =
-    let b4 = c.before in
-    let b3 = b4.before in
-    let b2 = b3.before in
-    let b1 = b2.before in
-    let b0 = b1.before in
-    let q = b0.before.before in
-    let p = difference_power ends (intersection_of q.before.args.x) in
-    let h = holds_bernstein q.difference-powers.result.ends p q.difference-powers.ensures in
+    let p = difference_power ends (intersection_of c.args.x) in
+    let h = holds_bernstein c.difference_powers-q.result.ends p c.difference_powers-q.ensures in
     holds_six _ _ _ _ _ _ _
-    (b0.first.ensures ∙ bernstein_zero (pair_at q.difference-powers.result.ends) ∙ h 0 (omega arith))
-    (b1.bernstein.ensures ∙ h 1 (omega arith))
-    (b2.bernstein2.ensures ∙ h 2 (omega arith))
-    (b3.bernstein3.ensures ∙ h 3 (omega arith))
-    (b4.bernstein4.ensures ∙ h 4 (omega arith))
-    (c.bernstein5.ensures ∙ h 5 (omega arith))
+    (c.first-b.ensures ∙ bernstein_zero (pair_at c.difference_powers-q.result.ends) ∙ h 0 (omega arith))
+    (c.bernstein.ensures ∙ h 1 (omega arith))
+    (c.bernstein-2.ensures ∙ h 2 (omega arith))
+    (c.bernstein-3.ensures ∙ h 3 (omega arith))
+    (c.bernstein-4.ensures ∙ h 4 (omega arith))
+    (c.bernstein-5.ensures ∙ h 5 (omega arith))
 
 -- the first, at each call
-first_is : (c : tie.After-first) → ends_of c.first.result ≡ bernstein ends (pair_at c.before.before.difference-powers.result.ends) 0
-first_is c = c.first.ensures ∙ bernstein_zero (pair_at c.before.before.difference-powers.result.ends)
+first_is : (c : tie.After-first-b) → ends_of c.first-b.result ≡ bernstein ends (pair_at c.difference_powers-q.result.ends) 0
+first_is c = c.first-b.ensures ∙ bernstein_zero (pair_at c.difference_powers-q.result.ends)
 
 bernstein-requires : tie.Need-bernstein-requires
 unfolding of_bits round
@@ -81,8 +75,8 @@ bernstein-requires-5 c κs = (
   six_at _ _ _ _ _ _ (λ j. round binary64 false (choose 5 j) 1) refl refl refl refl refl refl,
 )
 
-pub bernstein-pairs-spec : {M : Type 1} → statement M
-bernstein-pairs-spec =
+pub bernstein_pairs_spec : {M : Type 1} → statement M
+bernstein_pairs_spec =
     tie.close
     (tie.spec (λ c κs. search rules) (λ c. search rules) (λ c κs. search rules) bernstein-requires bernstein-requires-2
     bernstein-requires-3 bernstein-requires-4 bernstein-requires-5 returns)

@@ -17,39 +17,29 @@ use Rattle.certificate.proofs.intersection.difference_powers.Tie as tie
 
 returns : tie.Need-returns
 returns c =
-    let p5 = c.before.before in
-    let p4 = p5.before.before in
-    let p3 = p4.before.before in
-    let second = p3.before.before in
-    let p1 = second.before.before in
-    let first = p1.before.before in
-    let p0 = first.before.before in
-    let ws = p0.before.before.before in
-    let us = ws.before.before in
-    let start = us.before.before.before in
-    let x = intersection_of start.args.x in
-    let u = us.powers-of.result.ends in
-    let w = ws.powers-of2.result.ends in
+    let x = intersection_of c.args.x in
+    let u = c.powers_of-u.result.ends in
+    let w = c.powers_of-ws.result.ends in
     let hu : Holds u (raised ends (offset ends x)) =
-    subst (λ (e : pairs.Ends). Holds u (raised ends e)) us.before.offset.ensures us.powers-of.ensures in
+    subst (λ (e : pairs.Ends). Holds u (raised ends e)) c.offset.ensures c.powers_of-u.ensures in
     let hw : Holds w (raised ends (scale ends x)) =
-    subst (λ (e : pairs.Ends). Holds w (raised ends e)) ws.before.scale.ensures ws.powers-of2.ensures in
-    let p = at start.args.x.coefficients in
+    subst (λ (e : pairs.Ends). Holds w (raised ends e)) c.scale.ensures c.powers_of-ws.ensures in
+    let p = at c.args.x.coefficients in
     holds_six _ _ _ _ _ _ _
     (rw (
-      first.subtract.ensures,
-      first.before.line-at-left.ensures,
-      p0.power.ensures ∙ held_power p u (offset ends x) (scale ends x) _ 0 (omega arith) hu (hw 0 (omega arith)),
+      c.subtract.ensures,
+      c.line_at_left.ensures,
+      c.power.ensures ∙ held_power p u (offset ends x) (scale ends x) _ 0 (omega arith) hu (hw 0 (omega arith)),
     ))
     (rw (
-      second.subtract2.ensures,
-      second.before.line-rise.ensures,
-      p1.power2.ensures ∙ held_power p u (offset ends x) (scale ends x) _ 1 (omega arith) hu (hw 1 (omega arith)),
+      c.subtract-2.ensures,
+      c.line_rise.ensures,
+      c.power-2.ensures ∙ held_power p u (offset ends x) (scale ends x) _ 1 (omega arith) hu (hw 1 (omega arith)),
     ))
-    (p3.power3.ensures ∙ held_power p u (offset ends x) (scale ends x) _ 2 (omega arith) hu (hw 2 (omega arith)))
-    (p4.power4.ensures ∙ held_power p u (offset ends x) (scale ends x) _ 3 (omega arith) hu (hw 3 (omega arith)))
-    (p5.power5.ensures ∙ held_power p u (offset ends x) (scale ends x) _ 4 (omega arith) hu (hw 4 (omega arith)))
-    (c.power6.ensures ∙ held_power p u (offset ends x) (scale ends x) _ 5 (omega arith) hu (hw 5 (omega arith)))
+    (c.power-3.ensures ∙ held_power p u (offset ends x) (scale ends x) _ 2 (omega arith) hu (hw 2 (omega arith)))
+    (c.power-4.ensures ∙ held_power p u (offset ends x) (scale ends x) _ 3 (omega arith) hu (hw 3 (omega arith)))
+    (c.power-5.ensures ∙ held_power p u (offset ends x) (scale ends x) _ 4 (omega arith) hu (hw 4 (omega arith)))
+    (c.power-6.ensures ∙ held_power p u (offset ends x) (scale ends x) _ 5 (omega arith) hu (hw 5 (omega arith)))
 
 power-requires : tie.Need-power-requires
 unfolding of_bits round
@@ -75,8 +65,8 @@ power-requires-6 : tie.Need-power-requires-6
 unfolding of_bits round
 power-requires-6 c κs = (omega arith, six_at _ _ _ _ _ _ (λ k. round binary64 false (choose k 5) 1) refl refl refl refl refl refl)
 
-pub difference-powers-spec : {M : Type 1} → statement M
-difference-powers-spec =
+pub difference_powers_spec : {M : Type 1} → statement M
+difference_powers_spec =
     tie.close
     (tie.spec (λ c κs. search rules) (λ c κs. search rules) (λ c κs. search rules) (λ c κs. search rules) (λ c. search rules)
     power-requires (λ c κs. search rules) (λ c κs. search rules) (λ c. search rules) power-requires-2

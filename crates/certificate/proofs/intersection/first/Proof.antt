@@ -7,8 +7,7 @@ use Rattle.certificate.proofs.intersection.first.Tie as tie
 returns : tie.Need-returns
 unfolding of_bits round
 returns c =
-    let d = c.before in
-    rw (c.add.ensures, d.divide-by.ensures, d.before.both.ensures, d.before.before.multiply-by.ensures)
+    rw (c.add.ensures, c.divide_by.ensures, c.both.ensures, c.multiply_by-c.ensures)
 
 pub first_spec : {M : Type 1} → statement M
 first_spec = tie.close (tie.spec (λ c κs. search rules) (λ c κs. search rules) (λ c κs. search rules) (λ c κs. search rules) returns)

@@ -5,20 +5,18 @@ use Rattle.certificate.proofs.intersection.line_at_left.Tie as tie
 
 returns : tie.Need-returns
 returns c =
-    let m = c.before.before in
-    let d = m.before.before in
     rw (
       c.add.ensures,
-      c.before.finite-ends.ensures,
-      m.multiply.ensures,
-      m.before.difference3.ensures,
-      d.divide.ensures,
-      d.before.difference2.ensures,
-      d.before.before.difference.ensures,
+      c.finite_ends.ensures,
+      c.multiply-rise.ensures,
+      c.difference-3.ensures,
+      c.divide-part.ensures,
+      c.difference-2.ensures,
+      c.difference.ensures,
     )
 
-pub line-at-left-spec : {M : Type 1} → statement M
-line-at-left-spec =
+pub line_at_left_spec : {M : Type 1} → statement M
+line_at_left_spec =
     tie.close
     (tie.spec (λ c κs. search rules) (λ c κs. search rules) (λ c κs. search rules) (λ c κs. search rules) (λ c κs. search rules)
     (λ c κs. search rules)

@@ -9,26 +9,21 @@ use Rattle.certificate.proofs.intersection.powers_of.Tie as tie
 returns : tie.Need-returns
 unfolding raised of_bits round
 returns c =
-    let u4 = c.before in
-    let u3 = u4.before in
-    let u2 = u3.before in
-    let u1 = u2.before in
-    let u0 = u1.before in
     holds_six _ _ _ _ _ _ _
-    u0.both.ensures
-    (rw (u1.multiply.ensures, u0.both.ensures))
-    (rw (u2.multiply2.ensures, u1.multiply.ensures, u0.both.ensures))
-    (rw (u3.multiply3.ensures, u2.multiply2.ensures, u1.multiply.ensures, u0.both.ensures))
-    (rw (u4.multiply4.ensures, u3.multiply3.ensures, u2.multiply2.ensures, u1.multiply.ensures, u0.both.ensures))
+    c.both-u0.ensures
+    (rw (c.multiply-u1.ensures, c.both-u0.ensures))
+    (rw (c.multiply-u2.ensures, c.multiply-u1.ensures, c.both-u0.ensures))
+    (rw (c.multiply-u3.ensures, c.multiply-u2.ensures, c.multiply-u1.ensures, c.both-u0.ensures))
+    (rw (c.multiply-u4.ensures, c.multiply-u3.ensures, c.multiply-u2.ensures, c.multiply-u1.ensures, c.both-u0.ensures))
     (rw (
-      c.multiply5.ensures,
-      u4.multiply4.ensures,
-      u3.multiply3.ensures,
-      u2.multiply2.ensures,
-      u1.multiply.ensures,
-      u0.both.ensures,
+      c.multiply-u5.ensures,
+      c.multiply-u4.ensures,
+      c.multiply-u3.ensures,
+      c.multiply-u2.ensures,
+      c.multiply-u1.ensures,
+      c.both-u0.ensures,
     ))
 
-pub powers-of-spec : {M : Type 1} → statement M
-powers-of-spec = tie.close (tie.spec (λ c κs. search rules) (λ c κs. search rules) (λ c κs. search rules) (λ c κs. search rules)
+pub powers_of_spec : {M : Type 1} → statement M
+powers_of_spec = tie.close (tie.spec (λ c κs. search rules) (λ c κs. search rules) (λ c κs. search rules) (λ c κs. search rules)
     (λ c κs. search rules) (λ c κs. search rules) returns)

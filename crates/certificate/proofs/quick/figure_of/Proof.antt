@@ -12,13 +12,12 @@ use Rattle.certificate.proofs.quick.figure_of.Tie as tie
 returns : tie.Need-returns
 unfolding power
 returns c = λ g M L D.
-    let s = c.before.before.before.before.before.before.before.before.before in
-    let w = c.before.before.before.before.before.powers-of.ensures _ (c.before.before.before.before.before.before.over.ensures 2 2 _ _ (omega arith) L.3 L.0 D.3 D.0) in
-    let l = c.before.before.before.before.Line-of.ensures M L D in
-    c.row-figure.ensures _ (c.before.without-line.ensures (power ends (λ k. ends.number (at s.args.x.coefficients k)) _ _) _ _
-    (c.before.before.curve-powers.ensures (power_sum (at s.args.x.coefficients) (offset ends (intersection_of s.args.x))) _
-    (c.before.before.before.sums-of.ensures g M L D) w) l.0 l.1)
+    let w = c.powers_of-w.ensures _ (c.over.ensures 2 2 _ _ (omega arith) L.3 L.0 D.3 D.0) in
+    let l = c.line_of-line.ensures M L D in
+    c.row_figure.ensures _ (c.without_line.ensures (power ends (λ k. ends.number (at c.args.x.coefficients k)) _ _) _ _
+    (c.curve_powers.ensures (power_sum (at c.args.x.coefficients) (offset ends (intersection_of c.args.x))) _
+    (c.sums_of.ensures g M L D) w) l.0 l.1)
 
-pub figure-of-spec : {M : Type 1} → statement M
-figure-of-spec = tie.close (tie.spec (λ c κs. search rules) (λ c κs. search rules) (λ c κs. search rules) (λ c κs. search rules) (λ c κs.
+pub figure_of_spec : {M : Type 1} → statement M
+figure_of_spec = tie.close (tie.spec (λ c κs. search rules) (λ c κs. search rules) (λ c κs. search rules) (λ c κs. search rules) (λ c κs.
     search rules) (λ c κs. search rules) (λ c κs. search rules) returns)

@@ -6,9 +6,9 @@ use Rattle.certificate.proofs.quick.gained.Statement.{statement}
 use Rattle.certificate.proofs.quick.gained.Tie as tie
 
 returns : tie.Need-returns
-returns c = λ a e g l h X C P U. c.add.ensures a _ _ (omega arith) X (stands_wider 426 a l _ _ (c.before.times.ensures 105 320 _ _
+returns c = λ a e g l h X C P U. c.add.ensures a _ _ (omega arith) X (stands_wider 426 a l _ _ (c.times.ensures 105 320 _ _
     (omega arith)
-    (c.before.before.product.ensures 4 100 (omega arith) C P) U))
+    (c.product.ensures 4 100 (omega arith) C P) U))
 
-pub gained-spec : {M : Type 1} → statement M
-gained-spec = tie.close (tie.spec (λ c κs. search rules) (λ c κs. search rules) (λ c κs. search rules) returns)
+pub gained_spec : {M : Type 1} → statement M
+gained_spec = tie.close (tie.spec (λ c κs. search rules) (λ c κs. search rules) (λ c κs. search rules) returns)

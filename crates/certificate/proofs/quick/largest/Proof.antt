@@ -6,7 +6,7 @@ use Rattle.certificate.proofs.quick.largest.Statement.{statement}
 use Rattle.certificate.proofs.quick.largest.Tie as tie
 
 returns : tie.Need-returns
-returns c = λ a e l S X h. largest_stands a e _ S _ X h _ (rw (c.higher2.ensures, c.before.higher.ensures) refl)
+returns c = λ a e l S X h. largest_stands a e _ S _ X h _ (rw (c.higher-2.ensures, c.higher.ensures) refl)
 
-pub largest-spec : {M : Type 1} → statement M
-largest-spec = tie.close (tie.spec (λ c κs. search rules) (λ c κs. search rules) returns)
+pub largest_spec : {M : Type 1} → statement M
+largest_spec = tie.close (tie.spec (λ c κs. search rules) (λ c κs. search rules) returns)

@@ -10,8 +10,8 @@ use Rattle.certificate.proofs.quick.lead.Tie as tie
 returns : tie.Need-returns
 unfolding of_bits round
 returns c = λ P. stands_wider 110 426 (omega arith) _ _ (first_stands 110 (omega arith) _ _
-    (c.times-number.ensures 105 4 _ (omega arith) (c.before.product.ensures 4 100 (omega arith) one.number P) one.number
+    (c.times_number.ensures 105 4 _ (omega arith) (c.product.ensures 4 100 (omega arith) one.number P) one.number
     one.not_negative))
 
-pub lead-spec : {M : Type 1} → statement M
-lead-spec = tie.close (tie.spec (λ c κs. search rules) (λ c κs. search rules) returns)
+pub lead_spec : {M : Type 1} → statement M
+lead_spec = tie.close (tie.spec (λ c κs. search rules) (λ c κs. search rules) returns)

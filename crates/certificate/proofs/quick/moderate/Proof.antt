@@ -6,16 +6,16 @@ use Rattle.arith.proofs.Truth.{never}
 use Rattle.certificate.proofs.quick.moderate.Statement.{statement}
 use Rattle.certificate.proofs.quick.moderate.Tie as tie
 
-returns : tie.Need-returns
+returns : tie.Need-returns-then-within-2
 unfolding of_bits
 returns c = λ h.
     record {
-      parameters = c.before.before.before.before.before.before.parameters-within.ensures c.before.before.before.before.before.if1.true;
-      first = c.before.before.before.before.within.ensures 100 c.before.before.before.if2.true refl;
-      second = c.before.before.within2.ensures 100 c.before.if3.true refl;
-      coefficients = c.six-within.ensures h;
+      parameters = c.parameters_within.ensures c.if-parameters_within.true;
+      first = c.within.ensures 100 c.if-within.true refl;
+      second = c.within-then-within.ensures 100 c.if-within-2.true refl;
+      coefficients = c.six_within.ensures h;
     }
 
-pub moderate-spec : {M : Type 1} → statement M
-moderate-spec = tie.close (tie.spec (λ c κs. search rules) (λ c κs. search rules) (λ c κs. search rules) (λ c κs. search rules) returns
+pub moderate_spec : {M : Type 1} → statement M
+moderate_spec = tie.close (tie.spec (λ c κs. search rules) (λ c κs. search rules) (λ c κs. search rules) (λ c κs. search rules) returns
     (λ c h. never h) (λ c h. never h) (λ c h. never h))

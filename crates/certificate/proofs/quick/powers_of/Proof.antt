@@ -12,11 +12,11 @@ use Rattle.certificate.proofs.quick.powers_of.Tie as tie
 returns : tie.Need-returns
 unfolding raised of_bits round finite_ends
 returns c = λ e U.
-    let a = c.before.before.before.before.times.ensures 0 63 _ _ (omega arith) (c.before.before.before.before.before.single.ensures 0 unit) U in
-    let b = c.before.before.before.times2.ensures 64 63 _ _ (omega arith) a U in
-    let d = c.before.before.times3.ensures 128 63 _ _ (omega arith) b U in
-    let f = c.before.times4.ensures 192 63 _ _ (omega arith) d U in
-    let g = c.times5.ensures 256 63 _ _ (omega arith) f U in (
+    let a = c.times-one.ensures 0 63 _ _ (omega arith) (c.single.ensures 0 unit) U in
+    let b = c.times-two.ensures 64 63 _ _ (omega arith) a U in
+    let d = c.times-three.ensures 128 63 _ _ (omega arith) b U in
+    let f = c.times-four.ensures 192 63 _ _ (omega arith) d U in
+    let g = c.times-five.ensures 256 63 _ _ (omega arith) f U in (
       stands_wider 64 320 (omega arith) _ _ a,
       stands_wider 128 320 (omega arith) _ _ b,
       stands_wider 192 320 (omega arith) _ _ d,
@@ -24,6 +24,6 @@ returns c = λ e U.
       g,
     )
 
-pub powers-of-spec : {M : Type 1} → statement M
-powers-of-spec = tie.close (tie.spec (λ c κs. search rules) (λ c κs. search rules) (λ c κs. search rules) (λ c κs. search rules) (λ c κs.
+pub powers_of_spec : {M : Type 1} → statement M
+powers_of_spec = tie.close (tie.spec (λ c κs. search rules) (λ c κs. search rules) (λ c κs. search rules) (λ c κs. search rules) (λ c κs.
     search rules) (λ c κs. search rules) returns)

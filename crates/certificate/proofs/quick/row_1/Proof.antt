@@ -10,8 +10,8 @@ use Rattle.certificate.proofs.quick.row_1.Tie as tie
 returns : tie.Need-returns
 unfolding bernstein of_bits round
 returns c = λ f Q X.
-    (c.with-term.ensures 760 _ _ (omega arith) (omega arith)
+    (c.with_term.ensures 760 _ _ (omega arith) (omega arith)
     X Q.1 one.number one.not_negative five.number five.from_one)
 
-pub row-1-spec : {M : Type 1} → statement M
-row-1-spec = tie.close (tie.spec (λ c κs. search rules) returns)
+pub row_1_spec : {M : Type 1} → statement M
+row_1_spec = tie.close (tie.spec (λ c κs. search rules) returns)

@@ -10,12 +10,12 @@ use Rattle.certificate.proofs.quick.row_4.Tie as tie
 returns : tie.Need-returns
 unfolding bernstein of_bits round
 returns c = λ f Q X.
-    (c.with-term4.ensures 763 _ _ (omega arith) (omega arith)
-    (c.before.with-term3.ensures 762 _ _ (omega arith) (omega arith)
-    (c.before.before.with-term2.ensures 761 _ _ (omega arith) (omega arith)
-    (c.before.before.before.with-term.ensures 760 _ _ (omega arith) (omega arith)
+    (c.with_term-3.ensures 763 _ _ (omega arith) (omega arith)
+    (c.with_term-2.ensures 762 _ _ (omega arith) (omega arith)
+    (c.with_term-s.ensures 761 _ _ (omega arith) (omega arith)
+    (c.with_term.ensures 760 _ _ (omega arith) (omega arith)
     X Q.1 four.number four.not_negative five.number five.from_one) Q.2 six.number six.not_negative ten.number
     ten.from_one) Q.3 four.number four.not_negative ten.number ten.from_one) Q.4 one.number one.not_negative five.number five.from_one)
 
-pub row-4-spec : {M : Type 1} → statement M
-row-4-spec = tie.close (tie.spec (λ c κs. search rules) (λ c κs. search rules) (λ c κs. search rules) (λ c κs. search rules) returns)
+pub row_4_spec : {M : Type 1} → statement M
+row_4_spec = tie.close (tie.spec (λ c κs. search rules) (λ c κs. search rules) (λ c κs. search rules) (λ c κs. search rules) returns)

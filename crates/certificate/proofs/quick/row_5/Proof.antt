@@ -10,14 +10,14 @@ use Rattle.certificate.proofs.quick.row_5.Tie as tie
 returns : tie.Need-returns
 unfolding bernstein of_bits round
 returns c = λ f Q X.
-    (c.with-term5.ensures 764 _ _ (omega arith) (omega arith)
-    (c.before.with-term4.ensures 763 _ _ (omega arith) (omega arith)
-    (c.before.before.with-term3.ensures 762 _ _ (omega arith) (omega arith)
-    (c.before.before.before.with-term2.ensures 761 _ _ (omega arith) (omega arith)
-    (c.before.before.before.before.with-term.ensures 760 _ _ (omega arith) (omega arith)
+    (c.with_term-3.ensures 764 _ _ (omega arith) (omega arith)
+    (c.with_term-t.ensures 763 _ _ (omega arith) (omega arith)
+    (c.with_term-2.ensures 762 _ _ (omega arith) (omega arith)
+    (c.with_term-s.ensures 761 _ _ (omega arith) (omega arith)
+    (c.with_term.ensures 760 _ _ (omega arith) (omega arith)
     X Q.1 five.number five.not_negative five.number five.from_one) Q.2 ten.number ten.not_negative ten.number
     ten.from_one) Q.3 ten.number ten.not_negative ten.number ten.from_one) Q.4 five.number five.not_negative five.number five.from_one) Q.5 one.number one.not_negative one.number one.from_one)
 
-pub row-5-spec : {M : Type 1} → statement M
-row-5-spec = tie.close (tie.spec (λ c κs. search rules) (λ c κs. search rules) (λ c κs. search rules) (λ c κs. search rules) (λ c κs.
+pub row_5_spec : {M : Type 1} → statement M
+row_5_spec = tie.close (tie.spec (λ c κs. search rules) (λ c κs. search rules) (λ c κs. search rules) (λ c κs. search rules) (λ c κs.
     search rules) returns)

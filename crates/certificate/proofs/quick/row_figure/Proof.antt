@@ -11,17 +11,17 @@ use Rattle.certificate.proofs.quick.row_figure.Tie as tie
 returns : tie.Need-returns
 unfolding bernstein of_bits round
 returns c = λ f Q.
-    let b = c.before.before.before.before.before.before.before.before.before.before.before.first-term.ensures _ Q.0 in
-    let m0 = c.before.before.before.before.before.before.before.before.before.before.largest.ensures 760 _ (omega arith) b tt
+    let b = c.first_term-b.ensures _ Q.0 in
+    let m0 = c.largest-most_0.ensures 760 _ (omega arith) b tt
     zero_not_negative in
-    let m1 = c.before.before.before.before.before.before.before.before.largest2.ensures 761 _ (omega arith) (c.before.before.before.before.before.before.before.before.before.row-1.ensures f Q b) m0.1 m0.2 in
-    let m2 = c.before.before.before.before.before.before.largest3.ensures 762 _ (omega arith) (c.before.before.before.before.before.before.before.row-2.ensures f Q b) m1.1 m1.2 in
-    let m3 = c.before.before.before.before.largest4.ensures 763 _ (omega arith) (c.before.before.before.before.before.row-3.ensures f Q b) m2.1 m2.2 in
-    let m4 = c.before.before.largest5.ensures 764 _ (omega arith) (c.before.before.before.row-4.ensures f Q b) m3.1 m3.2 in
-    let m5 = c.largest6.ensures 765 _ (omega arith) (c.before.row-5.ensures f Q b) m4.1 m4.2 in
+    let m1 = c.largest-most_1.ensures 761 _ (omega arith) (c.row_1.ensures f Q b) m0.1 m0.2 in
+    let m2 = c.largest-most_2.ensures 762 _ (omega arith) (c.row_2.ensures f Q b) m1.1 m1.2 in
+    let m3 = c.largest-most_3.ensures 763 _ (omega arith) (c.row_3.ensures f Q b) m2.1 m2.2 in
+    let m4 = c.largest-most_4.ensures 764 _ (omega arith) (c.row_4.ensures f Q b) m3.1 m3.2 in
+    let m5 = c.largest.ensures 765 _ (omega arith) (c.row_5.ensures f Q b) m4.1 m4.2 in
     six_largest _ _ _ _ _ _ _ m0.0 m1.0 m2.0 m3.0 m4.0 m5.0
 
-pub row-figure-spec : {M : Type 1} → statement M
-row-figure-spec = tie.close (tie.spec (λ c κs. search rules) (λ c κs. search rules) (λ c κs. search rules) (λ c κs. search rules) (λ c
+pub row_figure_spec : {M : Type 1} → statement M
+row_figure_spec = tie.close (tie.spec (λ c κs. search rules) (λ c κs. search rules) (λ c κs. search rules) (λ c κs. search rules) (λ c
     κs. search rules) (λ c κs. search rules) (λ c κs. search rules) (λ c κs. search rules) (λ c κs. search rules) (λ c κs. search rules)
     (λ c κs. search rules) (λ c κs. search rules) returns)

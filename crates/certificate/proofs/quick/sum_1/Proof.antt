@@ -11,13 +11,13 @@ use Rattle.certificate.proofs.quick.sum_1.Tie as tie
 returns : tie.Need-returns
 unfolding total raised of_bits round
 returns c = λ e N U. stands_wider 430 431 (omega arith) _ _
-    (c.gained4.ensures 429 _ _ (omega arith) (omega arith)
-    (c.before.gained3.ensures 428 _ _ (omega arith) (omega arith)
-    (c.before.before.gained2.ensures 427 _ _ (omega arith) (omega arith)
-    (c.before.before.before.gained.ensures 426 _ _ (omega arith) (omega arith)
-    (c.before.before.before.before.lead.ensures (N 1 (omega arith))) two.number (N 2 (omega arith)) U.0) three.number (N 3
+    (c.gained.ensures 429 _ _ (omega arith) (omega arith)
+    (c.gained-d.ensures 428 _ _ (omega arith) (omega arith)
+    (c.gained-c.ensures 427 _ _ (omega arith) (omega arith)
+    (c.gained-b.ensures 426 _ _ (omega arith) (omega arith)
+    (c.lead-a.ensures (N 1 (omega arith))) two.number (N 2 (omega arith)) U.0) three.number (N 3
     (omega arith)) U.1) four.number (N 4 (omega arith)) U.2) five.number (N 5 (omega arith)) U.3)
 
-pub sum-1-spec : {M : Type 1} → statement M
-sum-1-spec = tie.close (tie.spec (λ c. search rules) (λ c κs. search rules) (λ c. search rules) (λ c κs. search rules) (λ c. search
+pub sum_1_spec : {M : Type 1} → statement M
+sum_1_spec = tie.close (tie.spec (λ c. search rules) (λ c κs. search rules) (λ c. search rules) (λ c κs. search rules) (λ c. search
     rules) (λ c κs. search rules) (λ c. search rules) (λ c κs. search rules) (λ c. search rules) (λ c κs. search rules) returns)

@@ -12,7 +12,7 @@ returns : tie.Need-returns
 unfolding total raised of_bits round
 returns c = λ e N U. stands_wider 427 431 (omega arith) _ _
     (c.gained.ensures 426 _ _ (omega arith) (omega arith)
-    (c.before.lead.ensures (N 4 (omega arith))) five.number (N 5 (omega arith)) U.0)
+    (c.lead-a.ensures (N 4 (omega arith))) five.number (N 5 (omega arith)) U.0)
 
-pub sum-4-spec : {M : Type 1} → statement M
-sum-4-spec = tie.close (tie.spec (λ c. search rules) (λ c κs. search rules) (λ c. search rules) (λ c κs. search rules) returns)
+pub sum_4_spec : {M : Type 1} → statement M
+sum_4_spec = tie.close (tie.spec (λ c. search rules) (λ c κs. search rules) (λ c. search rules) (λ c κs. search rules) returns)

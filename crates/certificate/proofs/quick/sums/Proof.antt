@@ -10,14 +10,14 @@ use Rattle.certificate.proofs.quick.sums.Tie as tie
 returns : tie.Need-returns
 unfolding total raised of_bits round
 returns c = λ e N U. (
-  c.before.before.before.before.before.sum-0.ensures e N U,
-  c.before.before.before.before.sum-1.ensures e N U,
-  c.before.before.before.sum-2.ensures e N U,
-  c.before.before.sum-3.ensures e N U,
-  c.before.sum-4.ensures e N U,
-  stands_wider 426 431 (omega arith) _ _ (c.lead.ensures (N 5 (omega arith))),
+  c.sum_0-zero.ensures e N U,
+  c.sum_1-one.ensures e N U,
+  c.sum_2-two.ensures e N U,
+  c.sum_3-three.ensures e N U,
+  c.sum_4-four.ensures e N U,
+  stands_wider 426 431 (omega arith) _ _ (c.lead-five.ensures (N 5 (omega arith))),
 )
 
-pub sums-spec : {M : Type 1} → statement M
-sums-spec = tie.close (tie.spec (λ c κs. search rules) (λ c κs. search rules) (λ c κs. search rules) (λ c κs. search rules) (λ c κs.
+pub sums_spec : {M : Type 1} → statement M
+sums_spec = tie.close (tie.spec (λ c κs. search rules) (λ c κs. search rules) (λ c κs. search rules) (λ c κs. search rules) (λ c κs.
     search rules) (λ c. search rules) (λ c κs. search rules) returns)

@@ -6,9 +6,9 @@ use Rattle.certificate.proofs.quick.with_term.Statement.{statement}
 use Rattle.certificate.proofs.quick.with_term.Tie as tie
 
 returns : tie.Need-returns
-returns c = λ a e g l h B Q C p D o. c.add.ensures a _ _ (omega arith) B (stands_wider 760 a l _ _ (c.before.over-number.ensures 759
+returns c = λ a e g l h B Q C p D o. c.add.ensures a _ _ (omega arith) B (stands_wider 760 a l _ _ (c.over_number.ensures 759
     4 _ (omega arith)
-    (c.before.before.times-number.ensures 754 4 _ (omega arith) Q C p) D o))
+    (c.times_number.ensures 754 4 _ (omega arith) Q C p) D o))
 
-pub with-term-spec : {M : Type 1} → statement M
-with-term-spec = tie.close (tie.spec (λ c κs. search rules) (λ c κs. search rules) (λ c κs. search rules) returns)
+pub with_term_spec : {M : Type 1} → statement M
+with_term_spec = tie.close (tie.spec (λ c κs. search rules) (λ c κs. search rules) (λ c κs. search rules) returns)

@@ -7,13 +7,13 @@ use Rattle.certificate.proofs.quick.without_line.Tie as tie
 
 returns : tie.Need-returns
 returns c = λ f e g Q L M. (
-  c.before.subtract.ensures 753 _ _ (omega arith) Q.0 L,
-  c.subtract2.ensures 753 _ _ (omega arith) Q.1 M,
+  c.subtract-zero.ensures 753 _ _ (omega arith) Q.0 L,
+  c.subtract-one.ensures 753 _ _ (omega arith) Q.1 M,
   stands_wider 753 754 (omega arith) _ _ Q.2,
   stands_wider 753 754 (omega arith) _ _ Q.3,
   stands_wider 753 754 (omega arith) _ _ Q.4,
   stands_wider 753 754 (omega arith) _ _ Q.5,
 )
 
-pub without-line-spec : {M : Type 1} → statement M
-without-line-spec = tie.close (tie.spec (λ c κs. search rules) (λ c κs. search rules) returns)
+pub without_line_spec : {M : Type 1} → statement M
+without_line_spec = tie.close (tie.spec (λ c κs. search rules) (λ c κs. search rules) returns)

@@ -5,13 +5,13 @@ use Rattle.certificate.proofs.walk.intersect.Tie as tie
 
 returns : tie.Need-returns
 returns c = rw (
-  c.before.before.lower.ensures,
-  c.before.before.before.before.higher.ensures,
-  c.before.before.before.before.before.before.six.ensures,
+  c.lower.ensures,
+  c.higher.ensures,
+  c.six.ensures,
 )
 
-pub intersect-spec : {M : Type 1} → statement M
-intersect-spec =
+pub intersect_spec : {M : Type 1} → statement M
+intersect_spec =
     tie.close
     (tie.spec (λ c. search rules) (λ c. search rules) (λ c. search rules) (λ c. search rules) (λ c. search rules) (λ c. search rules)
     (λ c. search rules) (λ c. search rules) (λ c κs. search rules) (λ c. search rules) (λ c. search rules) (λ c κs. search rules)

@@ -8,18 +8,18 @@ use Rattle.certificate.specs.Structs.{figure_in}
 use Rattle.certificate.proofs.walk.with_intersection.Statement.{statement}
 use Rattle.certificate.proofs.walk.with_intersection.Tie as tie
 
-returns : tie.Need-returns
+returns : tie.Need-returns-then-x
 returns c =
-    let a = c.before.before.before.args in
+    let a = c.args in
     let g = figure_in a.so_far in
-    c.with-figure.ensures
-    ∙ sym (ap (λ (b : Bool). cond b (larger g (intersection_figure a.depth (intersection_of a.x))) g) c.before.if1.true)
+    c.with_figure.ensures
+    ∙ sym (ap (λ (b : Bool). cond b (larger g (intersection_figure a.depth (intersection_of a.x))) g) c.if-x.true)
 
-returns-2 : tie.Need-returns-2
+returns-2 : tie.Need-returns
 returns-2 c =
-    let a = c.before.before.args in
+    let a = c.args in
     let g = figure_in a.so_far in
-    sym (ap (λ (b : Bool). cond b (larger g (intersection_figure a.depth (intersection_of a.x))) g) c.if1.false)
+    sym (ap (λ (b : Bool). cond b (larger g (intersection_figure a.depth (intersection_of a.x))) g) c.if-x.false)
 
-pub with-intersection-spec : {M : Type 1} → statement M
-with-intersection-spec = tie.close (tie.spec (λ c κs. search rules) returns returns-2)
+pub with_intersection_spec : {M : Type 1} → statement M
+with_intersection_spec = tie.close (tie.spec (λ c κs. search rules) returns returns-2)

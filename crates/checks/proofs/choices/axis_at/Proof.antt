@@ -8,19 +8,19 @@ use Rattle.checks.proofs.Selected.{all_count, all_at}
 use Rattle.checks.proofs.choices.axis_at.Statement.{statement}
 use Rattle.checks.proofs.choices.axis_at.Tie as tie
 
-mul-result : tie.Need-overflow-mul-result
-mul-result c = let l = c.before.before.requires c.enum-told2.given.1 in omega arith
+mul-result : tie.Need-offset_bounds-list-i
+mul-result c = let l = c.requires c.in-Listed.is in omega arith
 
-shared-slice-read-result : tie.Need-shared-slice-read-result
-shared-slice-read-result c = c.before.before.before.requires c.before.enum-told2.given.1
+shared-slice-read-result : tie.Need-bounds-list-i
+shared-slice-read-result c = c.requires c.in-Listed.is
 
-returns : tie.Need-returns
-unfolding axes_of smoothing.axesOf
-returns c = rw c.enum_told.given.1 (λ d h. sym (all_at d c.before.before.args.i (rw (all_count d) at h)))
+returns : tie.Need-returns-in-All
+unfolding axes_of smoothing.axes_of
+returns c = rw c.in-All.is (λ d h. sym (all_at d c.args.i (rw (all_count d) at h)))
 
-returns-2 : tie.Need-returns-2
-unfolding axes_of smoothing.axesOf
-returns-2 c = rw c.before.enum-told2.given.1 (λ d h. refl)
+returns-2 : tie.Need-returns-in-Listed
+unfolding axes_of smoothing.axes_of
+returns-2 c = rw c.in-Listed.is (λ d h. refl)
 
-pub axis-at-spec : {M : Type 1} → statement M
-axis-at-spec = tie.close (tie.spec (λ c. search rules) (λ c. search rules) mul-result shared-slice-read-result returns returns-2)
+pub axis_at_spec : {M : Type 1} → statement M
+axis_at_spec = tie.close (tie.spec (λ c. search rules) (λ c. search rules) mul-result shared-slice-read-result returns returns-2)

@@ -14,45 +14,45 @@ use Rattle.checks.proofs.Selected.{count_within, listed_count}
 use Rattle.checks.proofs.choices.chosen.Statement.{statement}
 use Rattle.checks.proofs.choices.chosen.Tie as tie
 
-abbrev invariant-loop : tie.invariant-loop
+abbrev invariant-loop : tie.invariant-loop-i
 invariant-loop axes list d count cells₀ i₀ cells i =
     (i ≤ count) × (count ≤ 16) × (length cells ≡ 16) × (cells ≡ padded (take i (axes_in axes list d)))
 
-abbrev decreases-loop : tie.decreases-loop
+abbrev decreases-loop : tie.decreases-loop-i
 decreases-loop axes list d count cells₀ i₀ cells i = count - i
 
-loop-holds : tie.Need-loop-init invariant-loop decreases-loop
+loop-holds : tie.Need-loop-i-init invariant-loop decreases-loop
 unfolding join
 loop-holds c =
-    let g = c.before.before.args in
-    let p = c.before.before.requires in
-    (omega arith, rw c.count_of.ensures (count_within g.list.now g.d g.axes p.0 p.1), refl, refl)
+    let g = c.args in
+    let p = c.requires in
+    (omega arith, rw c.count_of-count.ensures (count_within g.list.now g.d g.axes p.0 p.1), refl, refl)
 
-axis-at-requires : tie.Need-axis-at-requires invariant-loop decreases-loop
+axis-at-requires : tie.Need-axis_at-requires invariant-loop decreases-loop
 axis-at-requires c κs =
-    let g = c.before.before.before.before.args in
-    λ e. omega (arith, listed_count g.list.now g.d g.axes e, c.before.before.count_of.ensures)
+    let g = c.args in
+    λ e. omega (arith, listed_count g.list.now g.d g.axes e, c.count_of-count.ensures)
 
-loop-again : tie.Need-loop-preserved invariant-loop decreases-loop
+loop-again : tie.Need-loop-i-preserved invariant-loop decreases-loop
 loop-again c =
-    let g = c.before.before.before.before.before.args in
-    let l = c.before.before.loop in
+    let g = c.args in
+    let l = c.loop-i in
     let a = axes_in g.axes g.list.now g.d in
-    let h = rw c.before.before.before.count_of.ensures at c.before.loop-test.true in
-    let x = c.axis-at.result in
-    let e = ap (λ (r : List ℕ). set r l.i x) l.invariant.3 ∙ padded_more a l.i x h (omega arith) (c.axis-at.ensures g.d h) in
+    let h = rw c.count_of-count.ensures at c.loop-i-test.true in
+    let x = c.axis_at.result in
+    let e = ap (λ (r : List ℕ). set r l.i x) l.invariant.3 ∙ padded_more a l.i x h (omega arith) (c.axis_at.ensures g.d h) in
     (omega arith, l.invariant.1, ap length e ∙ padded_length (take (l.i + 1) a), e)
 
 returns : tie.Need-returns invariant-loop decreases-loop
 returns c =
-    let g = c.before.before.before.before.args in
+    let g = c.args in
     let a = axes_in g.axes g.list.now g.d in
-    let n = c.before.before.count_of.ensures in
-    let e : c.before.loop.i ≡ length a = omega arith in
-    (n, (rw e at c.before.loop.invariant.3) ∙ ap padded (take-length a))
+    let n = c.count_of-count.ensures in
+    let e : c.loop-i.i ≡ length a = omega arith in
+    (n, (rw e at c.loop-i.invariant.3) ∙ ap padded (take-length a))
 
-pub chosen-spec : {M : Type 1} → statement M
-chosen-spec =
+pub chosen_spec : {M : Type 1} → statement M
+chosen_spec =
     tie.close
     (tie.spec
     invariant-loop

@@ -7,13 +7,13 @@ use Rattle.checks.proofs.Selected.{all_count}
 use Rattle.checks.proofs.choices.count_of.Statement.{statement}
 use Rattle.checks.proofs.choices.count_of.Tie as tie
 
-returns : tie.Need-returns
-unfolding axes_of smoothing.axesOf
-returns c = rw c.enum_told.given.1 (sym (all_count c.before.before.args.d))
+returns : tie.Need-returns-in-All
+unfolding axes_of smoothing.axes_of
+returns c = rw c.in-All.is (sym (all_count c.args.d))
 
-returns-2 : tie.Need-returns-2
-unfolding axes_of smoothing.axesOf
-returns-2 c = rw c.enum-told2.given.1
+returns-2 : tie.Need-returns-in-Listed
+unfolding axes_of smoothing.axes_of
+returns-2 c = rw c.in-Listed.is
 
-pub count-of-spec : {M : Type 1} → statement M
-count-of-spec = tie.close (tie.spec (λ c. search rules) (λ c. search rules) returns returns-2)
+pub count_of_spec : {M : Type 1} → statement M
+count_of_spec = tie.close (tie.spec (λ c. search rules) (λ c. search rules) returns returns-2)

@@ -14,43 +14,43 @@ use Rattle.checks.proofs.Selected.{left_listed, left_other}
 use Rattle.checks.proofs.choices.left_over.Statement.{statement}
 use Rattle.checks.proofs.choices.left_over.Tie as tie
 
-abbrev invariant-loop : tie.invariant-loop
+abbrev invariant-loop : tie.invariant-loop-a
 invariant-loop k d axes cells₀ count₀ a₀ cells count a =
     (a ≤ d) × (count ≤ a) × (length cells ≡ 16) × (count ≡ length (left_over (take k axes) a)) × (cells ≡ padded (left_over (take k axes) a))
 
-abbrev decreases-loop : tie.decreases-loop
+abbrev decreases-loop : tie.decreases-loop-a
 decreases-loop k d axes cells₀ count₀ a₀ cells count a = d - a
 
-loop-holds : tie.Need-loop-init invariant-loop decreases-loop
+loop-holds : tie.Need-loop-a-init invariant-loop decreases-loop
 unfolding join left_over
 loop-holds c = (omega arith, omega arith, refl, refl, refl)
 
-loop-again : tie.Need-loop-preserved invariant-loop decreases-loop
+loop-again : tie.Need-loop-a-preserved invariant-loop decreases-loop
 loop-again c =
-    let g = c.before.before.before.before.before.args in
-    let l = c.before.before.before.before.loop in
-    let p = c.before.position.ensures in
-    let rest = left_over (take g.k g.t1) l.a in
-    let h : g.k ≤ length g.t1 = omega arith in
+    let g = c.args in
+    let l = c.loop-a in
+    let p = c.position.ensures in
+    let rest = left_over (take g.k g.axes) l.a in
+    let h : g.k ≤ length g.axes = omega arith in
     ⊎_elim
     (λ w.
-    let e = left_other g.t1 g.k l.a h (rw p at w.0.taken) in
+    let e = left_other g.axes g.k l.a h (rw p at w.if-k-position.true) in
     let n = length-append rest (l.a ∷ []) in
     let m : l.count + 1 ≡ length (rest ++ (l.a ∷ [])) = omega arith in
-    let f : c.if1.cells ≡ padded (rest ++ (l.a ∷ [])) = w.1 ∙ rw (l.invariant.4, l.invariant.3) (padded_next rest l.a (omega arith)) in
-    (omega arith, omega arith, ap length f ∙ padded_length (rest ++ (l.a ∷ [])), rw e (w.2 ∙ m), rw e f))
+    let f : c.if-k-position.cells ≡ padded (rest ++ (l.a ∷ [])) = w.cells-is ∙ rw (l.invariant.4, l.invariant.3) (padded_next rest l.a (omega arith)) in
+    (omega arith, omega arith, ap length f ∙ padded_length (rest ++ (l.a ∷ [])), rw e (w.count-is ∙ m), rw e f))
     (λ w.
-    let e = left_listed g.t1 g.k l.a h (rw p at w.0.left) in
-    (omega arith, omega arith, ap length w.1 ∙ l.invariant.2, rw e (w.2 ∙ l.invariant.3), rw e (w.1 ∙ l.invariant.4)))
-    c.if1.branch
+    let e = left_listed g.axes g.k l.a h (rw p at w.if-k-position.false) in
+    (omega arith, omega arith, ap length w.cells-is ∙ l.invariant.2, rw e (w.count-is ∙ l.invariant.3), rw e (w.cells-is ∙ l.invariant.4)))
+    c.if-k-position.branch-raw
 
 returns : tie.Need-returns invariant-loop decreases-loop
 returns c =
-    let e : c.before.loop.a ≡ c.before.before.args.d = omega arith in
-    (rw e at c.before.loop.invariant.3, rw e at c.before.loop.invariant.4)
+    let e : c.loop-a.a ≡ c.args.d = omega arith in
+    (rw e at c.loop-a.invariant.3, rw e at c.loop-a.invariant.4)
 
-pub left-over-spec : {M : Type 1} → statement M
-left-over-spec =
+pub left_over_spec : {M : Type 1} → statement M
+left_over_spec =
     tie.close
     (tie.spec
     invariant-loop

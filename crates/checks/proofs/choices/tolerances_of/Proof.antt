@@ -10,22 +10,21 @@ use Rattle.checks.proofs.choices.tolerances_of.Tie as tie
 
 copied-requires : tie.Need-copied-requires
 copied-requires c κs =
-    let p = c.before.before.before.requires in
-    let e = p.1 c.enum_told.given.1 in
+    let p = c.requires in
+    let e = p.1 c.in-PerAxis.is in
     omega arith
 
-returns : tie.Need-returns
+returns : tie.Need-returns-in-Uniform
 unfolding tolerance_of tolerances_of
 returns c =
-    let s = c.before.before.before.before in
-    rw c.before.tolerance.given.1 (take_replicate s.args.k 16 _ s.requires.0)
+    rw c.in-Uniform.is (take_replicate c.args.k 16 _ c.requires.0)
 
-returns-2 : tie.Need-returns-2
+returns-2 : tie.Need-returns-in-PerAxis
 unfolding tolerance_of tolerances_of
 returns-2 c =
-    let e = c.before.enum_told.given.1 in
-    let n = c.before.before.before.before.requires.1 e in
+    let e = c.in-PerAxis.is in
+    let n = c.requires.1 e in
     rw (e, sym n) c.copied.ensures
 
-pub tolerances-of-spec : {M : Type 1} → statement M
-tolerances-of-spec = tie.close (tie.spec (λ c. search rules) (λ c. search rules) copied-requires returns returns-2)
+pub tolerances_of_spec : {M : Type 1} → statement M
+tolerances_of_spec = tie.close (tie.spec (λ c. search rules) (λ c. search rules) copied-requires returns returns-2)

@@ -19,90 +19,81 @@ rows-small : (n d : ℕ) → n ≤ 20000 → d ≤ 16 → n * (6 * d) ≤ 20000 
 rows-small n d h g =
     let k : 6 * d ≤ 96 = omega arith in mul-le-mul h k
 
-mul-if1-2 : tie.Need-overflow-mul-if1-2
+mul-if1-2 : tie.Need-overflow_mul-e
 mul-if1-2 c =
-    let k : 16 * c.before.args.d + 32 ≤ 288 = omega arith in
-    let e : c.larger.result + 16 ≤ 20016 = omega arith in
+    let k : 16 * c.args.d + 32 ≤ 288 = omega arith in
+    let e : c.larger-e.result + 16 ≤ 20016 = omega arith in
     let m = mul-le-mul e k in
     omega arith
 
-mul-if3-2 : tie.Need-overflow-mul-if3-2
+mul-if3-2 : tie.Need-overflow_mul-segments
 mul-if3-2 c =
-    let s = c.before.before.before in omega (arith, rows-small _ s.args.d s.requires.2 s.requires.0)
+    omega (arith, rows-small _ c.args.d c.requires.2 c.requires.0)
 
-add-if3 : tie.Need-overflow-add-if3
+add-if3 : tie.Need-overflow_add-segments-2
 add-if3 c =
-    let s = c.before.before.before in omega (arith, rows-small _ s.args.d s.requires.2 s.requires.0)
+    omega (arith, rows-small _ c.args.d c.requires.2 c.requires.0)
 
-mul-if5-2 : tie.Need-overflow-mul-if5-2
+mul-if5-2 : tie.Need-overflow_mul-n
 mul-if5-2 c =
-    let s = c.before.before.before.before.before in omega (arith, rows-small _ s.args.d s.requires.1 s.requires.0)
+    omega (arith, rows-small _ c.args.d c.requires.1 c.requires.0)
 
-add-if5 : tie.Need-overflow-add-if5
+add-if5 : tie.Need-overflow_add-n
 add-if5 c =
-    let s = c.before.before.before.before.before in omega (arith, rows-small _ s.args.d s.requires.1 s.requires.0)
+    omega (arith, rows-small _ c.args.d c.requires.1 c.requires.0)
 
-returns : tie.Need-returns
+returns : tie.Need-returns-then-work-e
 unfolding short_room
-returns c = λ l e f. rw (e, f, ← c.before.larger.ensures, lt-ltb _ _ c.if1.true)
+returns c = λ l e f. rw (e, f, ← c.larger-e.ensures, lt-ltb _ _ c.if-work-e.true)
 
-returns-2 : tie.Need-returns-2
+returns-2 : tie.Need-returns-then-breaks-segments
 unfolding short_room
 returns-2 c = λ l e f.
-    let p1 = c.before in
-    rw (e, f, ← p1.before.larger.ensures, le-ltb _ _ p1.if1.false, lt-ltb _ _ c.if2.true)
+    rw (e, f, ← c.larger-e.ensures, le-ltb _ _ c.if-work-e.false, lt-ltb _ _ c.if-breaks-segments.true)
 
-returns-3 : tie.Need-returns-3
+returns-3 : tie.Need-returns-then-coefficients-segments
 unfolding short_room
 returns-3 c = λ l e f.
-    let p2 = c.before in
-    let p1 = p2.before in
-    rw (e, f, ← p1.before.larger.ensures, le-ltb _ _ p1.if1.false, le-ltb _ _ p2.if2.false, lt-ltb _ _ c.if3.true)
+    rw (e, f, ← c.larger-e.ensures, le-ltb _ _ c.if-work-e.false, le-ltb _ _ c.if-breaks-segments.false, lt-ltb _ _ c.if-coefficients-segments.true)
 
-returns-4 : tie.Need-returns-4
+returns-4 : tie.Need-returns-then-other_breaks-n
 unfolding short_room
 returns-4 c = λ l e f.
-    let p3 = c.before in
-    let p2 = p3.before in
-    let p1 = p2.before in
     rw (
       e,
       f,
-      ← p1.before.larger.ensures,
-      le-ltb _ _ p1.if1.false,
-      le-ltb _ _ p2.if2.false,
-      le-ltb _ _ p3.if3.false,
-      lt-ltb _ _ c.if4.true,
+      ← c.larger-e.ensures,
+      le-ltb _ _ c.if-work-e.false,
+      le-ltb _ _ c.if-breaks-segments.false,
+      le-ltb _ _ c.if-coefficients-segments.false,
+      lt-ltb _ _ c.if-other_breaks-n.true,
     )
 
 -- none of the first four lengths is too short
-four : (c : tie.Else4) (l : Lane) → let a = c.before.before.before.before.before.args in l.d ≡ a.d → l.n ≡ a.n
+four : (c : tie.Else-other_breaks-n) (l : Lane) → let a = c.args in l.d ≡ a.d → l.n ≡ a.n
     → short_room (room_of a.work a.breaks a.coefficients a.other_breaks a.other_coefficients a.errors) l
     (limits_of a.limits)
     ≡ (ltb a.other_coefficients (a.n * (6 * a.d) + a.n) || ltb a.errors a.d)
 unfolding short_room
 four c l e f =
-    let p3 = c.before in
-    let p2 = p3.before in
-    let p1 = p2.before in
     rw (
       e,
       f,
-      ← p1.before.larger.ensures,
-      le-ltb _ _ p1.if1.false,
-      le-ltb _ _ p2.if2.false,
-      le-ltb _ _ p3.if3.false,
-      le-ltb _ _ c.if4.false,
+      ← c.larger-e.ensures,
+      le-ltb _ _ c.if-work-e.false,
+      le-ltb _ _ c.if-breaks-segments.false,
+      le-ltb _ _ c.if-coefficients-segments.false,
+      le-ltb _ _ c.if-other_breaks-n.false,
     )
 
-returns-5 : tie.Need-returns-5
-returns-5 c = λ l e f. rw (four c.before l e f, lt-ltb _ _ c.if5.true)
+returns-5 : tie.Need-returns-then-other_coefficients-n
+returns-5 c = λ l e f. rw (four c.before l e f, lt-ltb _ _ c.if-other_coefficients-n.true)
 
-returns-6 : tie.Need-returns-6
-returns-6 c = λ l e f. rw (four c.before l e f, le-ltb _ _ c.if5.false)
+returns-6 : tie.Need-returns
+returns-6 c = λ l e f. rw (four c.before l e f, le-ltb _ _ c.if-other_coefficients-n.false)
 
-pub is-short-spec : {M : Type 1} → statement M
-is-short-spec =
+pub is_short_spec : {M : Type 1} → statement M
+is_short_spec =
     tie.close
     (tie.spec
     (λ c κs. search rules)

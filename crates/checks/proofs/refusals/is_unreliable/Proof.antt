@@ -4,11 +4,11 @@ use borrow.Author.Rules.{rules}
 use Rattle.checks.proofs.refusals.is_unreliable.Statement.{statement}
 use Rattle.checks.proofs.refusals.is_unreliable.Tie as tie
 
-returns : tie.Need-returns
-returns c = rw (sym c.before.before.is_finite.ensures ∙ c.before.if1.true) c.falls.ensures
+returns : tie.Need-returns-then-is_finite
+returns c = rw (sym c.is_finite.ensures ∙ c.if-is_finite.true) c.falls.ensures
 
-returns-2 : tie.Need-returns-2
-returns-2 c = rw (sym c.before.is_finite.ensures ∙ c.if1.false)
+returns-2 : tie.Need-returns
+returns-2 c = rw (sym c.is_finite.ensures ∙ c.if-is_finite.false)
 
-pub is-unreliable-spec : {M : Type 1} → statement M
-is-unreliable-spec = tie.close (tie.spec (λ c κs. search rules) (λ c κs. search rules) returns returns-2)
+pub is_unreliable_spec : {M : Type 1} → statement M
+is_unreliable_spec = tie.close (tie.spec (λ c κs. search rules) (λ c κs. search rules) returns returns-2)

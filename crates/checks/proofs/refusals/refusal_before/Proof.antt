@@ -19,104 +19,83 @@ use Rattle.checks.proofs.refusals.refusal_before.Tie as tie
 -- the lane, where the points were tested
 abbrev lane : tie.After-unfit → Lane
 lane c =
-    let g = c.before.before.before.before.before.args in
+    let g = c.args in
     lane_of g.d g.n g.axes g.list.now g.tolerance g.tolerances.now g.spacing g.parameters.now g.points.now
 
 -- what is known where a test did not hold
-fit : (c : tie.Else1) → let l = lane c.before in unfit l.d l.n l.points ≡ false
-fit c = sym c.before.unfit.ensures ∙ c.if1.false
+fit : (c : tie.Else-unfit) → let l = lane c.before in unfit l.d l.n l.points ≡ false
+fit c = sym c.unfit.ensures ∙ c.if-unfit.false
 
-some : (c : tie.Else2) → no_axes (lane c.before.before.before) ≡ false
+some : (c : tie.Else-k-lt1) → no_axes (lane c.before.before.before) ≡ false
 unfolding no_axes
 some c =
-    let n = c.before.count_of.ensures in
+    let n = c.count_of-k.ensures in
     ne_eqb (axis_count (lane c.before.before.before)) 0 (λ e. absurd (omega arith))
 
-formed : (c : tie.Else3) → bad_axes (lane c.before.before.before.before.before) ≡ false
-formed c = sym (c.before.bad-axes.ensures (lane c.before.before.before.before.before) refl refl) ∙ c.if3.false
+formed : (c : tie.Else-bad_axes) → bad_axes (lane c.before.before.before.before.before) ≡ false
+formed c = sym (c.bad_axes.ensures (lane c.before.before.before.before.before) refl refl) ∙ c.if-bad_axes.false
 
-tolerant : (c : tie.Else4) → bad_tolerance (lane c.before.before.before.before.before.before.before) ≡ false
+tolerant : (c : tie.Else-bad_tolerance) → bad_tolerance (lane c.before.before.before.before.before.before.before) ≡ false
 tolerant c =
-    let k = c.before.before.before.before.before in
-    sym (c.before.bad-tolerance.ensures (lane k.before.before) refl (sym k.count_of.ensures)) ∙ c.if4.false
+    sym (c.bad_tolerance.ensures (lane c.before.before.before.before.before.before.before) refl (sym c.count_of-k.ensures)) ∙ c.if-bad_tolerance.false
 
 -- what 26 is asked of
-too-fine-requires : tie.Need-too-fine-requires
+too-fine-requires : tie.Need-too_fine-requires
 too-fine-requires c κs =
-    let r = c.before.before in
-    let l = lane r.before.before.before.before.before in
-    let s = r.before.before.before.before.before.before.before.before.before.before in (
-      (s.requires.0, s.requires.1, s.requires.2, omega (arith, all_axes l (formed r))),
+    let l = lane c.before.before.before.before.before.before.before in
+    (
+      (c.requires.0, c.requires.1, c.requires.2, omega (arith, all_axes l (formed c.before.before))),
       (
-        λ a h. (good_axes l (formed r) a h).0,
-        λ e. omega (arith, per_axis_count s.args.tolerance s.args.tolerances.now (axis_count l) e, one_each l (tolerant c)),
+        λ a h. (good_axes l (formed c.before.before) a h).0,
+        λ e. omega (arith, per_axis_count c.args.tolerance c.args.tolerances.now (axis_count l) e, one_each l (tolerant c)),
       ),
     )
 
-coarse : (c : tie.Else5) → too_fine (lane c.before.before.before.before.before.before.before.before.before) ≡ false
-coarse c = sym c.before.too_fine.ensures ∙ c.if5.false
+coarse : (c : tie.Else-too_fine) → too_fine (lane c.before.before.before.before.before.before.before.before.before) ≡ false
+coarse c = sym c.too_fine.ensures ∙ c.if-too_fine.false
 
-returns : tie.Need-returns
+returns : tie.Need-returns-then-unfit
 unfolding refusal_before
-returns c = rw (sym c.before.unfit.ensures ∙ c.if1.true)
+returns c = rw (sym c.unfit.ensures ∙ c.if-unfit.true)
 
-returns-2 : tie.Need-returns-2
+returns-2 : tie.Need-returns-then-k-lt1
 unfolding refusal_before no_axes
 returns-2 c =
-    let n = c.before.count_of.ensures in
-    let p = c.before.before in
-    rw (fit p, eq-eqb (axis_count (lane p.before)) 0 (omega arith))
+    let n = c.count_of-k.ensures in
+    rw (fit c.before.before, eq-eqb (axis_count (lane c.before.before.before)) 0 (omega arith))
 
-returns-3 : tie.Need-returns-3
+returns-3 : tie.Need-returns-then-bad_axes
 unfolding refusal_before
 returns-3 c =
-    let q = c.before.before in
-    let p = q.before.before in
-    rw (fit p, some q, sym (c.before.bad-axes.ensures (lane p.before) refl refl) ∙ c.if3.true)
+    rw (fit c.before.before.before.before, some c.before.before, sym (c.bad_axes.ensures (lane c.before.before.before.before.before) refl refl) ∙ c.if-bad_axes.true)
 
-returns-4 : tie.Need-returns-4
+returns-4 : tie.Need-returns-then-bad_tolerance
 unfolding refusal_before
 returns-4 c =
-    let r = c.before.before in
-    let q = r.before.before in
-    let p = q.before.before in
-    let n = sym q.before.count_of.ensures in
-    rw (fit p, some q, formed r, sym (c.before.bad-tolerance.ensures (lane p.before) refl n) ∙ c.if4.true)
+    let n = sym c.count_of-k.ensures in
+    rw (fit c.before.before.before.before.before.before, some c.before.before.before.before, formed c.before.before, sym (c.bad_tolerance.ensures (lane c.before.before.before.before.before.before.before) refl n) ∙ c.if-bad_tolerance.true)
 
-returns-5 : tie.Need-returns-5
+returns-5 : tie.Need-returns-then-too_fine
 unfolding refusal_before
 returns-5 c =
-    let t = c.before.before in
-    let r = t.before.before in
-    let q = r.before.before in
-    rw (fit q.before.before, some q, formed r, tolerant t, sym c.before.too_fine.ensures ∙ c.if5.true)
+    rw (fit c.before.before.before.before.before.before.before.before, some c.before.before.before.before.before.before, formed c.before.before.before.before, tolerant c.before.before, sym c.too_fine.ensures ∙ c.if-too_fine.true)
 
-placed-requires : tie.Need-placed-requires
+placed-requires : tie.Need-placed-placement-requires
 placed-requires c κs =
-    let p = c.before.before.before.before.before.before.before.before in
-    let s = p.before.before.before.before.before.before in
-    (waypoint_count s.args.d s.args.n s.args.points.now (fit p), s.requires.1, s.requires.2)
+    (waypoint_count c.args.d c.args.n c.args.points.now (fit c.before.before.before.before.before.before.before.before), c.requires.1, c.requires.2)
 
-returns-6 : tie.Need-returns-6
+returns-6 : tie.Need-returns-then-placement
 unfolding refusal_before
 returns-6 c =
-    let u = c.before.before in
-    let t = u.before.before in
-    let r = t.before.before in
-    let q = r.before.before in
-    rw (fit q.before.before, some q, formed r, tolerant t, coarse u, sym c.before.placed.ensures.0 ∙ c.if6.true)
+    rw (fit c.before.before.before.before.before.before.before.before.before.before, some c.before.before.before.before.before.before.before.before, formed c.before.before.before.before.before.before, tolerant c.before.before.before.before, coarse c.before.before, sym c.placed-placement.ensures.0 ∙ c.if-placement.true)
 
-returns-7 : tie.Need-returns-7
+returns-7 : tie.Need-returns
 unfolding refusal_before
 returns-7 c =
-    let u = c.before.before in
-    let t = u.before.before in
-    let r = t.before.before in
-    let q = r.before.before in
-    rw (fit q.before.before, some q, formed r, tolerant t, coarse u, sym c.before.placed.ensures.0 ∙ c.if6.false)
+    rw (fit c.before.before.before.before.before.before.before.before.before.before, some c.before.before.before.before.before.before.before.before, formed c.before.before.before.before.before.before, tolerant c.before.before.before.before, coarse c.before.before, sym c.placed-placement.ensures.0 ∙ c.if-placement.false)
 
-pub refusal-before-spec : {M : Type 1} → statement M
-refusal-before-spec =
+pub refusal_before_spec : {M : Type 1} → statement M
+refusal_before_spec =
     tie.close
     (tie.spec
     (λ c κs. search rules)

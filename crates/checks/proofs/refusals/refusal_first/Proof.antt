@@ -20,58 +20,56 @@ use Rattle.checks.proofs.refusals.refusal_first.Statement.{statement}
 use Rattle.checks.proofs.refusals.refusal_first.Tie as tie
 
 -- 18 does not hold
-narrow : (c : tie.Else1) (l : Lane) → let a = c.before.before.args in l.d ≡ a.d → l.n ≡ a.n
+narrow : (c : tie.Else-is_wide) (l : Lane) → let a = c.args in l.d ≡ a.d → l.n ≡ a.n
     → (wide_lane l || wide_limits (limits_of a.limits)) ≡ false
-narrow c l e f = sym (c.before.is_wide.ensures l e f) ∙ c.if1.false
+narrow c l e f = sym (c.is_wide.ensures l e f) ∙ c.if-is_wide.false
 
-domain : (c : tie.Else1) → let a = c.before.before.args in (a.d ≤ 16) × (a.n ≤ 20000) × (a.limits.segments ≤ 20000)
+domain : (c : tie.Else-is_wide) → let a = c.args in (a.d ≤ 16) × (a.n ≤ 20000) × (a.limits.segments ≤ 20000)
 domain c =
-    let a = c.before.before.args in
+    let a = c.args in
     let l = lane_of a.d a.n All [] PerAxis [] Even [] [] in
     let d = in_domain l (limits_of a.limits) (narrow c l refl refl) in
     (d.0, d.1, d.2)
 
-returns : tie.Need-returns
+returns : tie.Need-returns-then-is_wide
 unfolding refusal_first
-returns c = λ l e f g. rw (sym (c.before.is_wide.ensures l e f) ∙ c.if1.true)
+returns c = λ l e f g. rw (sym (c.is_wide.ensures l e f) ∙ c.if-is_wide.true)
 
-mul-if2 : tie.Need-overflow-mul-if2
+mul-if2 : tie.Need-overflow_mul-d
 mul-if2 c =
     let d = domain c in
-    let h : c.before.before.args.d * c.before.before.args.n ≤ 16 * 20000 = mul-le-mul d.0 d.1 in
+    let h : c.args.d * c.args.n ≤ 16 * 20000 = mul-le-mul d.0 d.1 in
     omega (arith, h)
 
-returns-2 : tie.Need-returns-2
+returns-2 : tie.Need-returns-then-points-d
 unfolding refusal_first miscounted_points
 returns-2 c = λ l e f g.
-    let a = c.before.before.before.args in
-    rw (narrow c.before l e f, g, e, f, ne_eqb a.points (a.d * a.n) c.if2.true)
+    let a = c.args in
+    rw (narrow c.before l e f, g, e, f, ne_eqb a.points (a.d * a.n) c.if-points-d.true)
 
-is-short-requires : tie.Need-is-short-requires
+is-short-requires : tie.Need-is_short-requires
 is-short-requires c κs = domain c.before
 
 -- nor does 20
-counted : (c : tie.Else2) (l : Lane) → let a = c.before.before.before.args in l.d ≡ a.d → l.n ≡ a.n → length l.points ≡ a.points
+counted : (c : tie.Else-points-d) (l : Lane) → let a = c.args in l.d ≡ a.d → l.n ≡ a.n → length l.points ≡ a.points
     → miscounted_points l ≡ false
 unfolding miscounted_points
 counted c l e f g =
-    let a = c.before.before.before.args in
-    rw (g, e, f, eq-eqb a.points (a.d * a.n) (omega (arith, c.if2.false)))
+    let a = c.args in
+    rw (g, e, f, eq-eqb a.points (a.d * a.n) (omega (arith, c.if-points-d.false)))
 
-returns-3 : tie.Need-returns-3
+returns-3 : tie.Need-returns-then-is_short
 unfolding refusal_first
 returns-3 c = λ l e f g.
-    let t = c.before.before in
-    rw (narrow t.before l e f, counted t l e f g, sym (c.before.is-short.ensures l e f) ∙ c.if3.true)
+    rw (narrow c.before.before.before l e f, counted c.before.before l e f g, sym (c.is_short.ensures l e f) ∙ c.if-is_short.true)
 
-returns-4 : tie.Need-returns-4
+returns-4 : tie.Need-returns
 unfolding refusal_first
 returns-4 c = λ l e f g.
-    let t = c.before.before in
-    rw (narrow t.before l e f, counted t l e f g, sym (c.before.is-short.ensures l e f) ∙ c.if3.false)
+    rw (narrow c.before.before.before l e f, counted c.before.before l e f g, sym (c.is_short.ensures l e f) ∙ c.if-is_short.false)
 
-pub refusal-first-spec : {M : Type 1} → statement M
-refusal-first-spec =
+pub refusal_first_spec : {M : Type 1} → statement M
+refusal_first_spec =
     tie.close
     (tie.spec
     (λ c κs. search rules)

@@ -16,5 +16,5 @@ returns c = λ f h. (
   rw (h.0, h.1, h.2, h.3, h.4, h.5) refl,
 )
 
-pub bernstein-spec : {M : Type 1} → statement M
-bernstein-spec = tie.close (tie.spec returns)
+pub bernstein_spec : {M : Type 1} → statement M
+bernstein_spec = tie.close (tie.spec returns)

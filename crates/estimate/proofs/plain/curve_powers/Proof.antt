@@ -10,7 +10,7 @@ returns : tie.Need-returns
 unfolding power total raised of_bits round
 returns c = (refl, refl, refl, refl, refl, refl)
 
-pub curve-powers-spec : {M : Type 1} → statement M
-curve-powers-spec =
+pub curve_powers_spec : {M : Type 1} → statement M
+curve_powers_spec =
     tie.close (tie.spec (λ c. search rules) (λ c. search rules) (λ c. search rules) (λ c. search rules) (λ c. search rules) (λ c. search
     rules) returns)

@@ -5,7 +5,7 @@ use Rattle.estimate.proofs.plain.larger.Statement.{statement}
 use Rattle.estimate.proofs.plain.larger.Tie as tie
 
 returns : tie.Need-returns
-returns c = rw (c.higher2.ensures, c.before.higher.ensures) refl
+returns c = rw (c.higher-2.ensures, c.higher.ensures) refl
 
-pub larger-spec : {M : Type 1} → statement M
-larger-spec = tie.close (tie.spec (λ c κs. search rules) (λ c κs. search rules) returns)
+pub larger_spec : {M : Type 1} → statement M
+larger_spec = tie.close (tie.spec (λ c κs. search rules) (λ c κs. search rules) returns)

@@ -6,15 +6,15 @@ use Rattle.estimate.proofs.plain.largest.Tie as tie
 
 returns : tie.Need-returns
 returns c = rw (
-  c.larger5.ensures,
-  c.before.larger4.ensures,
-  c.before.before.larger3.ensures,
-  c.before.before.before.larger2.ensures,
-  c.before.before.before.before.larger.ensures,
-  c.before.before.before.before.before.higher.ensures,
+  c.larger.ensures,
+  c.larger-fifth.ensures,
+  c.larger-fourth.ensures,
+  c.larger-third.ensures,
+  c.larger-second.ensures,
+  c.higher-first.ensures,
 ) refl
 
-pub largest-spec : {M : Type 1} → statement M
-largest-spec =
+pub largest_spec : {M : Type 1} → statement M
+largest_spec =
     tie.close (tie.spec (λ c κs. search rules) (λ c κs. search rules) (λ c κs. search rules) (λ c κs. search rules) (λ c κs. search rules)
     (λ c κs. search rules) returns)

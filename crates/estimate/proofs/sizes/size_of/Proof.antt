@@ -6,18 +6,18 @@ use Rattle.estimate.proofs.sizes.size_of.Tie as tie
 
 returns : tie.Need-returns
 returns c = rw (
-  c.larger8.ensures,
-  c.before.larger7.ensures,
-  c.before.before.larger6.ensures,
-  c.before.before.before.larger5.ensures,
-  c.before.before.before.before.larger4.ensures,
-  c.before.before.before.before.before.larger3.ensures,
-  c.before.before.before.before.before.before.larger2.ensures,
-  c.before.before.before.before.before.before.before.larger.ensures,
+  c.larger.ensures,
+  c.larger-m6.ensures,
+  c.larger-m5.ensures,
+  c.larger-m4.ensures,
+  c.larger-m3.ensures,
+  c.larger-m2.ensures,
+  c.larger-m1.ensures,
+  c.larger-m0.ensures,
 ) refl
 
-pub size-of-spec : {M : Type 1} → statement M
-size-of-spec =
+pub size_of_spec : {M : Type 1} → statement M
+size_of_spec =
     tie.close (tie.spec (λ c κs. search rules) (λ c κs. search rules) (λ c. search rules) (λ c κs. search rules) (λ c. search rules) (λ c
     κs. search rules) (λ c. search rules) (λ c κs. search rules) (λ c. search rules) (λ c κs. search rules) (λ c. search rules) (λ c
     κs. search rules) (λ c. search rules) (λ c κs. search rules) returns)

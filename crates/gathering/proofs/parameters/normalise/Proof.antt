@@ -16,49 +16,47 @@ use Rattle.gathering.proofs.Normalising.{read_next}
 use Rattle.gathering.proofs.parameters.normalise.Statement.{statement}
 use Rattle.gathering.proofs.parameters.normalise.Tie as tie
 
-abbrev invariant-loop : tie.invariant-loop
+abbrev invariant-loop : tie.invariant-loop-i
 invariant-loop cells₀ n start range i₀ cells i = (i ≤ n) × Put true 0 i (normalised_of cells₀ n) cells₀ cells
 
-abbrev decreases-loop : tie.decreases-loop
+abbrev decreases-loop : tie.decreases-loop-i
 decreases-loop cells₀ n start range i₀ cells i = n - i
 
 -- the parameters
 abbrev p : tie.Start invariant-loop decreases-loop → List Float
 p s = s.args.cells.now
 
-loop-holds : tie.Need-loop-init invariant-loop decreases-loop
+loop-holds : tie.Need-loop-i-init invariant-loop decreases-loop
 unfolding join
 loop-holds c = (omega arith, (refl, put_none true 0 (p c.before.before)))
 
-loop-again : tie.Need-loop-preserved invariant-loop decreases-loop
+loop-again : tie.Need-loop-i-preserved invariant-loop decreases-loop
 unfolding normalised_of length_of
 loop-again c =
-    let s = c.before.before.before.before.before in
-    let l = c.before.before.loop in
-    let n = length (p s) in
-    let f = normalised_of (p s) n in
-    let whole = sub binary64 (at (p s) (n - 1)) (at (p s) 0) in
-    let x = div binary64 (sub binary64 (at l.cells l.i) (at (p s) 0)) whole in
-    let read : at l.cells l.i ≡ at (p s) l.i = ap (λ (v : List Float). at v l.i) l.invariant.1.1
-    ∙ read_next l.i f (p s) (omega arith) in
+    let l = c.loop-i in
+    let n = length (p c.before.before.before.before.before) in
+    let f = normalised_of (p c.before.before.before.before.before) n in
+    let whole = sub binary64 (at (p c.before.before.before.before.before) (n - 1)) (at (p c.before.before.before.before.before) 0) in
+    let x = div binary64 (sub binary64 (at l.cells l.i) (at (p c.before.before.before.before.before) 0)) whole in
+    let read : at l.cells l.i ≡ at (p c.before.before.before.before.before) l.i = ap (λ (v : List Float). at v l.i) l.invariant.1.1
+    ∙ read_next l.i f (p c.before.before.before.before.before) (omega arith) in
     let e : 0 + l.i ≡ l.i = omega arith in (
       omega arith,
-      put_step true 0 l.i n f (p s) l.cells (set l.cells l.i x) x
-          c.before.loop-test.true (λ b. omega arith) l.invariant.1.1 (rw e)
-          (λ j. div binary64 (sub binary64 (read j) (at (p s) 0)) whole),
+      put_step true 0 l.i n f (p c.before.before.before.before.before) l.cells (set l.cells l.i x) x
+          c.loop-i-test.true (λ b. omega arith) l.invariant.1.1 (rw e)
+          (λ j. div binary64 (sub binary64 (read j) (at (p c.before.before.before.before.before) 0)) whole),
     )
 
 returns : tie.Need-returns invariant-loop decreases-loop
 unfolding length_of
 returns c =
-    let s = c.before.before.before.before in
-    let n = length (p s) in
-    let f = normalised_of (p s) n in
-    let e : c.before.loop.i ≡ n = omega arith in
-    (refl, (rw e at c.before.loop.invariant.1.1) ∙ written_all (list_of n f) (p s) (list_length n f))
+    let n = length (p c.before.before.before.before) in
+    let f = normalised_of (p c.before.before.before.before) n in
+    let e : c.loop-i.i ≡ n = omega arith in
+    (refl, (rw e at c.loop-i.invariant.1.1) ∙ written_all (list_of n f) (p c.before.before.before.before) (list_length n f))
 
-pub normalise-spec : {M : Type 1} → statement M
-normalise-spec =
+pub normalise_spec : {M : Type 1} → statement M
+normalise_spec =
     tie.close
     (tie.spec
     invariant-loop

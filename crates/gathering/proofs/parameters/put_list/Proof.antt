@@ -22,7 +22,7 @@ use Rattle.gathering.proofs.parameters.put_list.Tie as tie
 abbrev Begun : List Float → (ℕ → Float) → List Float → Type 0
 Begun old f cells = (length cells ≡ length old) × (cells ≡ put_at true 0 (list_of (0 + 1) f) old)
 
-abbrev invariant-loop : tie.invariant-loop
+abbrev invariant-loop : tie.invariant-loop-i
 invariant-loop cells₀ spacing list points d n current₀ i₀ cells current i =
     let p = parameter_list spacing list points d n in
     (i ≤ n - 1)
@@ -30,7 +30,7 @@ invariant-loop cells₀ spacing list points d n current₀ i₀ cells current i 
     × (length cells ≡ n)
     × ((old : List Float) → length old ≡ n → Begun old (at p) cells₀ → Put true 0 (i + 1) (at p) old cells)
 
-abbrev decreases-loop : tie.decreases-loop
+abbrev decreases-loop : tie.decreases-loop-i
 decreases-loop cells₀ spacing list points d n current₀ i₀ cells current i = n - i
 
 -- the parameters, and how many
@@ -41,49 +41,43 @@ abbrev p : tie.Start invariant-loop decreases-loop → List Float
 p s = let a = s.args in parameter_list a.spacing a.list.now a.points.now a.d (n s)
 
 -- the first cell is written
-begun : (c : tie.After-first invariant-loop decreases-loop) → let s = c.before.before.before.before in
-    Begun s.args.cells.now (at (p s)) (set s.args.cells.now 0 c.first.result)
+begun : (c : tie.After-first-current invariant-loop decreases-loop) → Begun c.args.cells.now (at (p c.before.before.before.before)) (set c.args.cells.now 0 c.first-current.result)
 unfolding join
 begun c =
-    let s = c.before.before.before.before in
-    let l = s.args.cells.now in
-    put_step true 0 0 (n s) (at (p s)) l l (set l 0 c.first.result) c.first.result (omega arith) (λ b. omega arith)
-    (put_none true 0 l) refl (c.first.ensures s.args.points.now s.args.d)
+    let l = c.args.cells.now in
+    put_step true 0 0 (n c.before.before.before.before) (at (p c.before.before.before.before)) l l (set l 0 c.first-current.result) c.first-current.result (omega arith) (λ b. omega arith)
+    (put_none true 0 l) refl (c.first-current.ensures c.args.points.now c.args.d)
 
-loop-holds : tie.Need-loop-init invariant-loop decreases-loop
+loop-holds : tie.Need-loop-i-init invariant-loop decreases-loop
 loop-holds c =
-    let s = c.before.before.before.before in
-    (omega arith, c.first.ensures s.args.points.now s.args.d, (begun c).0, λ old l b. b)
+    (omega arith, c.first-current.ensures c.args.points.now c.args.d, (begun c).0, λ old l b. b)
 
-following-requires : tie.Need-following-requires invariant-loop decreases-loop
+following-requires : tie.Need-following-current-requires invariant-loop decreases-loop
 following-requires c κs =
-    let s = c.before.before.before.before.before.before in
-    ((omega arith, omega arith, omega arith, s.requires.3), c.before.loop.invariant.1)
+    ((omega arith, omega arith, omega arith, c.requires.3), c.loop-i.invariant.1)
 
-loop-again : tie.Need-loop-preserved invariant-loop decreases-loop
+loop-again : tie.Need-loop-i-preserved invariant-loop decreases-loop
 loop-again c =
-    let s = c.before.before.before.before.before.before.before in
-    let l = c.before.before.loop in
-    let x = c.following.result in
+    let l = c.loop-i in
+    let x = c.following-current.result in
     let e : 0 + (l.i + 1) ≡ l.i + 1 = omega arith in
-    let step : (old : List Float) → length old ≡ n s → Put true 0 (l.i + 1) (at (p s)) old l.cells
-    → Put true 0 (l.i + 1 + 1) (at (p s)) old (set l.cells (l.i + 1) x) =
-    λ old k b. put_step true 0 (l.i + 1) (n s) (at (p s)) old l.cells (set l.cells (l.i + 1) x) x (omega arith) (λ t. omega arith)
-    b.1 (rw e) c.following.ensures in
+    let step : (old : List Float) → length old ≡ n c.before.before.before.before.before.before.before → Put true 0 (l.i + 1) (at (p c.before.before.before.before.before.before.before)) old l.cells
+    → Put true 0 (l.i + 1 + 1) (at (p c.before.before.before.before.before.before.before)) old (set l.cells (l.i + 1) x) =
+    λ old k b. put_step true 0 (l.i + 1) (n c.before.before.before.before.before.before.before) (at (p c.before.before.before.before.before.before.before)) old l.cells (set l.cells (l.i + 1) x) x (omega arith) (λ t. omega arith)
+    b.1 (rw e) c.following-current.ensures in
     let first = begun c.before.before.before in
-    let last = step s.args.cells.now refl (l.invariant.3 s.args.cells.now refl first) in
-    (omega arith, c.following.ensures, last.0, λ old k b. step old k (l.invariant.3 old k b))
+    let last = step c.args.cells.now refl (l.invariant.3 c.args.cells.now refl first) in
+    (omega arith, c.following-current.ensures, last.0, λ old k b. step old k (l.invariant.3 old k b))
 
 returns : tie.Need-returns invariant-loop decreases-loop
 returns c =
-    let s = c.before.before.before.before.before.before in
-    let l = c.before.loop in
-    let e : l.i + 1 ≡ n s = omega arith in
-    let all = (l.invariant.3 s.args.cells.now refl (begun c.before.before)).1 in
-    (rw e at all) ∙ written_all (list_of (n s) (at (p s))) s.args.cells.now (list_length (n s) (at (p s)))
+    let l = c.loop-i in
+    let e : l.i + 1 ≡ n c.before.before.before.before.before.before = omega arith in
+    let all = (l.invariant.3 c.args.cells.now refl (begun c.before.before)).1 in
+    (rw e at all) ∙ written_all (list_of (n c.before.before.before.before.before.before) (at (p c.before.before.before.before.before.before))) c.args.cells.now (list_length (n c.before.before.before.before.before.before) (at (p c.before.before.before.before.before.before)))
 
-pub put-list-spec : {M : Type 1} → statement M
-put-list-spec =
+pub put_list_spec : {M : Type 1} → statement M
+put_list_spec =
     tie.close
     (tie.spec
     invariant-loop

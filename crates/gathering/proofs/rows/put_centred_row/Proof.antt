@@ -9,47 +9,47 @@ use Rattle.gathering.specs.Rows.{centred_cell}
 use Rattle.gathering.proofs.rows.put_centred_row.Statement.{statement}
 use Rattle.gathering.proofs.rows.put_centred_row.Tie as tie
 
-abbrev invariant-loop : tie.invariant-loop
+abbrev invariant-loop : tie.invariant-loop-a
 invariant-loop cells₀ to points from d axes k eps a₀ cells a = (a ≤ k) × Put true to a (centred_cell points axes eps from) cells₀ cells
 
-abbrev decreases-loop : tie.decreases-loop
+abbrev decreases-loop : tie.decreases-loop-a
 decreases-loop cells₀ to points from d axes k eps a₀ cells a = k - a
 
-loop-holds : tie.Need-loop-init invariant-loop decreases-loop
+loop-holds : tie.Need-loop-a-init invariant-loop decreases-loop
 unfolding join
 loop-holds c = (omega arith, (refl, put_none true c.args.to c.args.cells.now))
 
-add-cells : tie.Need-overflow-add-cells invariant-loop decreases-loop
-add-cells c = omega (arith, c.before.before.before.requires.4 _ c.before.loop-test.true)
+add-cells : tie.Need-overflow_add-cells invariant-loop decreases-loop
+add-cells c = omega (arith, c.requires.4 _ c.loop-a-test.true)
 
-mul-cells : tie.Need-overflow-mul-cells invariant-loop decreases-loop
-mul-cells c = omega (arith, c.before.before.before.requires.4 _ c.before.loop-test.true)
+mul-cells : tie.Need-offset_bounds-points-from invariant-loop decreases-loop
+mul-cells c = omega (arith, c.requires.4 _ c.loop-a-test.true)
 
-shared-slice-read-cells : tie.Need-shared-slice-read-cells invariant-loop decreases-loop
-shared-slice-read-cells c = omega (arith, c.before.before.before.before.requires.4 _ c.before.before.loop-test.true)
+shared-slice-read-cells : tie.Need-bounds-points-from invariant-loop decreases-loop
+shared-slice-read-cells c = omega (arith, c.requires.4 _ c.loop-a-test.true)
 
-mul-cells-2 : tie.Need-overflow-mul-cells-2 invariant-loop decreases-loop
-mul-cells-2 c = omega (arith, c.before.before.before.before.requires.4 _ c.before.before.loop-test.true)
+mul-cells-2 : tie.Need-offset_bounds-points-row invariant-loop decreases-loop
+mul-cells-2 c = omega (arith, c.requires.4 _ c.loop-a-test.true)
 
-shared-slice-read-cells-2 : tie.Need-shared-slice-read-cells-2 invariant-loop decreases-loop
+shared-slice-read-cells-2 : tie.Need-bounds-points-row invariant-loop decreases-loop
 shared-slice-read-cells-2 c =
-    let l = c.before.before.before in omega (arith, l.before.before.requires.4 _ l.loop-test.true)
+    omega (arith, c.requires.4 _ c.loop-a-test.true)
 
-loop-again : tie.Need-loop-preserved invariant-loop decreases-loop
+loop-again : tie.Need-loop-a-preserved invariant-loop decreases-loop
 loop-again c =
-    let g = c.before.before.before.before.before.before.args in
-    let l = c.before.before.before.before.before.loop in
+    let g = c.args in
+    let l = c.loop-a in
     let f = centred_cell g.points.now g.axes.now g.eps.now g.from in
-    let h = c.before.before.before.before.loop-test.true in
+    let h = c.loop-a-test.true in
     (omega arith, put_step true g.to l.a g.k f g.cells.now l.cells _ _ h (λ b. omega arith) l.invariant.1.1 refl refl)
 
 returns : tie.Need-returns invariant-loop decreases-loop
 returns c =
-    let e : c.before.loop.a ≡ c.before.before.args.k = omega arith in
-    rw e at c.before.loop.invariant.1.1
+    let e : c.loop-a.a ≡ c.args.k = omega arith in
+    rw e at c.loop-a.invariant.1.1
 
-pub put-centred-row-spec : {M : Type 1} → statement M
-put-centred-row-spec =
+pub put_centred_row_spec : {M : Type 1} → statement M
+put_centred_row_spec =
     tie.close
     (tie.spec
     invariant-loop

@@ -14,53 +14,53 @@ use Rattle.gathering.proofs.Gathered.{rows_written, gathered_rows}
 use Rattle.gathering.proofs.rows.put_each.Statement.{statement}
 use Rattle.gathering.proofs.rows.put_each.Tie as tie
 
-abbrev invariant-loop : tie.invariant-loop
+abbrev invariant-loop : tie.invariant-loop-i
 invariant-loop cells₀ points d n axes k i₀ cells i = (i ≤ n) × Rows true i (λ j. list_of k (cell_of points axes (j * d))) cells₀ cells
 
-abbrev decreases-loop : tie.decreases-loop
+abbrev decreases-loop : tie.decreases-loop-i
 decreases-loop cells₀ points d n axes k i₀ cells i = n - i
 
-loop-holds : tie.Need-loop-init invariant-loop decreases-loop
+loop-holds : tie.Need-loop-i-init invariant-loop decreases-loop
 unfolding join
-loop-holds c = (omega arith, (refl, put_none true 0 c.before.before.before.args.cells.now))
+loop-holds c = (omega arith, (refl, put_none true 0 c.args.cells.now))
 
 -- row i lies within the cells
-row_within : (c : tie.After-put-row-arg invariant-loop decreases-loop) → let g = c.before.before.before.before.before.before.args in
-    let i = c.before.before.loop.i in (i * g.k + g.k ≤ length g.cells.now) × (i * g.d + g.d ≤ length g.points.now)
+row_within : (c : tie.After-put_row-arg-1 invariant-loop decreases-loop) → let g = c.args in
+    let i = c.loop-i.i in (i * g.k + g.k ≤ length g.cells.now) × (i * g.d + g.d ≤ length g.points.now)
 row_within c =
-    let g = c.before.before.before.before.before.before.args in
-    let p = c.before.before.before.before.before.before.requires in
-    let h = c.before.loop-test.true in
-    let i = c.before.before.loop.i in
+    let g = c.args in
+    let p = c.requires in
+    let h = c.loop-i-test.true in
+    let i = c.loop-i.i in
     (row_end i g.n g.k (length g.cells.now) h (omega arith), row_end i g.n g.d (length g.points.now) h p.1)
 
-put-row-requires : tie.Need-put-row-requires invariant-loop decreases-loop
+put-row-requires : tie.Need-put_row-requires invariant-loop decreases-loop
 put-row-requires c κs =
-    let p = c.before.before.before.before.before.before.requires in
+    let p = c.requires in
     (omega (arith, (row_within c).0), (row_within c).1, p.2, p.3)
 
-loop-again : tie.Need-loop-preserved invariant-loop decreases-loop
+loop-again : tie.Need-loop-i-preserved invariant-loop decreases-loop
 loop-again c =
-    let g = c.before.before.before.before.before.before.before.before.before.args in
-    let l = c.before.before.before.before.before.loop in
-    let h = c.before.before.before.before.loop-test.true in
+    let g = c.args in
+    let l = c.loop-i in
+    let h = c.loop-i-test.true in
     let f : ℕ → ℕ → Float = λ j. cell_of g.points.now g.axes.now (j * g.d) in (
       omega arith,
       put_rows true g.k l.i g.n (λ j. list_of g.k (f j)) g.cells.now l.cells _
-          (λ j. list_length g.k (f j)) h (λ b. omega arith) l.invariant.1.1 c.before.before.put-row.ensures,
+          (λ j. list_length g.k (f j)) h (λ b. omega arith) l.invariant.1.1 c.put_row.ensures,
     )
 
 returns : tie.Need-returns invariant-loop decreases-loop
 returns c =
-    let g = c.before.before.before.before.before.args in
-    let p = c.before.before.before.before.before.requires in
-    let e : c.before.loop.i ≡ g.n = omega arith in
+    let g = c.args in
+    let p = c.requires in
+    let e : c.loop-i.i ≡ g.n = omega arith in
     rows_written g.n g.k (λ i. cell_of g.points.now g.axes.now (i * g.d))
-    g.cells.now p.0 (rw e at c.before.loop.invariant.1.1)
+    g.cells.now p.0 (rw e at c.loop-i.invariant.1.1)
     ∙ gathered_rows g.points.now g.d g.n g.axes.now g.k p.2
 
-pub put-each-spec : {M : Type 1} → statement M
-put-each-spec =
+pub put_each_spec : {M : Type 1} → statement M
+put_each_spec =
     tie.close
     (tie.spec
     invariant-loop

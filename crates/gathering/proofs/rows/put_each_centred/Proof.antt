@@ -14,53 +14,53 @@ use Rattle.gathering.proofs.Gathered.{rows_written, centred_rows}
 use Rattle.gathering.proofs.rows.put_each_centred.Statement.{statement}
 use Rattle.gathering.proofs.rows.put_each_centred.Tie as tie
 
-abbrev invariant-loop : tie.invariant-loop
+abbrev invariant-loop : tie.invariant-loop-i
 invariant-loop cells₀ points d n axes k eps i₀ cells i = (i ≤ n) × Rows true i (λ j. list_of k (centred_cell points axes eps (j * d))) cells₀ cells
 
-abbrev decreases-loop : tie.decreases-loop
+abbrev decreases-loop : tie.decreases-loop-i
 decreases-loop cells₀ points d n axes k eps i₀ cells i = n - i
 
-loop-holds : tie.Need-loop-init invariant-loop decreases-loop
+loop-holds : tie.Need-loop-i-init invariant-loop decreases-loop
 unfolding join
-loop-holds c = (omega arith, (refl, put_none true 0 c.before.before.before.args.cells.now))
+loop-holds c = (omega arith, (refl, put_none true 0 c.args.cells.now))
 
 -- row i lies within the cells
-row_within : (c : tie.After-put-centred-row-arg invariant-loop decreases-loop) → let g = c.before.before.before.before.before.before.args in
-    let i = c.before.before.loop.i in (i * g.k + g.k ≤ length g.cells.now) × (i * g.d + g.d ≤ length g.points.now)
+row_within : (c : tie.After-put_centred_row-arg-1 invariant-loop decreases-loop) → let g = c.args in
+    let i = c.loop-i.i in (i * g.k + g.k ≤ length g.cells.now) × (i * g.d + g.d ≤ length g.points.now)
 row_within c =
-    let g = c.before.before.before.before.before.before.args in
-    let p = c.before.before.before.before.before.before.requires in
-    let h = c.before.loop-test.true in
-    let i = c.before.before.loop.i in
+    let g = c.args in
+    let p = c.requires in
+    let h = c.loop-i-test.true in
+    let i = c.loop-i.i in
     (row_end i g.n g.k (length g.cells.now) h (omega arith), row_end i g.n g.d (length g.points.now) h p.2)
 
-put-centred-row-requires : tie.Need-put-centred-row-requires invariant-loop decreases-loop
+put-centred-row-requires : tie.Need-put_centred_row-requires invariant-loop decreases-loop
 put-centred-row-requires c κs =
-    let p = c.before.before.before.before.before.before.requires in
+    let p = c.requires in
     (p.0, omega (arith, (row_within c).0), (row_within c).1, p.3, p.4)
 
-loop-again : tie.Need-loop-preserved invariant-loop decreases-loop
+loop-again : tie.Need-loop-i-preserved invariant-loop decreases-loop
 loop-again c =
-    let g = c.before.before.before.before.before.before.before.before.before.args in
-    let l = c.before.before.before.before.before.loop in
-    let h = c.before.before.before.before.loop-test.true in
+    let g = c.args in
+    let l = c.loop-i in
+    let h = c.loop-i-test.true in
     let f : ℕ → ℕ → Float = λ j. centred_cell g.points.now g.axes.now g.eps.now (j * g.d) in (
       omega arith,
       put_rows true g.k l.i g.n (λ j. list_of g.k (f j)) g.cells.now l.cells _
-          (λ j. list_length g.k (f j)) h (λ b. omega arith) l.invariant.1.1 c.before.before.put-centred-row.ensures,
+          (λ j. list_length g.k (f j)) h (λ b. omega arith) l.invariant.1.1 c.put_centred_row.ensures,
     )
 
 returns : tie.Need-returns invariant-loop decreases-loop
 returns c =
-    let g = c.before.before.before.before.before.args in
-    let p = c.before.before.before.before.before.requires in
-    let e : c.before.loop.i ≡ g.n = omega arith in
+    let g = c.args in
+    let p = c.requires in
+    let e : c.loop-i.i ≡ g.n = omega arith in
     rows_written g.n g.k (λ i. centred_cell g.points.now g.axes.now g.eps.now (i * g.d))
-    g.cells.now p.1 (rw e at c.before.loop.invariant.1.1)
+    g.cells.now p.1 (rw e at c.loop-i.invariant.1.1)
     ∙ centred_rows g.points.now g.d g.n g.axes.now g.k p.3 g.eps.now p.5
 
-pub put-each-centred-spec : {M : Type 1} → statement M
-put-each-centred-spec =
+pub put_each_centred_spec : {M : Type 1} → statement M
+put_each_centred_spec =
     tie.close
     (tie.spec
     invariant-loop

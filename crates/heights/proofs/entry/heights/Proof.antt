@@ -19,74 +19,64 @@ abbrev start : tie.After-well-formed → tie.Start
 start c = c.before.before.before.before.before
 
 -- the curve is well formed
-good : (c : tie.Else1) → well_formed (start c.before).args.curve (four (start c.before)) ≡ true
-good c = sym c.before.well-formed-2.ensures ∙ not-false _ c.if1.false
+good : (c : tie.Else-not-well_formed) → well_formed (start c.before).args.curve (four (start c.before)) ≡ true
+good c = sym c.well-formed-2.ensures ∙ not-false _ c.if-not-well_formed.false-raw
 
-few : (c : tie.Else1) → (start c.before).args.curve.d ≤ 16
+few : (c : tie.Else-not-well_formed) → (start c.before).args.curve.d ≤ 16
 few c = (formed (start c.before).args.curve (four (start c.before)) (good c)).d_high
 
-returns : tie.Need-returns
+returns : tie.Need-returns-then-not-well_formed
 returns c =
     let s = start c.before in
     answered s.args.curve (four s) s.args.axis _ s.args.out.now
-    (malformed s.args.curve (four s) s.args.axis s.args.out.now (sym c.before.well-formed-2.ensures
-    ∙ not-true _ c.if1.true))
+    (malformed s.args.curve (four s) s.args.axis s.args.out.now (sym c.well-formed-2.ensures
+    ∙ not-true _ c.if-not-well_formed.true-raw))
 
-returns-2 : tie.Need-returns-2
+returns-2 : tie.Need-returns-then-d-axis
 returns-2 c =
     let s = start c.before.before in
     answered s.args.curve (four s) s.args.axis _ s.args.out.now
-    (no_such_axis s.args.curve (four s) s.args.axis s.args.out.now (good c.before) c.if2.true)
+    (no_such_axis s.args.curve (four s) s.args.axis s.args.out.now (good c.before) c.if-d-axis.true)
 
-axis-place-requires : tie.Need-axis-place-requires
+axis-place-requires : tie.Need-axis_place-at-requires
 axis-place-requires c κs =
-    let e = c.before.before in
-    let s = start e.before.before in
-    let k = (formed s.args.curve (four s) (good e.before)).k_high in
-    (omega (arith, k, few e.before), omega (arith, e.if2.false, few e.before))
+    let s = start c.before.before.before.before in
+    let k = (formed s.args.curve (four s) (good c.before.before.before)).k_high in
+    (omega (arith, k, few c.before.before.before), omega (arith, c.if-d-axis.false, few c.before.before.before))
 
-in-set-requires : tie.Need-in-set-requires
+in-set-requires : tie.Need-in_set-requires
 in-set-requires c κs =
-    let t = c.before in
-    let e = t.before.before.before.before in
-    let s = start e.before.before in
-    selected_sized s.args.curve (four s) s.args.axis (good e.before) e.if2.false t.before.axis-place.result
-    t.before.axis-place.ensures t.if3.true
+    let s = start c.before.before.before.before.before.before.before in
+    selected_sized s.args.curve (four s) s.args.axis (good c.before.before.before.before.before.before) c.if-d-axis.false c.axis_place-at.result
+    c.axis_place-at.ensures c.if-at-k.true
 
-returns-3 : tie.Need-returns-3
+returns-3 : tie.Need-returns-then-at-k
 returns-3 c =
-    let t = c.before.before.before in
-    let e = t.before.before.before.before in
-    let s = start e.before.before in
+    let s = start c.before.before.before.before.before.before.before.before.before in
     answered s.args.curve (four s) s.args.axis _ s.args.out.now
-    (selected_answer s.args.curve (four s) s.args.axis (good e.before) e.if2.false t.before.axis-place.result
-    t.before.axis-place.ensures _ s.args.out.now t.if3.true c.before.in-set.ensures)
+    (selected_answer s.args.curve (four s) s.args.axis (good c.before.before.before.before.before.before.before.before) c.if-d-axis.false c.axis_place-at.result
+    c.axis_place-at.ensures _ s.args.out.now c.if-at-k.true c.in_set.ensures)
 
-sub-in-set : tie.Need-overflow-sub-in-set
+sub-in-set : tie.Need-overflow_sub-d
 sub-in-set c =
-    let e = c.before.before.before.before in
-    let s = start e.before.before in
-    omega (arith, (formed s.args.curve (four s) (good e.before)).k_high)
+    let s = start c.before.before.before.before.before.before in
+    omega (arith, (formed s.args.curve (four s) (good c.before.before.before.before.before)).k_high)
 
-in-set-requires-2 : tie.Need-in-set-requires-2
+in-set-requires-2 : tie.Need-in_set-requires-2
 in-set-requires-2 c κs =
-    let t = c.before in
-    let e = t.before.before.before.before in
-    let s = start e.before.before in
-    others_sized s.args.curve (four s) s.args.axis (good e.before) e.if2.false t.before.axis-place.result
-    t.before.axis-place.ensures t.if3.false
+    let s = start c.before.before.before.before.before.before.before in
+    others_sized s.args.curve (four s) s.args.axis (good c.before.before.before.before.before.before) c.if-d-axis.false c.axis_place-at.result
+    c.axis_place-at.ensures c.if-at-k.false
 
-returns-4 : tie.Need-returns-4
+returns-4 : tie.Need-returns
 returns-4 c =
-    let t = c.before.before.before in
-    let e = t.before.before.before.before in
-    let s = start e.before.before in
+    let s = start c.before.before.before.before.before.before.before.before.before in
     answered s.args.curve (four s) s.args.axis _ s.args.out.now
-    (others_answer s.args.curve (four s) s.args.axis (good e.before) e.if2.false t.before.axis-place.result
-    t.before.axis-place.ensures _ s.args.out.now t.if3.false c.before.in-set2.ensures)
+    (others_answer s.args.curve (four s) s.args.axis (good c.before.before.before.before.before.before.before.before) c.if-d-axis.false c.axis_place-at.result
+    c.axis_place-at.ensures _ s.args.out.now c.if-at-k.false c.in_set-2.ensures)
 
-pub heights-spec : {M : Type 1} → statement M
-heights-spec =
+pub heights_spec : {M : Type 1} → statement M
+heights_spec =
     tie.close
     (tie.spec
     (λ c κs. search rules)

@@ -17,36 +17,33 @@ abbrev set : tie.Start → AxisSet
 set s = set_with s.args.breaks.now s.args.coefficients.now s.args.n s.args.m s.args.at
 
 -- where heights are to be put: the slice is long enough, and no control is turned away
-abbrev start : tie.Else2 → tie.Start
+abbrev start : tie.Else-not-all_fit → tie.Start
 start e = e.before.before.before.before.before
 
-long : (e : tie.Else2) → 257 * (start e).args.n ≤ length (start e).args.out.now
-long e = e.before.before.if1.false
+long : (e : tie.Else-not-all_fit) → 257 * (start e).args.n ≤ length (start e).args.out.now
+long e = e.if-out-n.false
 
-fit : (e : tie.Else2) → all_fit (set (start e)) ≡ true
-fit e = sym e.before.all_fit.ensures ∙ not-false _ e.if2.false
+fit : (e : tie.Else-not-all_fit) → all_fit (set (start e)) ≡ true
+fit e = sym e.all_fit.ensures ∙ not-false _ e.if-not-all_fit.false-raw
 
-returns : tie.Need-returns
+returns : tie.Need-returns-then-out-n
 returns c =
-    let s = c.before.before.before in too_short (set s) s.args.out.now c.if1.true
+    too_short (set c.before.before.before) c.args.out.now c.if-out-n.true
 
-returns-2 : tie.Need-returns-2
+returns-2 : tie.Need-returns-then-not-all_fit
 returns-2 c =
-    let s = c.before.before.before.before.before in
-    turned_away (set s) s.args.out.now c.before.before.if1.false (sym c.before.all_fit.ensures ∙ not-true _ c.if2.true)
+    turned_away (set c.before.before.before.before.before) c.args.out.now c.if-out-n.false (sym c.all_fit.ensures ∙ not-true _ c.if-not-all_fit.true-raw)
 
-put-segments-requires : tie.Need-put-segments-requires
+put-segments-requires : tie.Need-put_segments-requires
 put-segments-requires c κs =
-    let w = c.before.before.before in
-    ((start w.before).requires, w.weight-table.ensures.0, long w.before, fit w.before)
+    ((start c.before.before.before.before).requires, c.weight_table-table.ensures.0, long c.before.before.before.before, fit c.before.before.before.before)
 
-returns-3 : tie.Need-returns-3
+returns-3 : tie.Need-returns
 returns-3 c =
-    let e = c.before.before.before.before.before.before in
-    ap (outcome 0) c.before.put-segments.ensures ∙ given (set (start e)) (start e).args.out.now (long e) (fit e)
+    ap (outcome 0) c.put_segments.ensures ∙ given (set (start c.before.before.before.before.before.before)) (start c.before.before.before.before.before.before).args.out.now (long c.before.before.before.before.before.before) (fit c.before.before.before.before.before.before)
 
-pub in-set-spec : {M : Type 1} → statement M
-in-set-spec =
+pub in_set_spec : {M : Type 1} → statement M
+in_set_spec =
     tie.close
     (tie.spec
     (λ c. search rules)

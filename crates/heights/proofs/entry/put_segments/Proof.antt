@@ -21,11 +21,11 @@ use Rattle.heights.proofs.Placed.{segment_inside}
 use Rattle.heights.proofs.entry.put_segments.Statement.{statement}
 use Rattle.heights.proofs.entry.put_segments.Tie as tie
 
-abbrev invariant-loop : tie.invariant-loop
+abbrev invariant-loop : tie.invariant-loop-i
 invariant-loop weights breaks coefficients n m at out₀ i₀ out i =
     (i ≤ n) × (length out ≡ length out₀) × (out ≡ written 0 (join i (segment_heights (set_with breaks coefficients n m at))) out₀)
 
-abbrev decreases-loop : tie.decreases-loop
+abbrev decreases-loop : tie.decreases-loop-i
 decreases-loop weights breaks coefficients n m at out₀ i₀ out i = n - i
 
 -- one segment more
@@ -43,77 +43,70 @@ kept x i out₀ h =
     let n = join_length i 257 (segment_heights x) (λ j l. list_length 257 (height_of (wholes_of (controls_on x j)))) in
     written_length 0 (join i (segment_heights x)) out₀ (omega (arith, n))
 
-loop-holds : tie.Need-loop-init invariant-loop decreases-loop
+loop-holds : tie.Need-loop-i-init invariant-loop decreases-loop
 unfolding join
 loop-holds c = (omega arith, refl, sym (written_none 0 _))
 
-on-segment-requires : tie.Need-on-segment-requires invariant-loop decreases-loop
+on-segment-requires : tie.Need-on_segment-c-requires invariant-loop decreases-loop
 on-segment-requires c κs =
-    let s = c.before.before.before.before.before in
-    segment_inside s.args.n s.args.m s.args.at c.before.loop.i s.args.breaks.now s.args.coefficients.now
-    s.requires.0 c.loop-test.true
+    segment_inside c.args.n c.args.m c.args.at c.loop-i.i c.args.breaks.now c.args.coefficients.now
+    c.requires.0 c.loop-i-test.true
 
 -- the whole controls of a segment, of which none is turned away
-fitting : (c : tie.After-on-segment invariant-loop decreases-loop)
-    → let s = c.before.before.before.before.before.before in
-    map lowered c.on-segment.result.cells
-    ≡ wholes_of (controls_on (set_with s.args.breaks.now s.args.coefficients.now s.args.n s.args.m s.args.at)
-    c.before.before.loop.i)
+fitting : (c : tie.After-on_segment-c invariant-loop decreases-loop)
+    → map lowered c.on_segment-c.result.cells
+    ≡ wholes_of (controls_on (set_with c.args.breaks.now c.args.coefficients.now c.args.n c.args.m c.args.at)
+    c.loop-i.i)
 fitting c =
-    let s = c.before.before.before.before.before.before in
-    let a = s.args in
+    let a = c.args in
     let x = set_with a.breaks.now a.coefficients.now a.n a.m a.at in
-    let f = every_at (segment_fits x) a.n s.requires.3 c.before.before.loop.i c.before.loop-test.true in
-    c.on-segment.ensures.wholes (c.on-segment.ensures.turned_away ∙ not-true _ f)
+    let f = every_at (segment_fits x) a.n c.requires.3 c.loop-i.i c.loop-i-test.true in
+    c.on_segment-c.ensures.wholes (c.on_segment-c.ensures.turned_away ∙ not-true _ f)
 
-room : (c : tie.After-on-segment invariant-loop decreases-loop) → 257 * c.before.before.loop.i + 257 ≤ length c.before.before.loop.out
+room : (c : tie.After-on_segment-c invariant-loop decreases-loop) → 257 * c.loop-i.i + 257 ≤ length c.loop-i.out
 room c =
-    let l = c.before.before.loop in
-    let s = c.before.before.before.before.before.before in
-    omega (arith, l.invariant.1, c.before.loop-test.true, s.requires.2)
+    let l = c.loop-i in
+    omega (arith, l.invariant.1, c.loop-i-test.true, c.requires.2)
 
-slice-aggregate-put-steps : tie.Need-slice-aggregate-put-steps invariant-loop decreases-loop
-slice-aggregate-put-steps c = sym c.before.before.on-segment.ensures.small.0
+slice-aggregate-put-steps : tie.Need-slice_bounds-put_steps-end invariant-loop decreases-loop
+slice-aggregate-put-steps c = sym c.on_segment-c.ensures.small.0
 
-put-steps-requires : tie.Need-put-steps-requires invariant-loop decreases-loop
+put-steps-requires : tie.Need-put_steps-requires invariant-loop decreases-loop
 put-steps-requires c κs =
-    let o = c.before.before.before in
-    let l = o.before.before.loop in
-    let s = o.before.before.before.before.before.before in (
-      length_window (257 * l.i) (257 * l.i + 257) l.out (omega arith) (room o) ∙ omega arith,
-      s.requires.1,
-      o.on-segment.ensures.small,
+    let l = c.loop-i in
+    (
+      length_window (257 * l.i) (257 * l.i + 257) l.out (omega arith) (room c.before.before.before) ∙ omega arith,
+      c.requires.1,
+      c.on_segment-c.ensures.small,
     )
 
-loop-again : tie.Need-loop-preserved invariant-loop decreases-loop
+loop-again : tie.Need-loop-i-preserved invariant-loop decreases-loop
 loop-again c =
-    let o = c.before.before.before.before.before in
-    let l = o.before.before.loop in
-    let s = o.before.before.before.before.before.before in
-    let a = s.args in
+    let l = c.loop-i in
+    let a = c.args in
     let x = set_with a.breaks.now a.coefficients.now a.n a.m a.at in
-    let r = room o in
+    let r = room c.before.before.before.before.before in
     let e = next x l.i l.out a.out.now _ (omega (arith, r, l.invariant.1)) l.invariant.2
-    (c.before.put-steps.ensures ∙ ap (λ (w : List ℤ). list_of 257 (height_of w)) (fitting o)) in (
+    (c.put_steps.ensures ∙ ap (λ (w : List ℤ). list_of 257 (height_of w)) (fitting c.before.before.before.before.before)) in (
       omega arith,
       ap length e ∙ kept x (l.i + 1) a.out.now (omega (arith, r, l.invariant.1)),
       e,
     )
 
-same_length : tie.Need-same-length invariant-loop decreases-loop
-same_length c = c.before.loop.invariant.1
+same_length : tie.Need-shape_of-out invariant-loop decreases-loop
+same_length c = c.loop-i.invariant.1
 
 returns : tie.Need-returns invariant-loop decreases-loop
 unfolding all_heights
 returns c =
-    let l = c.before.loop in
-    let a = c.before.before.before.before.before.args in
+    let l = c.loop-i in
+    let a = c.args in
     let x = set_with a.breaks.now a.coefficients.now a.n a.m a.at in
-    let e : l.i ≡ a.n = omega (arith, l.invariant.0, c.loop-test.false) in
+    let e : l.i ≡ a.n = omega (arith, l.invariant.0, c.loop-i-test.false) in
     l.invariant.2 ∙ ap (λ (n : ℕ). written 0 (join n (segment_heights x)) a.out.now) e
 
-pub put-segments-spec : {M : Type 1} → statement M
-put-segments-spec =
+pub put_segments_spec : {M : Type 1} → statement M
+put_segments_spec =
     tie.close
     (tie.spec
     invariant-loop

@@ -8,26 +8,26 @@ use Rattle.heights.proofs.Places.{small, large, whole_under}
 use Rattle.heights.proofs.rounding.nearest_place.Statement.{statement}
 use Rattle.heights.proofs.rounding.nearest_place.Tie as tie
 
-returns : tie.Need-returns
-returns c = (small c.before.args.place c.if1.true, omega arith)
+returns : tie.Need-returns-then-exponent-lt1022
+returns c = (small c.args.place c.if-exponent-lt1022.true, omega arith)
 
 -- the digits are below 2 ^ 53
 digits-small : (b t : ℕ) → (b - (b / 0x10_0000_0000_0000 - 1) * 0x10_0000_0000_0000) / 2 ^ t < 0x20_0000_0000_0000
 digits-small b t = let l = div-le_self (b - (b / 0x10_0000_0000_0000 - 1) * 0x10_0000_0000_0000) (2 ^ t) in omega (arith, l)
 
-add-result : tie.Need-overflow-add-result
+add-result : tie.Need-overflow_add-result
 add-result c =
-    let b = c.before.args.place in omega (arith, digits-small b (1074 - b / 0x10_0000_0000_0000))
+    let b = c.args.place in omega (arith, digits-small b (1074 - b / 0x10_0000_0000_0000))
 
-returns-2 : tie.Need-returns-2
+returns-2 : tie.Need-returns
 returns-2 c =
-    let b = c.before.args.place in
+    let b = c.args.place in
     let e = b / 0x10_0000_0000_0000 in
-    let w = large b e (1074 - e) refl (omega arith) (omega (arith, c.before.requires)) in
-    (w, subst (λ (n : ℕ). n ≤ 2000000) (sym w) (whole_under b c.before.requires))
+    let w = large b e (1074 - e) refl (omega arith) (omega (arith, c.requires)) in
+    (w, subst (λ (n : ℕ). n ≤ 2000000) (sym w) (whole_under b c.requires))
 
-pub nearest-place-spec : {M : Type 1} → statement M
-nearest-place-spec =
+pub nearest_place_spec : {M : Type 1} → statement M
+nearest_place_spec =
     tie.close
     (tie.spec returns (λ c. search rules) (λ c. search rules) (λ c. search rules) (λ c. search rules) (λ c. search rules) add-result
     returns-2)

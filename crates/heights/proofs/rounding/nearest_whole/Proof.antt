@@ -34,39 +34,37 @@ kept x n size f h e l g =
       small = l;
     }
 
-returns : tie.Need-returns
+returns : tie.Need-returns-then-x
 unfolding beyond
 returns c =
-    let x = c.before.args.x in
-    away x (ap beyond (is_nan_law x (differs_nan x c.if1.true)))
+    let x = c.args.x in
+    away x (ap beyond (is_nan_law x (differs_nan x c.if-x.true)))
 
-float-to-bits-bits : tie.Need-float-to-bits-bits
-float-to-bits-bits c = rw (equal_number c.before.args.x c.if1.false) tt
+float-to-bits-bits : tie.Need-float_to_bits-bits
+float-to-bits-bits c = rw (equal_number c.args.x c.if-x.false) tt
 
-returns-2 : tie.Need-returns-2
+returns-2 : tie.Need-returns-then-place-gt4701340746312056832
 returns-2 c =
-    let s = c.before.before in away s.args.x (far s.args.x (subst T (sym s.well-formed.0.1) tt) c.if2.true)
+    away c.args.x (far c.args.x (subst T (sym c.well_formed.0.1) tt) c.if-place-gt4701340746312056832.true)
 
-returns-3 : tie.Need-returns-3
+returns-3 : tie.Need-returns-then-bits-lt9223372036854775808
 returns-3 c =
-    let p = c.before.nearest-place in
-    let s = c.before.before.before.before in
-    kept s.args.x (2000000 + p.result) p.result (subst T (sym s.well-formed.0.1) tt) c.before.before.if2.false p.ensures.0
+    let p = c.nearest_place-size in
+    kept c.args.x (2000000 + p.result) p.result (subst T (sym c.well_formed.0.1) tt) c.if-place-gt4701340746312056832.false p.ensures.0
     (omega (arith, p.ensures.1))
-    (rw (lt-leb 0x8000_0000_0000_0000 (to_bits binary64 s.args.x) c.if3.true)
+    (rw (lt-leb 0x8000_0000_0000_0000 (to_bits binary64 c.args.x) c.if-bits-lt9223372036854775808.true)
     (lowered_above (2000000 + p.result) p.result refl))
 
-returns-4 : tie.Need-returns-4
+returns-4 : tie.Need-returns
 returns-4 c =
-    let p = c.before.nearest-place in
-    let s = c.before.before.before.before in
-    kept s.args.x (2000000 - p.result) p.result (subst T (sym s.well-formed.0.1) tt) c.before.before.if2.false p.ensures.0
+    let p = c.nearest_place-size in
+    kept c.args.x (2000000 - p.result) p.result (subst T (sym c.well_formed.0.1) tt) c.if-place-gt4701340746312056832.false p.ensures.0
     (omega arith)
-    (rw (le-leb 0x8000_0000_0000_0000 (to_bits binary64 s.args.x) c.if3.false)
+    (rw (le-leb 0x8000_0000_0000_0000 (to_bits binary64 c.args.x) c.if-bits-lt9223372036854775808.false)
     (lowered_below (2000000 - p.result) p.result (omega (arith, p.ensures.1))))
 
-pub nearest-whole-spec : {M : Type 1} → statement M
-nearest-whole-spec =
+pub nearest_whole_spec : {M : Type 1} → statement M
+nearest_whole_spec =
     tie.close
     (tie.spec
     returns

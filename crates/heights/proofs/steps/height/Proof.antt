@@ -6,76 +6,67 @@ use Rattle.heights.proofs.Sums.{lifted_sum, sum_fits, index_fits, product_fits, 
 use Rattle.heights.proofs.steps.height.Statement.{statement}
 use Rattle.heights.proofs.steps.height.Tie as tie
 
-abbrev invariant-loop : tie.invariant-loop
+abbrev invariant-loop : tie.invariant-loop-k
 invariant-loop weights controls j sum₀ k₀ sum k = (k ≤ 6) × (sum ≡ 549755813888 + lifted_sum controls j k)
 
-abbrev decreases-loop : tie.decreases-loop
+abbrev decreases-loop : tie.decreases-loop-k
 decreases-loop weights controls j sum₀ k₀ sum k = 6 - k
 
-loop-holds : tie.Need-loop-init invariant-loop decreases-loop
+loop-holds : tie.Need-loop-k-init invariant-loop decreases-loop
 unfolding lifted_sum
 loop-holds c = (omega arith, refl)
 
-shared-slice-read-sum : tie.Need-shared-slice-read-sum invariant-loop decreases-loop
-shared-slice-read-sum c = let s = c.before.before.before.before.before in omega (arith, s.requires.2.0)
+shared-slice-read-sum : tie.Need-bounds-controls-k invariant-loop decreases-loop
+shared-slice-read-sum c = omega (arith, c.requires.2.0)
 
-shared-slice-read-sum-2 : tie.Need-shared-slice-read-sum-2 invariant-loop decreases-loop
+shared-slice-read-sum-2 : tie.Need-bounds-weights-j invariant-loop decreases-loop
 shared-slice-read-sum-2 c =
-    let t = c.before.before in
-    let s = t.before.before.before.before in
-    index_fits s.args.weights.now s.args.controls.now s.args.j s.requires.1 s.requires.0 s.requires.2 t.before.loop.k
-    t.loop-test.true
+    index_fits c.args.weights.now c.args.controls.now c.args.j c.requires.1 c.requires.0 c.requires.2 c.loop-k.k
+    c.loop-k-test.true
 
-mul-sum-4 : tie.Need-overflow-mul-sum-4 invariant-loop decreases-loop
+mul-sum-4 : tie.Need-overflow_mul-sum-in-loop-k invariant-loop decreases-loop
 mul-sum-4 c =
-    let t = c.before.before in
-    let s = t.before.before.before.before in
     omega (
       arith,
-      product_fits s.args.weights.now s.args.controls.now s.args.j s.requires.1 s.requires.0 s.requires.2 t.before.loop.k
-          t.loop-test.true,
+      product_fits c.args.weights.now c.args.controls.now c.args.j c.requires.1 c.requires.0 c.requires.2 c.loop-k.k
+          c.loop-k-test.true,
     )
 
-add-sum-2 : tie.Need-overflow-add-sum-2 invariant-loop decreases-loop
+add-sum-2 : tie.Need-overflow_add-sum-in-loop-k invariant-loop decreases-loop
 add-sum-2 c =
-    let t = c.before.before in
-    let s = t.before.before.before.before in
     omega (
       arith,
-      sum_room s.args.weights.now s.args.controls.now s.args.j s.requires.1 s.requires.0 s.requires.2 t.before.loop.k
-          t.before.loop.sum t.loop-test.true t.before.loop.invariant.1,
+      sum_room c.args.weights.now c.args.controls.now c.args.j c.requires.1 c.requires.0 c.requires.2 c.loop-k.k
+          c.loop-k.sum c.loop-k-test.true c.loop-k.invariant.1,
     )
 
-loop-again : tie.Need-loop-preserved invariant-loop decreases-loop
+loop-again : tie.Need-loop-k-preserved invariant-loop decreases-loop
 loop-again c =
-    let t = c.before.before in
-    let s = t.before.before.before.before in (
+    (
       omega arith,
-      sum_next s.args.weights.now s.args.controls.now s.args.j s.requires.1 s.requires.0 s.requires.2 t.before.loop.k
-          t.before.loop.sum t.loop-test.true t.before.loop.invariant.1,
+      sum_next c.args.weights.now c.args.controls.now c.args.j c.requires.1 c.requires.0 c.requires.2 c.loop-k.k
+          c.loop-k.sum c.loop-k-test.true c.loop-k.invariant.1,
     )
 
 -- the sum of all six
-whole : (c : tie.After-loop invariant-loop decreases-loop) → c.before.loop.sum
-    ≡ 549755813888 + lifted_sum c.before.before.before.before.args.controls.now c.before.before.before.before.args.j 6
+whole : (c : tie.After-loop-k invariant-loop decreases-loop) → c.loop-k.sum
+    ≡ 549755813888 + lifted_sum c.args.controls.now c.args.j 6
 whole c =
-    let s = c.before.before.before.before in
-    let e : c.before.loop.k ≡ 6 = omega (arith, c.before.loop.invariant.0, c.loop-test.false) in
-    c.before.loop.invariant.1 ∙ ap (λ (n : ℕ). 549755813888 + lifted_sum s.args.controls.now s.args.j n) e
+    let e : c.loop-k.k ≡ 6 = omega (arith, c.loop-k.invariant.0, c.loop-k-test.false) in
+    c.loop-k.invariant.1 ∙ ap (λ (n : ℕ). 549755813888 + lifted_sum c.args.controls.now c.args.j n) e
 
-small : (c : tie.After-loop invariant-loop decreases-loop) → c.before.loop.sum ≤ 4398047060859813888
+small : (c : tie.After-loop-k invariant-loop decreases-loop) → c.loop-k.sum ≤ 4398047060859813888
 small c =
-    let s = c.before.before.before.before in
-    omega (arith, whole c, sum_fits s.args.controls.now s.args.j s.requires.0 s.requires.2)
+    omega (arith, whole c, sum_fits c.args.controls.now c.args.j c.requires.0 c.requires.2)
 
-sub-result : tie.Need-overflow-sub-result invariant-loop decreases-loop
+sub-result : tie.Need-overflow_sub-result invariant-loop decreases-loop
 sub-result c = omega (arith, c.one_below.ensures.1, whole c.before)
 
 returns : tie.Need-returns invariant-loop decreases-loop
 returns c =
-    let l = c.before.before.loop in
-    let s = c.before.before.before.before.before in (
-      lifted_height s.args.controls.now s.args.j l.sum c.one_below.result s.requires.0 s.requires.2 (whole c.before)
+    let l = c.loop-k in
+    (
+      lifted_height c.args.controls.now c.args.j l.sum c.one_below.result c.requires.0 c.requires.2 (whole c.before)
           c.one_below.ensures.0,
       lifted_small l.sum c.one_below.result (small c.before),
     )

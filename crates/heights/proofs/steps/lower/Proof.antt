@@ -4,7 +4,7 @@ use Rattle.heights.proofs.Signed.{difference_fits, difference_back}
 use Rattle.heights.proofs.steps.lower.Statement.{statement}
 use Rattle.heights.proofs.steps.lower.Tie as tie
 
-sub-result : tie.Need-overflow-sub-result
+sub-result : tie.Need-overflow_sub-result
 sub-result c = difference_fits c.args.n c.requires
 
 returns : tie.Need-returns

@@ -8,5 +8,5 @@ use Rattle.heights.proofs.steps.one_below.Tie as tie
 returns : tie.Need-returns
 returns c = byte_is (ltb c.args.sum 2199023805307813888)
 
-pub one-below-spec : {M : Type 1} → statement M
-one-below-spec = tie.close (tie.spec (λ c. search rules) returns)
+pub one_below_spec : {M : Type 1} → statement M
+one_below_spec = tie.close (tie.spec (λ c. search rules) returns)

@@ -14,11 +14,11 @@ use Rattle.heights.proofs.Signed.{stored_back}
 use Rattle.heights.proofs.steps.put_steps.Statement.{statement}
 use Rattle.heights.proofs.steps.put_steps.Tie as tie
 
-abbrev invariant-loop : tie.invariant-loop
+abbrev invariant-loop : tie.invariant-loop-j
 invariant-loop weights controls out₀ j₀ out j =
     (j ≤ 257) × (length out ≡ length out₀) × (out ≡ written 0 (list_of j (height_of (map lowered controls))) out₀)
 
-abbrev decreases-loop : tie.decreases-loop
+abbrev decreases-loop : tie.decreases-loop-j
 decreases-loop weights controls out₀ j₀ out j = 257 - j
 
 -- one step more
@@ -34,46 +34,43 @@ all : (f : ℕ → ℤ) (j : ℕ) (out out₀ : List ℤ) → j ≡ 257 → leng
 all f j out out₀ e h g =
     g ∙ ap (λ (n : ℕ). written 0 (list_of n f) out₀) e ∙ written_all (list_of 257 f) out₀ (list_length 257 f ∙ sym h)
 
-loop-holds : tie.Need-loop-init invariant-loop decreases-loop
+loop-holds : tie.Need-loop-j-init invariant-loop decreases-loop
 unfolding join
 loop-holds c = (omega arith, refl, sym (written_none 0 _))
 
 height-requires : tie.Need-height-requires invariant-loop decreases-loop
 height-requires c κs =
-    let p = c.before.before.before.before.requires in (omega (arith, c.loop-test.true), p.1, p.2)
+    let p = c.requires in (omega (arith, c.loop-j-test.true), p.1, p.2)
 
 lower-requires : tie.Need-lower-requires invariant-loop decreases-loop
 lower-requires c κs = c.height.ensures.1
 
-slice-set-from-out : tie.Need-slice-set-from-out invariant-loop decreases-loop
+slice-set-from-out : tie.Need-bounds-out-j invariant-loop decreases-loop
 slice-set-from-out c =
-    let i = c.before.before in omega (arith, i.before.loop.invariant.1, i.before.before.before.before.requires.0)
+    omega (arith, c.loop-j.invariant.1, c.requires.0)
 
-loop-again : tie.Need-loop-preserved invariant-loop decreases-loop
+loop-again : tie.Need-loop-j-preserved invariant-loop decreases-loop
 loop-again c =
-    let i = c.before.before in
-    let l = i.before.loop in
-    let s = i.before.before.before.before in
-    let a = s.args in
-    let n = c.before.height in (
+    let l = c.loop-j in
+    let a = c.args in
+    let n = c.height in (
       omega arith,
       length-set l.out l.j _ ∙ l.invariant.1,
-      next (height_of (map lowered a.controls.now)) l.j l.out a.out.now _ (omega (arith, s.requires.0)) l.invariant.2
+      next (height_of (map lowered a.controls.now)) l.j l.out a.out.now _ (omega (arith, c.requires.0)) l.invariant.2
           (stored_back n.result c.lower.result n.ensures.1 c.lower.ensures ∙ n.ensures.0),
     )
 
-same_length : tie.Need-same-length invariant-loop decreases-loop
-same_length c = c.before.loop.invariant.1
+same_length : tie.Need-shape_of-out invariant-loop decreases-loop
+same_length c = c.loop-j.invariant.1
 
 returns : tie.Need-returns invariant-loop decreases-loop
 returns c =
-    let l = c.before.loop in
-    let s = c.before.before.before.before in
-    all (height_of (map lowered s.args.controls.now)) l.j l.out s.args.out.now
-    (omega (arith, l.invariant.0, c.loop-test.false)) s.requires.0 l.invariant.2
+    let l = c.loop-j in
+    all (height_of (map lowered c.args.controls.now)) l.j l.out c.args.out.now
+    (omega (arith, l.invariant.0, c.loop-j-test.false)) c.requires.0 l.invariant.2
 
-pub put-steps-spec : {M : Type 1} → statement M
-put-steps-spec =
+pub put_steps_spec : {M : Type 1} → statement M
+put_steps_spec =
     tie.close
     (tie.spec
     invariant-loop

@@ -16,5 +16,5 @@ returns : tie.Need-returns
 unfolding weight_table table join
 returns c = with-totals _ (same_is _ weight_table refl)
 
-pub weight-table-spec : {M : Type 1} → statement M
-weight-table-spec = tie.close (tie.spec returns)
+pub weight_table_spec : {M : Type 1} → statement M
+weight_table_spec = tie.close (tie.spec returns)

@@ -9,10 +9,10 @@ use Rattle.query.proofs.entry.evaluate.Tie as tie
 
 returns : tie.Need-returns-then-not-well_formed
 unfolding evaluate_of
-returns c = malformed _ _ _ _ _ _ (sym c.well-formed-2.ensures ∙ not-true _ c.if-not-well_formed.true-raw)
+returns c = malformed _ _ _ _ _ _ (sym c.well_formed-2.ensures ∙ not-true _ c.if-not-well_formed.true-raw)
 
 evaluate-formed-requires : tie.Need-evaluate_formed-requires
-evaluate-formed-requires c κs = sym c.well-formed-2.ensures ∙ not-false _ c.if-not-well_formed.false-raw
+evaluate-formed-requires c κs = sym c.well_formed-2.ensures ∙ not-false _ c.if-not-well_formed.false-raw
 
 pub evaluate_spec : {M : Type 1} → statement M
 evaluate_spec =

@@ -53,7 +53,7 @@ returns-2 c =
 mul-short : tie.Need-overflow_mul-count
 mul-short c = let b = start c.before.before in
     let r = room_count (length b.args.q.now) b.args.curve.d (length b.args.xs.now) (some b) c.if-q-d.false in
-    omega (arith, r, b.good)
+    omega (arith, r, b.well_formed)
 
 returns-3 : tie.Need-returns-then-short
 unfolding evaluate_all_of

@@ -92,7 +92,7 @@ mul-put-axes c = let b = start c.before.before.before.before.before.before in
     let g = b.args in
     let r = row_end c.loop-i.i (length g.xs.now) g.curve.d (length g.q.now)
     c.loop-i-test.true b.requires.1.1.1.1.1.0 in
-    omega (arith, r, b.good)
+    omega (arith, r, b.well_formed)
 
 -- the place of an axis is below d
 places-below : (b : Start) (a : ℕ) → a < b.args.curve.k + (b.args.curve.d - b.args.curve.k)
@@ -127,7 +127,7 @@ put-axes-requires c κs = let b = start c.before.before.before.before.before.bef
     )
 
 add-i : tie.Need-overflow_add-i invariant-loop decreases-loop
-add-i c = omega (arith, c.loop-i-test.true, (start c.before.before.before.before.before.before.before.before.before.before.before.before.before.before.before.before.before.before.before).well-formed)
+add-i c = omega (arith, c.loop-i-test.true, (start c.before.before.before.before.before.before.before.before.before.before.before.before.before.before.before.before.before.before.before).well_formed)
 
 loop-again : tie.Need-loop-i-preserved invariant-loop decreases-loop
 loop-again c = let b = start c.before.before.before.before.before.before.before.before.before.before.before.before.before.before.before.before.before.before.before in

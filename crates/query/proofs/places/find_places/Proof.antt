@@ -26,24 +26,24 @@ loop-again c = let l = c.loop-a in
     let p = c.position-i.ensures in
     ⊎_elim
     (λ w.
-    let h : position_of g.axes.now g.k l.a < g.k = omega (arith, w.0.taken) in (
+    let h : position_of g.axes.now g.k l.a < g.k = omega (arith, w.if-i-k.true) in (
       omega arith,
-      rw w.1 (simp length-set l.invariant.1),
-      w.2 ∙ l.invariant.2 ∙ sym (listed_next g.axes.now g.k l.a h),
-      omega (arith, w.2),
-      rw w.1 (place_next g.axes.now g.k l.at l.a c.position-i.result (omega arith)
+      rw w.at-is (simp length-set l.invariant.1),
+      w.others-is ∙ l.invariant.2 ∙ sym (listed_next g.axes.now g.k l.a h),
+      omega (arith, w.others-is),
+      rw w.at-is (place_next g.axes.now g.k l.at l.a c.position-i.result (omega arith)
           (p ∙ sym (listed_place g.axes.now g.k l.a h)) l.invariant.4),
     ))
     (λ w.
-    let h : g.k ≤ position_of g.axes.now g.k l.a = omega (arith, w.0.left) in (
+    let h : g.k ≤ position_of g.axes.now g.k l.a = omega (arith, w.if-i-k.false) in (
       omega arith,
-      rw w.1 (simp length-set l.invariant.1),
-      w.2 ∙ ap (λ (n : ℕ). n + 1) l.invariant.2 ∙ sym (other_next g.axes.now g.k l.a h),
-      omega (arith, w.2),
-      rw w.1 (place_next g.axes.now g.k l.at l.a (g.k + l.others) (omega arith)
+      rw w.at-is (simp length-set l.invariant.1),
+      w.others-is ∙ ap (λ (n : ℕ). n + 1) l.invariant.2 ∙ sym (other_next g.axes.now g.k l.a h),
+      omega (arith, w.others-is),
+      rw w.at-is (place_next g.axes.now g.k l.at l.a (g.k + l.others) (omega arith)
           (ap (λ (n : ℕ). g.k + n) l.invariant.2 ∙ sym (other_place g.axes.now g.k l.a h)) l.invariant.4),
     ))
-    c.if-i-k.branch
+    c.if-i-k.branch-raw
 
 returns : tie.Need-returns invariant-loop decreases-loop
 returns c = λ b h. c.loop-a.invariant.4 b (omega arith)

@@ -65,7 +65,7 @@ loop-again c = let l = c.loop-a in
     let o = outputs l.q l.dq l.ddq l.dddq in
     let w = axis g.selected.now g.other.now g.k g.m g.table.now g.here g.there g.scale g.outside in
     let h = c.loop-a-test.true in
-    let r = rows_next g.order g.at 1 l.a d (g.at + l.a) (λ part c.before.before.before.before.before.before.before.before.before.before.before.before.before.before.before.before.before.before.before.before.before.before.before.before. part (w c.before.before.before.before.before.before.before.before.before.before.before.before.before.before.before.before.before.before.before.before.before.before.before.before) ∷ []) (given c.before.before.before.before.before.before.before.before.before.before.before.before.before.before.before.before.before.before.before.before.before.before.before.before.before) o _ (omega arith) (λ part j. refl)
+    let r = rows_next g.order g.at 1 l.a d (g.at + l.a) (λ part b. part (w b) ∷ []) (given c.before.before.before.before.before.before.before.before.before.before.before.before.before.before.before.before.before.before.before.before.before.before.before.before.before) o _ (omega arith) (λ part j. refl)
     h (room_for g.order (g.at + d * 1) (g.at + d) (given c.before.before.before.before.before.before.before.before.before.before.before.before.before.before.before.before.before.before.before.before.before.before.before.before.before) (given c.before.before.before.before.before.before.before.before.before.before.before.before.before.before.before.before.before.before.before.before.before.before.before.before.before) (omega arith) (as_long (given c.before.before.before.before.before.before.before.before.before.before.before.before.before.before.before.before.before.before.before.before.before.before.before.before.before)) c.requires.1.1) l.invariant.2
     (c.put_axis.ensures ∙ ap (λ (x : Derivatives). filled g.order (g.at + l.a) (λ part. part x ∷ []) o)
     (s.ensures ∙ ap (standing g.outside) v.ensures)) in

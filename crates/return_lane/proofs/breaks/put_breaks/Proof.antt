@@ -10,38 +10,35 @@ use Rattle.return_lane.specs.Return.{return_break, return_breaks}
 use Rattle.return_lane.proofs.breaks.put_breaks.Statement.{statement}
 use Rattle.return_lane.proofs.breaks.put_breaks.Tie as tie
 
-abbrev invariant-loop : tie.invariant-loop
+abbrev invariant-loop : tie.invariant-loop-i
 invariant-loop breaks cells₀ i₀ cells i = (i ≤ length breaks) × Put true 0 i (return_break breaks) cells₀ cells
 
-abbrev decreases-loop : tie.decreases-loop
+abbrev decreases-loop : tie.decreases-loop-i
 decreases-loop breaks cells₀ i₀ cells i = length breaks - i
 
-loop-holds : tie.Need-loop-init invariant-loop decreases-loop
+loop-holds : tie.Need-loop-i-init invariant-loop decreases-loop
 unfolding join
 loop-holds c = (omega arith, (refl, put_none true 0 _))
 
-loop-again : tie.Need-loop-preserved invariant-loop decreases-loop
+loop-again : tie.Need-loop-i-preserved invariant-loop decreases-loop
 loop-again c =
-    let l = c.before.before in
-    let b = l.before.before.before in
-    let a = b.args in
-    let place : l.loop.i ≡ 0 + l.loop.i = omega arith in (
+    let a = c.args in
+    let place : c.loop-i.i ≡ 0 + c.loop-i.i = omega arith in (
       omega arith,
-      put_step true 0 l.loop.i (length a.breaks.now) (return_break a.breaks.now) a.cells.now l.loop.cells _ _
-          c.before.loop-test.true (λ t. omega (arith, b.requires)) l.loop.invariant.1.1
-          (ap (λ (k : ℕ). set l.loop.cells k c.break-at.result) place) c.break-at.ensures,
+      put_step true 0 c.loop-i.i (length a.breaks.now) (return_break a.breaks.now) a.cells.now c.loop-i.cells _ _
+          c.loop-i-test.true (λ t. omega (arith, c.requires)) c.loop-i.invariant.1.1
+          (ap (λ (k : ℕ). set c.loop-i.cells k c.break_at.result) place) c.break_at.ensures,
     )
 
 returns : tie.Need-returns invariant-loop decreases-loop
 unfolding return_breaks
 returns c =
-    let l = c.before in
-    let a = l.before.before.before.args in
-    let e : l.loop.i ≡ length a.breaks.now = omega arith in
-    l.loop.invariant.1.1 ∙ ap (λ (n : ℕ). written 0 (list_of n (return_break a.breaks.now)) a.cells.now) e
+    let a = c.args in
+    let e : c.loop-i.i ≡ length a.breaks.now = omega arith in
+    c.loop-i.invariant.1.1 ∙ ap (λ (n : ℕ). written 0 (list_of n (return_break a.breaks.now)) a.cells.now) e
 
-pub put-breaks-spec : {M : Type 1} → statement M
-put-breaks-spec =
+pub put_breaks_spec : {M : Type 1} → statement M
+put_breaks_spec =
     tie.close
     (tie.spec
     invariant-loop

@@ -16,31 +16,28 @@ use Rattle.return_lane.proofs.breaks.rise_back.Tie as tie
 abbrev rises : List Float → ℕ → Bool
 rises breaks i = lt (at (return_breaks breaks) i) (at (return_breaks breaks) (i + 1))
 
-abbrev invariant-loop : tie.invariant-loop
+abbrev invariant-loop : tie.invariant-loop-i
 invariant-loop breaks below₀ i₀ below i = (i ≤ length breaks - 1) × Counted (rises breaks) i below
 
-abbrev decreases-loop : tie.decreases-loop
+abbrev decreases-loop : tie.decreases-loop-i
 decreases-loop breaks below₀ i₀ below i = length breaks - i
 
-loop-holds : tie.Need-loop-init invariant-loop decreases-loop
-loop-holds c = (omega arith, counted_none (rises c.before.args.breaks.now))
+loop-holds : tie.Need-loop-i-init invariant-loop decreases-loop
+loop-holds c = (omega arith, counted_none (rises c.args.breaks.now))
 
-add-below : tie.Need-overflow-add-below invariant-loop decreases-loop
-add-below c = omega (arith, c.before.before.before.before.loop.invariant.1.0, c.one-if.ensures.1)
+add-below : tie.Need-overflow_add-below invariant-loop decreases-loop
+add-below c = omega (arith, c.loop-i.invariant.1.0, c.one_if-below.ensures.1)
 
-loop-again : tie.Need-loop-preserved invariant-loop decreases-loop
+loop-again : tie.Need-loop-i-preserved invariant-loop decreases-loop
 loop-again c =
-    let second = c.before in
-    let first = second.before in
-    let l = first.before.before in
-    let b = l.before.before.args.breaks.now in
-    let i = l.loop.i in
-    let k = counted_next (rises b) i l.loop.below l.loop.invariant.1 in (
+    let b = c.args.breaks.now in
+    let i = c.loop-i.i in
+    let k = counted_next (rises b) i c.loop-i.below c.loop-i.invariant.1 in (
       omega arith,
       rw (
-        c.one-if.ensures.0,
-        first.break-at.ensures,
-        second.break-at2.ensures,
+        c.one_if-below.ensures.0,
+        c.break_at.ensures,
+        c.break_at-in-loop-i.ensures,
         ← break_at_law b i (omega arith),
         ← break_at_law b
             (i + 1) (omega arith),
@@ -50,11 +47,10 @@ loop-again c =
 returns : tie.Need-returns invariant-loop decreases-loop
 unfolding rises_back
 returns c =
-    let l = c.before in
-    let e : length l.before.before.args.breaks.now - 1 ≡ l.loop.i = omega arith in rw e l.loop.invariant.1.1
+    let e : length c.args.breaks.now - 1 ≡ c.loop-i.i = omega arith in rw e c.loop-i.invariant.1.1
 
-pub rise-back-spec : {M : Type 1} → statement M
-rise-back-spec =
+pub rise_back_spec : {M : Type 1} → statement M
+rise_back_spec =
     tie.close
     (tie.spec
     invariant-loop

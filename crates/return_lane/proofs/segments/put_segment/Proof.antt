@@ -19,40 +19,36 @@ use Rattle.return_lane.proofs.segments.put_segment.Tie as tie
 abbrev row : ℕ → List Float → ℕ → ℕ → List Float
 row m p i a = list_of 6 (λ k. return_coefficient floats (λ j. at p (6 * (i * m + a) + j)) k)
 
-abbrev invariant-loop : tie.invariant-loop
+abbrev invariant-loop : tie.invariant-loop-a
 invariant-loop m p i to cells₀ a₀ cells a = (a ≤ m) × RowsPut to a (row m p i) cells₀ cells
 
-abbrev decreases-loop : tie.decreases-loop
+abbrev decreases-loop : tie.decreases-loop-a
 decreases-loop m p i to cells₀ a₀ cells a = m - a
 
-loop-holds : tie.Need-loop-init invariant-loop decreases-loop
+loop-holds : tie.Need-loop-a-init invariant-loop decreases-loop
 unfolding join
-loop-holds c = let s = c.before.before.args in (omega arith, (refl, sym (written_none s.to s.cells.now)))
+loop-holds c = let s = c.args in (omega arith, (refl, sym (written_none s.to s.cells.now)))
 
-put-six-requires : tie.Need-put-six-requires invariant-loop decreases-loop
-put-six-requires c κs = (omega arith, omega (arith, c.before.before.loop.invariant.1.0))
+put-six-requires : tie.Need-put_six-requires invariant-loop decreases-loop
+put-six-requires c κs = (omega arith, omega (arith, c.loop-a.invariant.1.0))
 
-loop-again : tie.Need-loop-preserved invariant-loop decreases-loop
+loop-again : tie.Need-loop-a-preserved invariant-loop decreases-loop
 loop-again c =
-    let s = c.before.before in
-    let l = s.before.before.before in
-    let b = l.before.before.before in
-    let g = b.args in (
+    let g = c.args in (
       omega arith,
-      row_put g.to 6 l.loop.a (g.to + 6 * l.loop.a) (row g.m g.p.now g.i) g.cells.now l.loop.cells _
-          (λ j. list_length 6 _) (omega arith) (omega arith) l.loop.invariant.1.1 s.put_six.ensures,
+      row_put g.to 6 c.loop-a.a (g.to + 6 * c.loop-a.a) (row g.m g.p.now g.i) g.cells.now c.loop-a.cells _
+          (λ j. list_length 6 _) (omega arith) (omega arith) c.loop-a.invariant.1.1 c.put_six.ensures,
     )
 
 returns : tie.Need-returns invariant-loop decreases-loop
 unfolding return_segment table
 returns c =
-    let l = c.before in
-    let g = l.before.before.before.args in
-    let e : l.loop.a ≡ g.m = omega arith in
-    l.loop.invariant.1.1 ∙ ap (λ (n : ℕ). written g.to (join n (row g.m g.p.now g.i)) g.cells.now) e
+    let g = c.args in
+    let e : c.loop-a.a ≡ g.m = omega arith in
+    c.loop-a.invariant.1.1 ∙ ap (λ (n : ℕ). written g.to (join n (row g.m g.p.now g.i)) g.cells.now) e
 
-pub put-segment-spec : {M : Type 1} → statement M
-put-segment-spec =
+pub put_segment_spec : {M : Type 1} → statement M
+put_segment_spec =
     tie.close
     (tie.spec
     invariant-loop

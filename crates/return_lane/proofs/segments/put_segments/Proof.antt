@@ -17,55 +17,51 @@ use Rattle.return_lane.proofs.segments.put_segments.Tie as tie
 abbrev row : ℕ → ℕ → List Float → ℕ → List Float
 row m n p i = return_segment m p (n - (i + 1))
 
-abbrev invariant-loop : tie.invariant-loop
+abbrev invariant-loop : tie.invariant-loop-i
 invariant-loop m n p cells₀ i₀ cells i = (i ≤ n) × RowsPut 0 i (row m n p) cells₀ cells
 
-abbrev decreases-loop : tie.decreases-loop
+abbrev decreases-loop : tie.decreases-loop-i
 decreases-loop m n p cells₀ i₀ cells i = n - i
 
-loop-holds : tie.Need-loop-init invariant-loop decreases-loop
+loop-holds : tie.Need-loop-i-init invariant-loop decreases-loop
 unfolding join
-loop-holds c = (omega arith, (refl, sym (written_none 0 c.before.before.args.cells.now)))
+loop-holds c = (omega arith, (refl, sym (written_none 0 c.args.cells.now)))
 
 -- segment i from the front and from the end lies within all
-module _ (c : tie.In-loop invariant-loop decreases-loop) where
+module _ (c : tie.In-loop-i invariant-loop decreases-loop) where
   abbrev begun : tie.Start invariant-loop decreases-loop
   begun = c.before.before.before.before
 
-  front : let a = begun.args in c.before.loop.i * a.m + a.m ≤ a.n * a.m
-  front = let a = begun.args in row_end c.before.loop.i a.n a.m (a.n * a.m) c.loop-test.true (omega arith)
+  front : let a = begun.args in c.loop-i.i * a.m + a.m ≤ a.n * a.m
+  front = let a = begun.args in row_end c.loop-i.i a.n a.m (a.n * a.m) c.loop-i-test.true (omega arith)
 
-  end : let a = begun.args in (a.n - (c.before.loop.i + 1)) * a.m + a.m ≤ a.n * a.m
+  end : let a = begun.args in (a.n - (c.loop-i.i + 1)) * a.m + a.m ≤ a.n * a.m
   end = let a = begun.args in
-      row_end (a.n - (c.before.loop.i + 1)) a.n a.m (a.n * a.m) (omega (arith, c.loop-test.true)) (omega arith)
+      row_end (a.n - (c.loop-i.i + 1)) a.n a.m (a.n * a.m) (omega (arith, c.loop-i-test.true)) (omega arith)
 
-put-segment-requires : tie.Need-put-segment-requires invariant-loop decreases-loop
+put-segment-requires : tie.Need-put_segment-requires invariant-loop decreases-loop
 put-segment-requires c κs =
-    (omega (arith, end c.before), omega (arith, front c.before, c.before.before.loop.invariant.1.0))
+    (omega (arith, end c.before), omega (arith, front c.before, c.loop-i.invariant.1.0))
 
-loop-again : tie.Need-loop-preserved invariant-loop decreases-loop
+loop-again : tie.Need-loop-i-preserved invariant-loop decreases-loop
 loop-again c =
-    let s = c.before.before in
-    let t = s.before.before in
-    let l = t.before in
-    let b = begun t in
+    let b = begun c.before.before.before.before in
     let a = b.args in (
       omega arith,
-      row_put 0 (a.m * 6) l.loop.i (6 * (l.loop.i * a.m)) (row a.m a.n a.p.now) a.cells.now
-          l.loop.cells _ (λ j. segment_length a.m a.p.now (a.n - (j + 1))) (omega arith) (omega (arith, front t))
-          l.loop.invariant.1.1 s.put-segment.ensures,
+      row_put 0 (a.m * 6) c.loop-i.i (6 * (c.loop-i.i * a.m)) (row a.m a.n a.p.now) a.cells.now
+          c.loop-i.cells _ (λ j. segment_length a.m a.p.now (a.n - (j + 1))) (omega arith) (omega (arith, front c.before.before.before.before))
+          c.loop-i.invariant.1.1 c.put_segment.ensures,
     )
 
 returns : tie.Need-returns invariant-loop decreases-loop
 unfolding return_coefficients
 returns c =
-    let l = c.before in
-    let a = l.before.before.before.args in
-    let e : l.loop.i ≡ a.n = omega arith in
-    l.loop.invariant.1.1 ∙ ap (λ (n : ℕ). written 0 (join n (row a.m a.n a.p.now)) a.cells.now) e
+    let a = c.args in
+    let e : c.loop-i.i ≡ a.n = omega arith in
+    c.loop-i.invariant.1.1 ∙ ap (λ (n : ℕ). written 0 (join n (row a.m a.n a.p.now)) a.cells.now) e
 
-pub put-segments-spec : {M : Type 1} → statement M
-put-segments-spec =
+pub put_segments_spec : {M : Type 1} → statement M
+put_segments_spec =
     tie.close
     (tie.spec
     invariant-loop

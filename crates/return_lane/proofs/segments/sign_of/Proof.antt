@@ -31,12 +31,12 @@ odd (suc (suc (suc (suc zero)))) l e = absurd (e refl)
 odd (suc (suc (suc (suc (suc zero))))) l e = refl
 odd (suc (suc (suc (suc (suc (suc k)))))) l e = absurd (omega arith)
 
-returns : tie.Need-returns
-returns c = even c.before.args.k c.before.requires c.if1.true
+returns : tie.Need-returns-then-k-eq0
+returns c = even c.args.k c.requires c.if-k-eq0.true
 
-returns-2 : tie.Need-returns-2
+returns-2 : tie.Need-returns-else-k-eq0
 unfolding of_bits neg
-returns-2 c = odd c.before.args.k c.before.requires c.if1.false
+returns-2 c = odd c.args.k c.requires c.if-k-eq0.false
 
-pub sign-of-spec : {M : Type 1} → statement M
-sign-of-spec = tie.close (tie.spec returns returns-2)
+pub sign_of_spec : {M : Type 1} → statement M
+sign_of_spec = tie.close (tie.spec returns returns-2)

@@ -35,46 +35,43 @@ widths-behind m n b c part l l' l'' e h p q =
     ∙ written_next 0 v l (list_of (length w - 1) (width_of w)) (omega arith)
 
 -- once breaks and coefficients are written
-module _ (c : tie.After-put-segments) where
-  abbrev first : tie.After-put-breaks
+module _ (c : tie.After-put_segments) where
+  abbrev first : tie.After-put_breaks
   first = c.before.before.before.before
 
   abbrev begun : tie.Start
   begun = first.before.before.before.before.before.before
 
   lent_length : {l : List Float} → let a = begun.args in
-      l ≡ written 0 (return_coefficients a.m a.n a.coefficients.now) a.lent-coefficients.now
-      → length l ≡ length a.lent-coefficients.now
+      l ≡ written 0 (return_coefficients a.m a.n a.coefficients.now) a.lent_coefficients.now
+      → length l ≡ length a.lent_coefficients.now
   lent_length e = let a = begun.args in
-      ap length e ∙ written_length 0 (return_coefficients a.m a.n a.coefficients.now) a.lent-coefficients.now (omega
-      (arith, coefficients_length a.m a.n a.coefficients.now, begun.pre.2))
+      ap length e ∙ written_length 0 (return_coefficients a.m a.n a.coefficients.now) a.lent_coefficients.now (omega
+      (arith, coefficients_length a.m a.n a.coefficients.now, begun.requires.2))
 
-put-segments-requires : tie.Need-put-segments-requires
+put-segments-requires : tie.Need-put_segments-requires
 put-segments-requires c κs =
-    let s = c.before.before.before.before.before.before.before.before.before in (s.requires.1, omega (arith, s.requires.2))
+    (c.requires.1, omega (arith, c.requires.2))
 
-put-widths-requires : tie.Need-put-widths-requires
+put-widths-requires : tie.Need-put_widths-requires
 put-widths-requires c κs =
-    let g = c.before.before.before.before.before in
-    let s = begun g in
+    let s = begun c.before.before.before.before in
     let a = s.args in
-    let e = read_back a.breaks.now a.lent-breaks.now _ s.pre.0 (first g).put-breaks.ensures in
-    omega (arith, ap length e, breaks_length a.breaks.now, lent_length g g.put-segments.ensures, s.pre.2)
+    let e = read_back a.breaks.now a.lent_breaks.now _ s.requires.0 (first c.before.before.before.before).put_breaks.ensures in
+    omega (arith, ap length e, breaks_length a.breaks.now, lent_length c.before.before.before.before c.put_segments.ensures, s.requires.2)
 
 returns : tie.Need-returns
 returns c =
-    let w = c.before.before in
-    let g = w.before.before.before.before.before.before in
-    let s = begun g in
+    let s = begun c.before.before.before.before.before.before.before in
     let a = s.args in
-    let e = read_back a.breaks.now a.lent-breaks.now _ s.pre.0 (first g).put-breaks.ensures in (
-      (first g).put-breaks.ensures,
-      widths-behind a.m a.n a.breaks.now a.coefficients.now _ a.lent-coefficients.now _ _ e (omega (arith, s.pre.2))
-          g.put-segments.ensures w.put-widths.ensures,
+    let e = read_back a.breaks.now a.lent_breaks.now _ s.requires.0 (first c.before.before.before.before.before.before.before).put_breaks.ensures in (
+      (first c.before.before.before.before.before.before.before).put_breaks.ensures,
+      widths-behind a.m a.n a.breaks.now a.coefficients.now _ a.lent_coefficients.now _ _ e (omega (arith, s.requires.2))
+          c.put_segments.ensures c.put_widths.ensures,
     )
 
-pub put-set-spec : {M : Type 1} → statement M
-put-set-spec =
+pub put_set_spec : {M : Type 1} → statement M
+put_set_spec =
     tie.close
     (tie.spec
     (λ c κs. search rules)
