@@ -1,5 +1,7 @@
 // Quintic B-splines, the source's `BSpline`: t are the knots, c the controls, m of them with d axes each,
 // control after control.
+#![tactic(auto)]
+
 pub mod search; // search.rt: the partition point of a list, and the span of a parameter
 pub mod basis; // basis.rt: the basis functions of a span, their values and their powers
 pub mod insertion; // insertion.rt: one more knot

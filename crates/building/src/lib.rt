@@ -1,5 +1,7 @@
 // The source's `SmoothedSpline::build`, over slices that the caller lends: a request checked, smoothed and
 // written to the results.
+#![tactic(auto)]
+
 mod answers; // answers.rt: answers and document 01's numbers
 pub mod compute; // compute.rt: what is computed once the checks let a request through
 pub mod entry; // entry.rt: all of it

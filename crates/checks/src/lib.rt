@@ -1,4 +1,6 @@
 // The checks of `build` and what a request chooses: 18, 20 and 19, 1 to 7 and 26, the axes and the tolerances.
+#![tactic(auto)]
+
 pub mod choices; // choices.rt: the axes and the tolerances that a request chooses
 pub mod refusals; // refusals.rt: what turns a request away
 

@@ -2,6 +2,8 @@
 // are only read: the breaks and the coefficients of the selected axes, and those of the other axes.
 // Coefficients lie segment after segment, within it axis after axis, six each, from power 0 up; behind
 // them lie the widths of the segments.
+#![tactic(auto)]
+
 pub mod count; // count.rt: counts without a branch
 pub mod form; // form.rt: whether a curve is well formed, and one that is not
 pub mod place; // place.rt: where an axis stands in a list of axes, and among all

@@ -1,5 +1,7 @@
 // Numbers as bytes and as text, for the programs: whole numbers and f64 of bytes, low byte first,
 // and an f64 as 16 upper-case hex digits.
+#![tactic(auto)]
+
 ghost use Rattle.std.specs.Prelude.{◌≡◌, ◌+◌, ◌*◌, ◌≤◌, ◌<◌, [], length, take, set};
 ghost use Rattle.std.specs.Float.{binary64};
 ghost use Rattle.std.specs.Float.Ieee.{of_bits, to_bits};

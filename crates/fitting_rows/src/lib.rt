@@ -1,6 +1,8 @@
 // The rows of a fit: what each sample or node asks of the controls, read from the arrays that lie in
 // one slice. Samples are the waypoints, at rising parameters; the spline is `bspline`'s and a row
 // `normal`'s.
+#![tactic(auto)]
+
 pub mod samples; // samples.rt: the rows of dense spans, one for each sample
 pub mod pieces; // pieces.rt: the rows of sparse spans, six for each piece between samples
 pub mod penalty; // penalty.rt: the rows of the third derivative, three for each span

@@ -1,5 +1,7 @@
 // Float leaves: the functions on an `f64` that IEEE 754 or Rust's library has and the language has
 // not. Each is total: it answers for every bit pattern, NaN included.
+#![tactic(auto)]
+
 mod next;
 mod order;
 mod power;

@@ -1,5 +1,7 @@
 // Numbers in groups of seven bits, low group first, top bit set on all but the last: at most three
 // groups and no padding; numbers of eight bytes. How values are put together as bytes is `specs/Form`.
+#![tactic(auto)]
+
 pub mod put; // put.rt: numbers put into bytes
 
 ghost use Rattle.std.specs.Prelude.{◌≡◌};

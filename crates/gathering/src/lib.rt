@@ -1,4 +1,6 @@
 // The parameters and the rows of a request, put into lent cells.
+#![tactic(auto)]
+
 mod parameters; // parameters.rt: the normalised parameters
 mod rows; // rows.rt: the rows of some axes, as handed in and centred
 

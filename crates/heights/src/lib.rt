@@ -1,4 +1,6 @@
 // Heights for the blade valve: document 02, request 9.
+#![tactic(auto)]
+
 mod weights; // weights.rt: the table of weights
 mod rounding; // rounding.rt: a float to the nearest whole number
 mod controls; // controls.rt: the whole controls of a segment

@@ -1,4 +1,6 @@
 // The other axes: a quintic spline through every waypoint, the source's `interpolate`, over one lent slice.
+#![tactic(auto)]
+
 ghost use Rattle.std.specs.Prelude.{◌≡◌, ◌<◌, length};
 ghost use Rattle.smoothing.specs.Answer.{unless};
 ghost use Rattle.smoothing.specs.Interpolate.{interpolate_of};

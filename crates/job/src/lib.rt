@@ -1,5 +1,7 @@
 // The job of the program `lane`: four counts in groups of seven bits, then one tolerance and the points,
 // eight bytes each.
+#![tactic(auto)]
+
 ghost use Rattle.std.specs.Prelude.{◌≡◌, ◌≤◌, length};
 ghost use Rattle.smoothing.specs.Answer.{and_then};
 ghost use Rattle.smoothing.specs.Answer.Answer.{done};

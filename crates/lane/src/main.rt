@@ -1,4 +1,6 @@
 // The program `lane`: reads a job from standard input, smooths it, and writes its report to standard output.
+#![tactic(auto)]
+
 mod answer; // answer.rt: from the bytes of a job to the text of its answer
 mod lines; // lines.rt: the lines of an answer
 mod fields; // fields.rt: the fields of a line

@@ -1,6 +1,8 @@
 // Lane files: a curve as bytes, document 02, request 1. A curve is a struct by value, as in `curve`, with four
 // slices beside it. The cells of the coefficients are bit patterns, so that a NaN's bits travel unchanged; behind
 // them lie the patterns of the widths (request 12). A file has no widths: reading makes them from the breaks.
+#![tactic(auto)]
+
 mod numbers; // numbers.rt: the papers' numbers of the answers
 mod cells; // cells.rt: the curve in the bytes, taken out of them
 mod entry; // entry.rt: writing and reading

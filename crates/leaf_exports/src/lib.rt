@@ -1,5 +1,7 @@
 // The float leaves under C names, for the Rust driver in bench/ to link: each with the contract of what
 // it calls.
+#![tactic(auto)]
+
 ghost use Rattle.std.specs.Prelude.{◌≡◌};
 ghost use Rattle.std.specs.Float.{binary64};
 ghost use Rattle.std.specs.Float.Ieee.Scale.{finite};

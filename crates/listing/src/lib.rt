@@ -1,5 +1,7 @@
 // Lists of cases and lines of answers, for the programs that replay the Rust's answers. oracle/README.md
 // has the form of both.
+#![tactic(auto)]
+
 pub mod axes; // axes.rt: axes packed four to a whole number
 pub mod list; // list.rt: reading a list of cases
 pub mod output; // output.rt: lines of text

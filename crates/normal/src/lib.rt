@@ -1,6 +1,8 @@
 // The normal equations of a least-squares fit of quintic B-splines: a symmetric system whose matrix
 // has a lower band of six, with d right sides. It lies in one lent slice: the band, the right
 // sides, then the scales that `solve` needs (specs/System).
+#![tactic(auto)]
+
 ghost use Rattle.std.specs.Prelude.{◌≡◌, true, false, ◌+◌, ◌-◌, ◌*◌, ◌≤◌, ◌<◌, min, length};
 ghost use Rattle.arith.specs.Loop.{each};
 ghost use Rattle.normal.specs.System.{usize_max, size_of, system_of};

@@ -1,4 +1,6 @@
 // Which lane is cut first: document 02, request 14.
+#![tactic(auto)]
+
 ghost use Rattle.std.specs.Prelude.{◌≡◌};
 ghost use Rattle.order.specs.Outcome.{outcome, number_of, in_range, cutting_order_of, Promised};
 

@@ -1,6 +1,8 @@
 // The library for C and Rust: `include/pamitoye.h` declares these functions. A request or a curve comes
 // as numbers and slices; the answer goes back as its number in document 01, 0 where nothing is refused.
 // Each function calls that of a crate below and has its contract.
+#![tactic(auto)]
+
 mod choices; // choices.rt: what a request or a curve chooses
 mod rooms; // rooms.rt: the lengths of the slices to lend
 mod builds; // builds.rt: a whole request

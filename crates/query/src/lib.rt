@@ -1,5 +1,7 @@
 // Queries of a curve: the source's `SmoothedSpline::evaluate`, with the range handling that document 01
 // adds.
+#![tactic(auto)]
+
 mod search; // search.rt: the segment of a parameter
 mod segment; // segment.rt: one axis on one segment
 mod places; // places.rt: where each axis stands in its set

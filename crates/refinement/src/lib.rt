@@ -1,5 +1,7 @@
 // The rounds of the source's `build` (its `loop`), over one lent slice: where the arrays lie there, and each step that
 // changes them.
+#![tactic(auto)]
+
 pub mod plan; // plan.rt: where the arrays lie
 pub mod refit; // refit.rt: a window of controls fitted anew
 mod regions; // regions.rt: the regions of a round

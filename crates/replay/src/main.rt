@@ -1,6 +1,8 @@
 // The fixed list of the Rust's answers, replayed: reads cases from standard input, calls the proved
 // functions, and writes a line for each case. oracle/README.md has the form of a list and of the
 // lines. A module's cases stand in a file of a library `replay_..`, with one function for each kind.
+#![tactic(auto)]
+
 use listing::list::{Head, Status};
 use listing::output::Line;
 use listing::turn::Turn;

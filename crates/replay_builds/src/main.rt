@@ -2,6 +2,8 @@
 // parts of the buffers, and writes the oracle's line for each, with a further word where a cell that is
 // to stay or to be cleared is not as it should be. oracle/README.md has the form of a list and of the
 // lines.
+#![tactic(auto)]
+
 use listing::list::Status;
 use listing::turn::Turn;
 use listing::{list, output, turn};

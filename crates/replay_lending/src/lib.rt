@@ -1,5 +1,7 @@
 // A request of the list that `replay_builds` answers, built: the call of `build` on lent parts of the
 // buffers. A library, so that it is proved beside other crates.
+#![tactic(auto)]
+
 ghost use Rattle.std.specs.Prelude.{◌≡◌, true, ◌+◌, ◌≤◌, length};
 ghost use Rattle.listing.specs.Lines.{Unanswered};
 ghost use Rattle.replay_requests.specs.Lending.{Asks, Ends, Within};

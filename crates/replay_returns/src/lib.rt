@@ -1,4 +1,6 @@
 // Cases of the list that `replay` answers: lanes driven back, kind 84. A library, so that it is proved beside other crates.
+#![tactic(auto)]
+
 ghost use Rattle.std.specs.Prelude.{◌≡◌, length};
 ghost use Rattle.curve.specs.Form.{slices};
 ghost use Rattle.return_lane.specs.Return.{return_of};

@@ -1,4 +1,6 @@
 // The return lane: a curve driven back (document 02, request 12).
+#![tactic(auto)]
+
 ghost use Rattle.std.specs.Prelude.{◌≡◌, true, ◌||◌, ltb};
 ghost use Rattle.curve.specs.Form.{slices, well_formed};
 ghost use Rattle.return_lane.specs.Return.{outcome, return_of, used_by, number_of};

@@ -1,5 +1,7 @@
 // Season totals over the bytes of an input, in whatever parts they come: document 02, request 13. A run begins
 // with `lane_totals::sums::none`, takes one part after the other with `take_part`, and ends with `answer`.
+#![tactic(auto)]
+
 mod files; // files.rt: the next file in the bytes that were read
 mod run; // run.rt: the files in the bytes, one after the other
 mod parts; // parts.rt: the parts of an input, one after the other

@@ -1,5 +1,7 @@
 // The first knots of a fit, and the controls that later knots affect: the source's `seed` and
 // `regions`.
+#![tactic(auto)]
+
 mod corridor; // corridor.rt: the anchors that a corridor of slopes finds
 mod knots; // knots.rt: the knots around them
 mod regions; // regions.rt: the windows of controls that new knots affect

@@ -1,5 +1,7 @@
 // The selected axes of the source's `build`, over one lent slice: from the linear test to the final
 // audit.
+#![tactic(auto)]
+
 mod linear; // linear.rt: the linear test
 mod chord; // chord.rt: the first spline
 pub mod start; // start.rt: up to the loop

@@ -1,5 +1,7 @@
 // Walks in place over lent cells: the sort by total order, and the elements that a rule keeps moved
 // to the front.
+#![tactic(auto)]
+
 mod order;
 mod thin;
 

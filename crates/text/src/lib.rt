@@ -1,5 +1,7 @@
 // Words and whole numbers as text, put into a buffer one after the other: each function takes the place
 // where it begins and answers the place after it.
+#![tactic(auto)]
+
 ghost use Rattle.std.specs.Prelude.{◌≡◌, ◌++◌, ◌+◌, ◌≤◌, length, take, pos, ◌-ℤ◌};
 ghost use Rattle.text.specs.Decimal.{decimal_of, whole_text};
 ghost use Rattle.text.specs.Lines.{newline as Newline};

@@ -1,5 +1,7 @@
 // The program `totals`: reads lane files from standard input, one after the other, each led by its byte
 // count, and writes their totals to standard output: document 02, request 13.
+#![tactic(auto)]
+
 ghost use Rattle.std.specs.Prelude.{◌≡◌, false, List, ℕ, ◌≤◌, ◌<◌, length, take};
 ghost use Rattle.heights.specs.Weights.{weight_table};
 ghost use Rattle.lane_totals.specs.Kept.{Lent};

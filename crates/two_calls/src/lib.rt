@@ -1,1 +1,2 @@
 // Definitions and theorems only: what the answers to two calls have in common.
+#![tactic(auto)]

@@ -1,5 +1,7 @@
 // Parts of a lent slice: what a part holds, and what the slice holds after a part was written
 // (specs/Window, specs/Parts); and the two writers that every layer uses.
+#![tactic(auto)]
+
 ghost use Rattle.std.specs.Prelude.{◌≡◌, length};
 ghost use Rattle.window.specs.Cells.{zeros};
 ghost use Rattle.window.specs.Window.{copied};

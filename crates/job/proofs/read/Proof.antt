@@ -15,84 +15,76 @@ use Rattle.job.proofs.Places.{few_points, job_unread, job_above, job_bad, job_re
 use Rattle.job.proofs.read.Statement.{statement}
 use Rattle.job.proofs.read.Tie as tie
 
-returns : tie.Need-returns
+returns : tie.Need-returns-in_default
 returns c =
-    let a = c.before.before.before.before.before.args in
+    let a = c.args in
     let l = a.bytes.now in
     refused_read l a.cells.now 25
-    (job_unread l (sym c.before.before.four-counts.ensures.0 ∙ ap (read_in l) c.enum_told.given.1))
+    (job_unread l (sym c.four_counts.ensures.0 ∙ ap (read_in l) c.in_default.is))
 
 -- after the counts were read
-module _ (c : tie.After-above-limits) where
+module _ (c : tie.After-above_limits) where
   abbrev start : tie.Start
-  start = c.before.before.before.before.before.before.before
+  start = c.before.before.before.before.before
 
   abbrev bytes : List ℕ
   bytes = start.args.bytes.now
 
   abbrev next : ℕ
-  next = c.before.before.counts.given.0.1.0
+  next = c.in-Four.next
 
   abbrev counts : Counts
-  counts = c.before.before.counts.given.0.0
+  counts = c.in-Four.counts
 
   read-so : counts_form.read bytes ≡ got counts (drop next bytes)
   read-so =
-      sym c.before.before.before.before.four-counts.ensures.0 ∙ ap (read_in bytes) c.before.before.counts.given.1
+      sym c.four_counts.ensures.0 ∙ ap (read_in bytes) c.in-Four.is
 
   ended : next ≤ length bytes
   ended =
-      subst (λ (h : Head). end_of h ≤ length bytes) c.before.before.counts.given.1
-      c.before.before.before.before.four-counts.ensures.1
+      subst (λ (h : Head). end_of h ≤ length bytes) c.in-Four.is
+      c.four_counts.ensures.1
 
-returns-2 : tie.Need-returns-2
+returns-2 : tie.Need-returns-then-above_limits
 returns-2 c =
-    let g = c.before in
-    refused_read (bytes g) (start g).args.cells.now 18
-    (job_above (bytes g) (counts g) (drop (next g) (bytes g)) (read-so g) (sym g.above-limits.ensures ∙ c.if1.true))
+    refused_read (bytes c.before) (start c.before).args.cells.now 18
+    (job_above (bytes c.before) (counts c.before) (drop (next c.before) (bytes c.before)) (read-so c.before) (sym c.above_limits.ensures ∙ c.if-above_limits.true))
 
-within : (c : tie.Else1) → above_limits (counts c.before) ≡ false
-within c = sym c.before.above-limits.ensures ∙ c.if1.false
+within : (c : tie.Else-above_limits) → above_limits (counts c.before) ≡ false
+within c = sym c.above_limits.ensures ∙ c.if-above_limits.false
 
-mul-numbers : tie.Need-overflow-mul-numbers
+mul-numbers : tie.Need-overflow_mul-numbers
 mul-numbers c = let h = few_points (counts c.before.before) (within c.before) in omega (arith, h)
 
-add-numbers : tie.Need-overflow-add-numbers
+add-numbers : tie.Need-overflow_add-numbers
 add-numbers c = let h = few_points (counts c.before.before) (within c.before) in omega (arith, h)
 
-sub-if2 : tie.Need-overflow-sub-if2
+sub-if2 : tie.Need-overflow_sub-bytes
 sub-if2 c = ended c.before.before
 
-mul-if2 : tie.Need-overflow-mul-if2
+mul-if2 : tie.Need-overflow_mul-numbers-2
 mul-if2 c = let h = few_points (counts c.before.before) (within c.before) in omega (arith, h)
 
-returns-3 : tie.Need-returns-3
+returns-3 : tie.Need-returns-then-bytes-next
 returns-3 c =
-    let e = c.before.before in
-    let g = e.before in
-    let n = length-drop (next g) (bytes g) in
-    refused_read (bytes g) (start g).args.cells.now 25
-    (job_bad (bytes g) (counts g) (drop (next g) (bytes g)) (read-so g) (within e) (λ f. omega (arith, n, f, c.if2.true)))
+    let n = length-drop (next c.before.before.before) (bytes c.before.before.before) in
+    refused_read (bytes c.before.before.before) (start c.before.before.before).args.cells.now 25
+    (job_bad (bytes c.before.before.before) (counts c.before.before.before) (drop (next c.before.before.before) (bytes c.before.before.before)) (read-so c.before.before.before) (within c.before.before) (λ f. omega (arith, n, f, c.if-bytes-next.true)))
 
-part-floats-end-2 : tie.Need-slice-bounds-floats-end-2
+part-floats-end-2 : tie.Need-slice_bounds-floats-end-2
 part-floats-end-2 c =
-    let e = c.before.before.before in
-    let h = few_points (counts e.before) (within e) in omega (arith, h, (start e.before).pre)
+    let h = few_points (counts c.before.before.before.before) (within c.before.before.before) in omega (arith, h, (start c.before.before.before.before).requires)
 
-returns-4 : tie.Need-returns-4
+returns-4 : tie.Need-returns
 returns-4 c =
-    let f = c.before.before in
-    let t = f.before.before.before in
-    let e = t.before.before in
-    let g = e.before in
-    let l = bytes g in
-    let rest = drop (next g) l in
-    let cells = (start g).args.cells.now in
-    let m = 1 + (counts g).d * (counts g).n in
-    let few = few_points (counts g) (within e) in
-    done_read l cells (counts g) rest _
-    (job_read l (counts g) rest (read-so g) (within e) (omega (arith, length-drop (next g) l, t.if2.false)))
-    (put_numbers l (next g) m cells _ (omega (arith, few, (start g).requires)) (ended g) f.floats.ensures)
+    let l = bytes c.before.before.before.before.before.before.before.before in
+    let rest = drop (next c.before.before.before.before.before.before.before.before) l in
+    let cells = (start c.before.before.before.before.before.before.before.before).args.cells.now in
+    let m = 1 + (counts c.before.before.before.before.before.before.before.before).d * (counts c.before.before.before.before.before.before.before.before).n in
+    let few = few_points (counts c.before.before.before.before.before.before.before.before) (within c.before.before.before.before.before.before.before) in
+    done_read l cells (counts c.before.before.before.before.before.before.before.before) rest _
+    (job_read l (counts c.before.before.before.before.before.before.before.before) rest (read-so c.before.before.before.before.before.before.before.before) (within c.before.before.before.before.before.before.before) (omega (arith, length-drop (next c.before.before.before.before.before.before.before.before) l, c.if-bytes-next.false)))
+    (put_numbers l (next c.before.before.before.before.before.before.before.before) m cells _ (omega (arith, few, (start c.before.before.before.before.before.before.before.before).requires)) (ended c.before.before.before.before.before.before.before.before) c.floats.ensures)
 
 pub read_spec : {M : Type 1} → statement M
 read_spec =

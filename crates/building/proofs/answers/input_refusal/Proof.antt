@@ -4,14 +4,14 @@ use Rattle.building.proofs.Finished.{is}
 use Rattle.building.proofs.answers.input_refusal.Statement.{statement}
 use Rattle.building.proofs.answers.input_refusal.Tie as tie
 
-pub input-refusal-spec : {M : Type 1} → statement M
-input-refusal-spec =
+pub input_refusal_spec : {M : Type 1} → statement M
+input_refusal_spec =
     tie.close
     (tie.spec
-    (λ c. is 1 _ (omega (arith, c.match.keys1)))
-    (λ c. is 2 _ (omega (arith, c.match.keys2)))
-    (λ c. is 3 _ (omega (arith, c.match.keys3)))
-    (λ c. is 4 _ (omega (arith, c.match.keys4)))
-    (λ c. is 5 _ (omega (arith, c.match.keys5)))
-    (λ c. is 6 _ (omega (arith, c.match.keys6)))
-    (λ c. is 7 _ (omega (arith, c.match.rest, c.before.requires))))
+    (λ c. is 1 _ (omega (arith, c.in-1.is)))
+    (λ c. is 2 _ (omega (arith, c.in-2.is)))
+    (λ c. is 3 _ (omega (arith, c.in-3.is)))
+    (λ c. is 4 _ (omega (arith, c.in-4.is)))
+    (λ c. is 5 _ (omega (arith, c.in-5.is)))
+    (λ c. is 6 _ (omega (arith, c.in-6.is)))
+    (λ c. is 7 _ (omega (arith, c.in_default.rest, c.requires))))

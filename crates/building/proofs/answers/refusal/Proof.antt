@@ -6,14 +6,14 @@ use Rattle.building.proofs.Finished.{is}
 use Rattle.building.proofs.answers.refusal.Statement.{statement}
 use Rattle.building.proofs.answers.refusal.Tie as tie
 
-pub refusal-spec : {M : Type 1} → statement M
-refusal-spec =
+pub refusal_spec : {M : Type 1} → statement M
+refusal_spec =
     tie.close
     (tie.spec
     (λ c κs. search rules)
     (λ c. search rules)
     (λ c κs. search rules)
     (λ c. search rules)
-    (λ c. is 26 _ (sym (c.before.before.before.requires.2 c.if3.true)))
+    (λ c. is 26 _ (sym (c.requires.2 c.if-number-gt20.true)))
     (λ c κs. search rules)
     (λ c. search rules))

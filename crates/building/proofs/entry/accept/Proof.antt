@@ -12,10 +12,10 @@ use Rattle.building.proofs.entry.accept.Tie as tie
 
 returns : tie.Need-returns
 returns c =
-    let a = c.before.before.before.before.before.before.before.before.before.args in
-    let o = c.before.before.before.others-of.ensures in
-    let s = c.before.first.ensures a.points.now a.d in
-    let e = c.last.ensures in (
+    let a = c.args in
+    let o = c.others_of-others.ensures in
+    let s = c.first-start.ensures a.points.now a.d in
+    let e = c.last-end.ensures in (
       λ i. done (record {
         segments = a.r.computed.count - 5;
         interpolated_segments = o i;
@@ -35,8 +35,8 @@ returns c =
       },
     )
 
-pub accept-spec : {M : Type 1} → statement M
-accept-spec =
+pub accept_spec : {M : Type 1} → statement M
+accept_spec =
     tie.close
     (tie.spec
     (λ c. search rules)

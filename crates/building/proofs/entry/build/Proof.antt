@@ -24,7 +24,7 @@ use Rattle.building.proofs.entry.build.Tie as tie
 abbrev lane : tie.Start → Lane
 lane s =
     let a = s.args in
-    lane_of a.d a.n a.axes a.axis-list.now a.tolerance a.tolerance-list.now a.spacing a.parameters.now
+    lane_of a.d a.n a.axes a.axis_list.now a.tolerance a.tolerance_list.now a.spacing a.parameters.now
     a.points.now
 
 abbrev limits : tie.Start → Limits
@@ -42,43 +42,41 @@ abbrev answer : tie.Start → Answer Result
 answer s = answer_to (lane s) (limits s) (work s) (lent s)
 
 -- the number of the first three checks
-abbrev start : tie.After-refusal-first → tie.Start
+abbrev start : tie.After-refusal_first-number → tie.Start
 start c = c.before.before.before.before.before.before.before.before.before.before.before
 
-told : (c : tie.After-refusal-first) → let s = start c in
-    c.refusal-first.result ≡ refusal_first (lengths_of (work s) (lent s)) (lane s) (limits s)
-told c = c.refusal-first.ensures (lane (start c)) refl refl refl
+told : (c : tie.After-refusal_first-number) → let s = start c in
+    c.refusal_first-number.result ≡ refusal_first (lengths_of (work s) (lent s)) (lane s) (limits s)
+told c = c.refusal_first-number.ensures (lane (start c)) refl refl refl
 
-refused-first : (c : tie.After-refusal-first) → 0 < c.refusal-first.result
-    → (answer (start c) ≡ refused c.refusal-first.result) × First c.refusal-first.result
+refused-first : (c : tie.After-refusal_first-number) → 0 < c.refusal_first-number.result
+    → (answer (start c) ≡ refused c.refusal_first-number.result) × First c.refusal_first-number.result
 refused-first c h =
     let s = start c in
     subst (λ (n : ℕ). (answer s ≡ refused n) × First n) (sym (told c))
     (first_refused_law (lane s) (limits s) (work s) (lent s) (omega (arith, h, told c)))
 
 refuse-requires : tie.Need-refuse-requires
-refuse-requires c κs = first_known c.before.refusal-first.result (refused-first c.before c.if1.true).1
+refuse-requires c κs = first_known c.refusal_first-number.result (refused-first c.before c.if-number-gt0.true).1
 
-returns : tie.Need-returns
+returns : tie.Need-returns-then-number-gt0
 returns c =
-    let g = c.before.before in
-    let s = start g in
-    let h = refused-first g c.before.if1.true in
-    turned_away (answer s) g.refusal-first.result s.args.mode s.args.d _ _ (work s) (lent s) h.0 h.1 c.refuse.ensures
+    let s = start c.before.before in
+    let h = refused-first c.before.before c.if-number-gt0.true in
+    turned_away (answer s) c.refusal_first-number.result s.args.mode s.args.d _ _ (work s) (lent s) h.0 h.1 c.refuse.ensures
 
 -- none of them holds
-module _ (c : tie.Else1) where
+module _ (c : tie.Else-number-gt0) where
   abbrev begun : tie.Start
   begun = start c.before
 
   none : refusal_first (lengths_of (work begun) (lent begun)) (lane begun) (limits begun) ≡ 0
-  none = sym (told c.before) ∙ omega (arith, c.if1.false)
+  none = sym (told c.before) ∙ omega (arith, c.if-number-gt0.false)
 
-finish-requires : tie.Need-finish-requires
+finish-requires : tie.Need-finish-built-requires
 finish-requires c κs =
-    let t = c.before.before.before.before.before.before in
-    let s = begun t in
-    let z = sized (lengths_of (work s) (lent s)) (lane s) (limits s) (none t) in
+    let s = begun c.before.before.before.before.before.before in
+    let z = sized (lengths_of (work s) (lent s)) (lane s) (limits s) (none c.before.before.before.before.before.before) in
     let d = in_domain (lane s) (limits s) z.narrow in
     let r = has_room (lengths_of (work s) (lent s)) (lane s) (limits s) z.roomy in (
       record {
@@ -92,21 +90,19 @@ finish-requires c κs =
       record { breaks = r.1; coefficients = r.2; other_breaks = r.3; other_coefficients = r.4; errors = r.5 },
     )
 
-returns-2 : tie.Need-returns-2
+returns-2 : tie.Need-returns
 returns-2 c =
-    let z = c.before.before.before.before.before.before.before.before.before.before.before.before.before.before.before in
-    let t = z.before.before.before.before.before.before.before.before in
-    let s = begun t in
-    let f = z.before.finish in
-    let l : length f.new.1.1.1.1.1.1.1.1.1.1.1.0 ≡ length (work s) = omega (arith, z.work.given) in
+    let s = begun c.before.before.before.before.before.before.before.before.before.before.before.before.before.before.before.before.before.before.before.before.before.before.before in
+    let f = c.finish-built in
+    let l : length f.new.d.1.1.1.1.1.1.1.1.1.1.0 ≡ length (work s) = omega (arith, c.work-1.given) in
     went_on (answer s) (checked_of (lane s) (limits s)) s.args.mode s.args.d _ _ (work s) _ (lent s) _
-    (answer_on (lane s) (limits s) (work s) (lent s) (none t))
+    (answer_on (lane s) (limits s) (work s) (lent s) (none c.before.before.before.before.before.before.before.before.before.before.before.before.before.before.before.before.before.before.before.before.before.before.before))
     f.ensures.0 f.ensures.1.0
-    (c.before.before.clear.ensures ∙ ap zeros l ∙ work_cleared (lane s) (limits s) (work s))
+    (c.clear.ensures ∙ ap zeros l ∙ work_cleared (lane s) (limits s) (work s))
     f.ensures.1.1
 
-pub build-spec : {M : Type 1} → statement M
-build-spec =
+pub build_spec : {M : Type 1} → statement M
+build_spec =
     tie.close
     (tie.spec
     (λ c κs. search rules)

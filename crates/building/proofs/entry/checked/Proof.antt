@@ -15,29 +15,28 @@ use Rattle.building.proofs.entry.checked.Tie as tie
 abbrev lane : tie.Start → Lane
 lane s =
     let a = s.args in
-    lane_of a.d a.n a.axes a.axis-list.now a.tolerance a.tolerance-list.now a.spacing a.parameters.now
+    lane_of a.d a.n a.axes a.axis_list.now a.tolerance a.tolerance_list.now a.spacing a.parameters.now
     a.points.now
 
-returns : tie.Need-returns
+returns : tie.Need-returns-then-number-gt0
 returns c =
-    let s = c.before.before.before.before.before.before.before.before in
-    let f = c.before.before.refusal-before in
-    let l = lane s in
+    let f = c.refusal_before-number in
+    let l = lane c.before.before.before.before.before.before.before.before in
     let e : f.result ≡ refusal_before l = f.ensures in
-    let g = c.before.if1.true in
+    let g = c.if-number-gt0.true in
     record {
       is = ended_refused _ _ f.result c.stopped.ensures ∙ ap refused e
-          ∙ sym (stops_early l (limits_of s.args.limits) (omega (arith, e, g)));
+          ∙ sym (stops_early l (limits_of c.args.limits) (omega (arith, e, g)));
       places = λ z. absurd (refused_not_done _ _ c.stopped.ensures z);
     }
 
 gather-requires : tie.Need-gather-requires
 gather-requires c κs =
-    let f = c.before.before.refusal-before in
-    (c.before.before.before.before.before.before.before.before.requires, sym f.ensures ∙ omega (arith, c.before.if1.false))
+    let f = c.refusal_before-number in
+    (c.requires, sym f.ensures ∙ omega (arith, c.if-number-gt0.false))
 
-pub checked-spec : {M : Type 1} → statement M
-checked-spec =
+pub checked_spec : {M : Type 1} → statement M
+checked_spec =
     tie.close
     (tie.spec
     (λ c κs. search rules)

@@ -28,7 +28,7 @@ use Rattle.building.proofs.entry.finish.Tie as tie
 abbrev lane : tie.Start → Lane
 lane s =
     let a = s.args in
-    lane_of a.d a.n a.axes a.axis-list.now a.tolerance a.tolerance-list.now a.spacing a.parameters.now
+    lane_of a.d a.n a.axes a.axis_list.now a.tolerance a.tolerance_list.now a.spacing a.parameters.now
     a.points.now
 
 abbrev limits : tie.Start → Limits
@@ -40,19 +40,19 @@ lent s =
     results a.breaks.now a.coefficients.now a.other_breaks.now a.other_coefficients.now a.errors.now
 
 -- what was computed, and where it began
-abbrev origin : tie.After-checked → tie.Start
+abbrev origin : tie.After-checked-r → tie.Start
 origin g = g.before.before.before.before.before.before.before.before.before.before.before.before
 
 -- the run is done
-module _ (c : tie.After-enum-told) where
-  abbrev run : tie.After-checked
-  run = c.before.before.before.before.before
+module _ (c : tie.In-Done) where
+  abbrev run : tie.After-checked-r
+  run = c.before.before.before.before
 
   abbrev r : Run
-  r = run.checked.result
+  r = run.checked-r.result
 
   abbrev after : List Float
-  after = run.checked.last.1.1.1.1.1.1.1.1.1.1.0
+  after = run.checked-r.new.d.1.1.1.1.1.1.1.1.1.0
 
   abbrev begun : tie.Start
   begun = origin run
@@ -67,44 +67,43 @@ module _ (c : tie.After-enum-told) where
   most = max begun.args.n begun.args.limits.segments + 16
 
   places : BothPlaced l m r (length after)
-  places = run.checked.ensures.places c.enum_told.given.1
+  places = run.checked-r.ensures.places c.in-Done.is
 
   long : length after ≡ length begun.args.work.now
-  long = omega (arith, c.before.before.before.before.work.given)
+  long = omega (arith, c.work-1.given)
 
   sum : r.j + r.k ≡ begun.args.d
   sum = omega (arith, places.k_is, places.j_is, places.all_axes)
 
   fits : (e k j : ℕ) → e ≡ most → j + k ≡ begun.args.d → 14 * e + 10 * (e * k) + (10 * e + 8 * (e * j)) ≤ length after
-  fits e k j h g = work_fits e k j begun.args.d (length after) g (rw (h, long) begun.pre.0.work_fits)
+  fits e k j h g = work_fits e k j begun.args.d (length after) g (rw (h, long) begun.requires.0.work_fits)
 
   both-fit : 14 * most + 10 * (most * axis_count l) + (10 * most + 8 * (most * length (other_axes l))) ≤ length after
   both-fit = fits most (axis_count l) (length (other_axes l)) refl places.all_axes
 
   told : checked_of l m ≡ done (x l m r after places)
-  told = both_done l m _ _ (sym run.checked.ensures.is ∙ ended_done _ _ c.enum_told.given.1)
+  told = both_done l m _ _ (sym run.checked-r.ensures.is ∙ ended_done _ _ c.in-Done.is)
 
-write-results-requires : tie.Need-write-results-requires
+write-results-requires : tie.Need-write_results-requires
 write-results-requires c κs =
-    let t = c.before.before.before.before.before.before.before in
-    let s = begun t in
-    let P = places t in
-    let r = r t in
-    let e = c.before.before.before.before.before.before.room_of in
-    let F = s.pre.1 in
-    let k : r.k ≤ s.args.d = omega (arith, sum t) in
-    let j : r.j ≤ s.args.d = omega (arith, sum t) in
+    let s = begun c.before.before.before.before.before.before in
+    let P = places c.before.before.before.before.before.before in
+    let r = r c.before.before.before.before.before.before in
+    let e = c.room_of-room in
+    let F = s.requires.1 in
+    let k : r.k ≤ s.args.d = omega (arith, sum c.before.before.before.before.before.before) in
+    let j : r.j ≤ s.args.d = omega (arith, sum c.before.before.before.before.before.before) in
     let two = P.roomy.six in
     let rows : (r.computed.count - 5) * (6 * r.k) ≤ s.args.limits.segments * (6 * s.args.d) =
     mul-le-mul (omega (arith, P.few)) (omega (arith, k)) in
     let others : r.computed.other_segments * (6 * r.j) ≤ s.args.n * (6 * s.args.d) =
     mul-le-mul (omega (arith, P.others_few)) (omega (arith, j)) in
-    let plan : ◌≡◌ {A = Plan} (sized (plan_of (l t) (m t)) r.computed.count) _ =
+    let plan : ◌≡◌ {A = Plan} (sized (plan_of (l c.before.before.before.before.before.before) (m c.before.before.before.before.before.before)) r.computed.count) _ =
     λ i. record { axes = sym P.k_is i; samples = s.args.n; room = sym e.ensures i; count = r.computed.count } in
     record {
-      roomy = subst (λ (p : Plan). Roomy p (length (after t))) plan P.roomy;
-      others_fit = fits t e.result r.k r.j e.ensures (sum t);
-      others_few = omega (arith, j, s.pre.0.d_most);
+      roomy = subst (λ (p : Plan). Roomy p (length (after c.before.before.before.before.before.before))) plan P.roomy;
+      others_fit = fits c.before.before.before.before.before.before e.result r.k r.j e.ensures (sum c.before.before.before.before.before.before);
+      others_few = omega (arith, j, s.requires.0.d_most);
       waypoints_fit = omega (arith, e.ensures);
       segments_few = P.others_few;
       breaks = omega (arith, F.breaks, P.few, two);
@@ -116,28 +115,25 @@ write-results-requires c κs =
 
 accept-requires : tie.Need-accept-requires
 accept-requires c κs =
-    let h = c.before.before.before.before.before.before.before.before.before in
-    let t = h.before.before.before.before.before.before.before.before.before in
-    let P = places t in
-    let cells = (begun t).requires.0.points_are in
-    (P.two, (begun t).requires.0.n_most, omega (arith, P.roomy.six), omega (arith, cells), P.listed)
+    let P = places c.before.before.before.before.before.before.before.before.before.before.before.before.before.before.before.before.before in
+    let cells = (begun c.before.before.before.before.before.before.before.before.before.before.before.before.before.before.before.before.before).requires.0.points_are in
+    (P.two, (begun c.before.before.before.before.before.before.before.before.before.before.before.before.before.before.before.before.before).requires.0.n_most, omega (arith, P.roomy.six), omega (arith, cells), P.listed)
 
 -- the results were written
-abbrev roomed : tie.After-accept → tie.After-room-of
+abbrev roomed : tie.After-accept → tie.After-room_of-room
 roomed c =
-    let h = c.before.before.before.before.before.before.before.before.before in
-    h.before.before.before.before.before.before.before.before.before
+    c.before.before.before.before.before.before.before.before.before.before.before.before.before.before.before.before.before
 
-same_length : tie.Need-same-length
+same_length : tie.Need-shape_of-work-in-Done
 same_length c = omega (arith, long (roomed c).before)
 
-returns : tie.Need-returns
+returns : tie.Need-returns-in-Done
 unfolding reported curve_after
 returns c =
     let t = (roomed c).before in
     let s = begun t in
     let P = places t in
-    let w = c.before.before.before.before.before.before.before.before.before.before.before.write-results in
+    let w = c.write_results in
     let e = (roomed c).room_of in
     let g = both-fit t in
     let plan : ◌≡◌ {A = Plan} _ (sized (plan_of (l t) (m t)) (r t).computed.count) =
@@ -154,18 +150,16 @@ returns c =
 -- a run that was turned away
 refuse-requires : tie.Need-refuse-requires
 refuse-requires c κs =
-    let g = c.before.before.before.before.before.before in
-    let s = origin g in
-    let k = both_known (lane s) (limits s) _ (sym g.checked.ensures.is ∙ ended_refused _ _ _ c.before.ending.given.1) in
+    let s = origin c.before.before.before.before in
+    let k = both_known (lane s) (limits s) _ (sym c.checked-r.ensures.is ∙ ended_refused _ _ _ c.in-Refused.is) in
     (k.0, k.1, λ h. k.2 (omega arith))
 
-returns-2 : tie.Need-returns-2
+returns-2 : tie.Need-returns-in-Refused
 unfolding reported curve_after results_after
 returns-2 c =
-    let g = c.before.before.before.before.before.before.before in
-    let s = origin g in
+    let s = origin c.before.before.before.before.before in
     let h : checked_of (lane s) (limits s) ≡ refused _ =
-    both_refused (lane s) (limits s) _ (sym g.checked.ensures.is ∙ ended_refused _ _ _ c.before.before.ending.given.1) in (
+    both_refused (lane s) (limits s) _ (sym c.checked-r.ensures.is ∙ ended_refused _ _ _ c.in-Refused.is) in (
       c.refuse.ensures.0 ∙ ap reported (sym h),
       (
         c.refuse.ensures.1 ∙ ap (curve_after s.args.mode s.args.d) (sym h),
@@ -173,16 +167,15 @@ returns-2 c =
       ),
     )
 
-returns-3 : tie.Need-returns-3
+returns-3 : tie.Need-returns-in-Exhausted
 unfolding reported curve_after results_after
 returns-3 c =
-    let g = c.before.before.before.before.before.before.before in
-    let s = origin g in
+    let s = origin c.before.before.before.before.before in
     let h : checked_of (lane s) (limits s) ≡ exhausted _ =
-    both_exhausted (lane s) (limits s) _ (sym g.checked.ensures.is ∙ ended_exhausted _ _ _ c.before.before.ending2.given.1) in (
+    both_exhausted (lane s) (limits s) _ (sym c.checked-r.ensures.is ∙ ended_exhausted _ _ _ c.in-Exhausted.is) in (
       ap reported (sym h),
       (
-        c.no-curve.ensures ∙ ap (curve_after s.args.mode s.args.d) (sym h),
+        c.no_curve-curve.ensures ∙ ap (curve_after s.args.mode s.args.d) (sym h),
         ap (λ (z : Answer Result). results_after z (lent s)) (sym h),
       ),
     )

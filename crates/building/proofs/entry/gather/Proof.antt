@@ -22,77 +22,74 @@ use Rattle.building.proofs.entry.gather.Tie as tie
 abbrev lane : tie.Start → Lane
 lane s =
     let a = s.args in
-    lane_of a.d a.n a.axes a.axis-list.now a.tolerance a.tolerance-list.now a.spacing a.parameters.now
+    lane_of a.d a.n a.axes a.axis_list.now a.tolerance a.tolerance_list.now a.spacing a.parameters.now
     a.points.now
 
 passed : (s : tie.Start) → refusal_before (lane s) ≡ 0
 passed s = s.requires.1
 
-chosen-requires : tie.Need-chosen-requires
+chosen-requires : tie.Need-chosen-chosen-requires
 chosen-requires c κs =
-    let s = c.before.before.before.before.before in
-    let a = s.args in
-    let g = axes_count (lane s) (passed s) in
-    let d = s.requires.0.d_most in
-    (d, λ e. omega (arith, g, listed_count a.axis-list.now a.d a.axes e, d))
+    let a = c.args in
+    let g = axes_count (lane c.before.before.before.before.before) (passed c.before.before.before.before.before) in
+    let d = c.requires.0.d_most in
+    (d, λ e. omega (arith, g, listed_count a.axis_list.now a.d a.axes e, d))
 
 -- the axes that were chosen
-abbrev begun : tie.After-chosen → tie.Start
+abbrev begun : tie.After-chosen-chosen → tie.Start
 begun c = c.before.before.before.before.before.before
 
-picked : (c : tie.After-chosen) → Picked (lane (begun c)) c.chosen.result.count c.chosen.result.axes
+picked : (c : tie.After-chosen-chosen) → Picked (lane (begun c)) c.chosen-chosen.result.count c.chosen-chosen.result.axes
 picked c =
     record {
       passed = passed (begun c);
       small = (begun c).requires.0.d_most;
-      count = c.chosen.ensures.0;
-      cells = c.chosen.ensures.1;
+      count = c.chosen-chosen.ensures.0;
+      cells = c.chosen-chosen.ensures.1;
     }
 
-tolerances-of-requires : tie.Need-tolerances-of-requires
+tolerances-of-requires : tie.Need-tolerances_of-eps-requires
 tolerances-of-requires c κs =
-    let g = c.before in
-    let s = begun g in
+    let s = begun c.before in
     let a = s.args in
     let l = lane s in (
-      k_few (picked g),
+      k_few (picked c.before),
       λ e.
-          let i = per_axis_count a.tolerance a.tolerance-list.now (axis_count l) e in
-          omega (arith, tolerances_count l (passed s), i, g.chosen.ensures.0),
+          let i = per_axis_count a.tolerance a.tolerance_list.now (axis_count l) e in
+          omega (arith, tolerances_count l (passed s), i, c.chosen-chosen.ensures.0),
     )
 
-others-requires : tie.Need-others-requires
-others-requires c κs = let g = c.before.before.before.before in (k_few (picked g), (begun g).requires.0.d_most)
+others-requires : tie.Need-others-rest-requires
+others-requires c κs = (k_few (picked c.before.before.before.before), (begun c.before.before.before.before).requires.0.d_most)
 
 -- and those left over
-module _ (c : tie.After-others) where
-  abbrev first : tie.After-chosen
+module _ (c : tie.After-others-rest) where
+  abbrev first : tie.After-chosen-chosen
   first = c.before.before.before.before.before
 
   abbrev start : tie.Start
   start = begun first
 
   abbrev k : ℕ
-  k = first.chosen.result.count
+  k = first.chosen-chosen.result.count
 
   abbrev j : ℕ
-  j = c.others.result.count
+  j = c.others-rest.result.count
 
-  parted : Parted (lane start) k first.chosen.result.axes j c.others.result.axes
-  parted = record { first = picked first; count = c.others.ensures.0; cells = c.others.ensures.1 }
+  parted : Parted (lane start) k first.chosen-chosen.result.axes j c.others-rest.result.axes
+  parted = record { first = picked first; count = c.others-rest.ensures.0; cells = c.others-rest.ensures.1 }
 
-compute-requires : tie.Need-compute-requires
+compute-requires : tie.Need-compute-computed-requires
 compute-requires c κs =
-    let o = c.before.before.before.before.before.before in
-    let s = start o in
-    let D = s.pre.0 in
-    let r = c.before.before.before.before.room_of in
+    let s = start c.before.before.before.before.before.before in
+    let D = s.requires.0 in
+    let r = c.room_of-room in
     let e : r.result ≡ max s.args.n s.args.limits.segments + 16 = r.ensures in
-    let sum = j_sum (parted o) in
-    let fit = work_fits r.result (k o) (j o) s.args.d (length s.args.work.now) sum (rw e D.work_fits) in
-    let R : Roomy (record { axes = k o; samples = s.args.n; room = r.result; count = 6 }) (length s.args.work.now) =
+    let sum = j_sum (parted c.before.before.before.before.before.before) in
+    let fit = work_fits r.result (k c.before.before.before.before.before.before) (j c.before.before.before.before.before.before) s.args.d (length s.args.work.now) sum (rw e D.work_fits) in
+    let R : Roomy (record { axes = k c.before.before.before.before.before.before; samples = s.args.n; room = r.result; count = 6 }) (length s.args.work.now) =
     record {
-      few = k_few (picked (first o));
+      few = k_few (picked (first c.before.before.before.before.before.before));
       six = omega arith;
       knots_fit = omega arith;
       waypoints_fit = omega arith;
@@ -107,8 +104,8 @@ compute-requires c κs =
           omega (arith, sum, D.d_most),
           D.n_most,
           omega (arith, D.points_are),
-          others_below (parted o),
-          picked_below (picked (first o)),
+          others_below (parted c.before.before.before.before.before.before),
+          picked_below (picked (first c.before.before.before.before.before.before)),
         ),
         listed_long (lane s) (passed s),
       ),
@@ -116,38 +113,37 @@ compute-requires c κs =
 
 returns : tie.Need-returns
 returns c =
-    let v = c.before.before.compute in
-    let o = c.before.before.before.before.before.before.before.before.before in
-    let t = o.before.before.before.tolerances-of in
-    let s = start o in
+    let v = c.compute-computed in
+    let t = c.tolerances_of-eps in
+    let s = start c.before.before.before.before.before.before.before.before.before in
     let l = lane s in
-    let r = c.before.before.before.before.before.before.before.room_of in
-    let count = (first o).chosen.ensures.0 in
-    let plan : ◌≡◌ {A = Plan} (record { axes = k o; samples = s.args.n; room = r.result; count = 6 })
+    let r = c.room_of-room in
+    let count = (first c.before.before.before.before.before.before.before.before.before).chosen.ensures.0 in
+    let plan : ◌≡◌ {A = Plan} (record { axes = k c.before.before.before.before.before.before.before.before.before; samples = s.args.n; room = r.result; count = 6 })
     (plan_of l (limits_of s.args.limits)) =
     λ i. record { axes = count i; samples = s.args.n; room = r.ensures i; count = 6 } in
     record {
       is =
-          (λ i. computed_in (sym plan i) (sym (j_is (parted o)) i) v.result v.new.0)
+          (λ i. computed_in (sym plan i) (sym (j_is (parted c.before.before.before.before.before.before.before.before.before)) i) v.result v.new.work)
           ∙ v.ensures.0
-          ∙ all_is (parted o) t.result.cells t.ensures (limits_of s.args.limits);
+          ∙ all_is (parted c.before.before.before.before.before.before.before.before.before) t.result.cells t.ensures (limits_of s.args.limits);
       places = λ e.
           let p = v.ensures.1 e in
           record {
             k_is = count;
-            j_is = j_is (parted o);
+            j_is = j_is (parted c.before.before.before.before.before.before.before.before.before);
             two = two_waypoints l (passed s);
             listed = listed_long l (passed s);
             all_axes = axes_count l (passed s);
-            axes_are = (first o).chosen.ensures.1;
-            roomy = subst (λ (q : Plan). Roomy (sized q v.result.count) (length v.new.0)) plan p.0;
+            axes_are = (first c.before.before.before.before.before.before.before.before.before).chosen.ensures.1;
+            roomy = subst (λ (q : Plan). Roomy (sized q v.result.count) (length v.new.work)) plan p.0;
             few = p.1;
             others_few = p.2;
           };
     }
 
-pub gather-spec : {M : Type 1} → statement M
-gather-spec =
+pub gather_spec : {M : Type 1} → statement M
+gather_spec =
     tie.close
     (tie.spec
     chosen-requires

@@ -19,13 +19,11 @@ use Rattle.work_slice.proofs.Copying.{tail_is}
 use Rattle.building.proofs.entry.write_results.Statement.{statement}
 use Rattle.building.proofs.entry.write_results.Tie as tie
 
-put-other-requires : tie.Need-put-other-requires
+put-other-requires : tie.Need-put_other-requires
 put-other-requires c κs =
-    let h = c.before.before.before.before.before.before.before.before.before in
-    let s = h.before.before.before.before.before.before.before.before in
-    let w = s.args.work.now in
-    let W = s.requires in
-    let l = length_window (cells_of s.args.p) (length w) w W.roomy.cells_fit (omega arith) in (
+    let w = c.args.work.now in
+    let W = c.requires in
+    let l = length_window (cells_of c.args.p) (length w) w W.roomy.cells_fit (omega arith) in (
       W.others_few,
       W.segments_few,
       W.waypoints_fit,
@@ -37,20 +35,17 @@ put-other-requires c κs =
 
 returns : tie.Need-returns
 returns c =
-    let o = c.before.before.before.before.before.before.before.before.before.before in
-    let p = o.before.before.before.before.before.before.before.before in
-    let s = p.before.before.before.before.before.before.before.before.before.before in
-    let a = s.args in
+    let a = c.args in
     let other : List Float → Polynomial Float = other_in a.p.samples a.j a.p.room a.c.other_segments in
-    let t = tail_is (cells_of a.p) a.work.now s.requires.roomy.cells_fit in
-    let breaks = o.put_other.ensures.0 ∙ ap (λ (w : List Float). onto (other w).breaks a.other_breaks.now) t in
-    let rest = o.put_other.ensures.1
+    let t = tail_is (cells_of a.p) a.work.now c.requires.roomy.cells_fit in
+    let breaks = c.put_other.ensures.0 ∙ ap (λ (w : List Float). onto (other w).breaks a.other_breaks.now) t in
+    let rest = c.put_other.ensures.1
     ∙ ap (λ (w : List Float). onto (with_widths (other w).breaks (other w).coefficients) a.other_coefficients.now) t in
-    λ i. results (p.put-selected.ensures.0 i) (p.put-selected.ensures.1 i) (breaks i) (rest i)
-    (c.before.before.put-errors.ensures i)
+    λ i. results (c.put_selected.ensures.0 i) (c.put_selected.ensures.1 i) (breaks i) (rest i)
+    (c.put_errors.ensures i)
 
-pub write-results-spec : {M : Type 1} → statement M
-write-results-spec =
+pub write_results_spec : {M : Type 1} → statement M
+write_results_spec =
     tie.close
     (tie.spec
     (λ c. search rules)

@@ -15,12 +15,12 @@ use Rattle.heights.proofs.entry.heights.Tie as tie
 abbrev four : tie.Start → Slices
 four s = slices s.args.breaks.now s.args.coefficients.now s.args.other_breaks.now s.args.other_coefficients.now
 
-abbrev start : tie.After-well-formed → tie.Start
+abbrev start : tie.After-well_formed-2 → tie.Start
 start c = c.before.before.before.before.before
 
 -- the curve is well formed
 good : (c : tie.Else-not-well_formed) → well_formed (start c.before).args.curve (four (start c.before)) ≡ true
-good c = sym c.well-formed-2.ensures ∙ not-false _ c.if-not-well_formed.false-raw
+good c = sym c.well_formed-2.ensures ∙ not-false _ c.if-not-well_formed.false-raw
 
 few : (c : tie.Else-not-well_formed) → (start c.before).args.curve.d ≤ 16
 few c = (formed (start c.before).args.curve (four (start c.before)) (good c)).d_high
@@ -29,7 +29,7 @@ returns : tie.Need-returns-then-not-well_formed
 returns c =
     let s = start c.before in
     answered s.args.curve (four s) s.args.axis _ s.args.out.now
-    (malformed s.args.curve (four s) s.args.axis s.args.out.now (sym c.well-formed-2.ensures
+    (malformed s.args.curve (four s) s.args.axis s.args.out.now (sym c.well_formed-2.ensures
     ∙ not-true _ c.if-not-well_formed.true-raw))
 
 returns-2 : tie.Need-returns-then-d-axis

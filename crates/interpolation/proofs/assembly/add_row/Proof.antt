@@ -10,15 +10,14 @@ use Rattle.interpolation.proofs.assembly.add_row.Tie as tie
 
 returns : tie.Need-returns
 returns c =
-    let s = c.before.before.before.before.before in
-    let q = s.args.q in
-    let w = s.args.work.now in
-    let v = c.before.before.add in
-    let fills : length v.new.0 ≡ size_of q.count q.axes = omega arith in
-    (arrays_kept q w s.requires.0 v.new.0 fills, system_written q w s.requires.0 v.new.0 fills ∙ v.ensures)
+    let q = c.args.q in
+    let w = c.args.work.now in
+    let v = c.add in
+    let fills : length v.new.sys ≡ size_of q.count q.axes = omega arith in
+    (arrays_kept q w c.requires.0 v.new.sys fills, system_written q w c.requires.0 v.new.sys fills ∙ v.ensures)
 
-pub add-row-spec : {M : Type 1} → statement M
-add-row-spec =
+pub add_row_spec : {M : Type 1} → statement M
+add_row_spec =
     tie.close
     (tie.spec
     (λ c. search rules)

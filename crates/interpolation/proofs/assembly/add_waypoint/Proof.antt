@@ -10,19 +10,18 @@ use Rattle.interpolation.proofs.Turns.{waypoint_start}
 use Rattle.interpolation.proofs.assembly.add_waypoint.Statement.{statement}
 use Rattle.interpolation.proofs.assembly.add_waypoint.Tie as tie
 
-add-row-requires : tie.Need-add-row-requires
+add-row-requires : tie.Need-add_row-requires
 add-row-requires c κs =
-    let s = c.before.before.before.before in
-    let x = arrays_at s.args.q s.args.work.now in
-    let e = ap (λ (r : Row). r.start) c.before.waypoint-row.ensures in
-    (s.requires.0, omega (arith, e, waypoint_start x s.args.i (omega arith)))
+    let x = arrays_at c.args.q c.args.work.now in
+    let e = ap (λ (r : Row). r.start) c.waypoint_row-row.ensures in
+    (c.requires.0, omega (arith, e, waypoint_start x c.args.i (omega arith)))
 
 returns : tie.Need-returns
 returns c =
-    let a = c.before.before.before.before.before.before.before.args in
-    let v = c.before.before.add_row.ensures in
-    let e = c.before.before.before.before.waypoint-row.ensures in
+    let a = c.args in
+    let v = c.add_row.ensures in
+    let e = c.waypoint_row-row.ensures in
     (v.0, v.1 ∙ ap (λ (r : Row). add_of 0 a.q.count a.q.axes r (system_in a.q a.work.now)) e)
 
-pub add-waypoint-spec : {M : Type 1} → statement M
-add-waypoint-spec = tie.close (tie.spec (λ c κs. search rules) add-row-requires (λ c. search rules) returns)
+pub add_waypoint_spec : {M : Type 1} → statement M
+add_waypoint_spec = tie.close (tie.spec (λ c κs. search rules) add-row-requires (λ c. search rules) returns)

@@ -4,21 +4,19 @@ use Rattle.interpolation.proofs.Knots.{first_knots_law, inner_knots_law, last_kn
 use Rattle.interpolation.proofs.assembly.knot.Statement.{statement}
 use Rattle.interpolation.proofs.assembly.knot.Tie as tie
 
-returns : tie.Need-returns
+returns : tie.Need-returns-then-j-lt6
 returns c =
-    let s = c.before in first_knots_law s.args.s.now s.args.n s.requires.0 s.requires.1 s.args.j c.if1.true
+    first_knots_law c.args.s.now c.args.n c.requires.0 c.requires.1 c.args.j c.if-j-lt6.true
 
-returns-2 : tie.Need-returns-2
+returns-2 : tie.Need-returns-then-j-n
 returns-2 c =
-    let p = c.before.before in
-    let s = p.before in
-    inner_knots_law s.args.s.now s.args.n s.requires.0 s.requires.1 s.args.j p.if1.false c.before.if2.true
+    inner_knots_law c.args.s.now c.args.n c.requires.0 c.requires.1 c.args.j c.if-j-lt6.false c.if-j-n.true
 
-returns-3 : tie.Need-returns-3
+returns-3 : tie.Need-returns
 returns-3 c =
-    let s = c.before.before in last_knots s.args.s.now s.args.n s.requires.0 s.requires.1 s.args.j c.if2.false s.requires.2
+    last_knots c.args.s.now c.args.n c.requires.0 c.requires.1 c.args.j c.if-j-n.false c.requires.2
 
-pub knot-spec : {M : Type 1} → statement M
-knot-spec =
+pub knot_spec : {M : Type 1} → statement M
+knot_spec =
     tie.close
     (tie.spec returns (λ c. search rules) (λ c. search rules) (λ c. search rules) (λ c. search rules) returns-2 returns-3)

@@ -6,18 +6,17 @@ use Rattle.interpolation.proofs.assembly.prepare.Tie as tie
 
 returns : tie.Need-returns
 returns c =
-    let s = c.before.before.before.before.before.before.before.before.before.before.before.before.before in
-    let q = s.args.q in
-    let w = s.args.work.now in
-    let k = c.before.before.before.before.before.before.before.before.before.before.put-knots in
-    let v₁ = c.before.before.before.before.before.before.clear in
-    let v₂ = c.before.before.clear2 in (
-      arrays_prepared q w s.requires k.new.0 v₁.new.0 v₂.new.0 k.ensures v₁.ensures v₂.ensures,
-      system_cleared q w s.requires k.new.0 v₁.new.0 v₂.new.0 k.ensures v₁.ensures v₂.ensures,
+    let q = c.args.q in
+    let w = c.args.work.now in
+    let k = c.put_knots in
+    let v₁ = c.clear in
+    let v₂ = c.clear-2 in (
+      arrays_prepared q w c.requires k.new.work v₁.new.s v₂.new.s k.ensures v₁.ensures v₂.ensures,
+      system_cleared q w c.requires k.new.work v₁.new.s v₂.new.s k.ensures v₁.ensures v₂.ensures,
     )
 
-pub prepare-spec : {M : Type 1} → statement M
-prepare-spec =
+pub prepare_spec : {M : Type 1} → statement M
+prepare_spec =
     tie.close
     (tie.spec
     (λ c κs. search rules)

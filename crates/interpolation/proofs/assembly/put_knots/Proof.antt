@@ -11,53 +11,50 @@ use Rattle.interpolation.proofs.Knots.{knots_long, partly, none_written, next_wr
 use Rattle.interpolation.proofs.assembly.put_knots.Statement.{statement}
 use Rattle.interpolation.proofs.assembly.put_knots.Tie as tie
 
-abbrev invariant-loop : tie.invariant-loop
+abbrev invariant-loop : tie.invariant-loop-j
 invariant-loop work₀ n s s-end t count j₀ work j =
     (j ≤ count) × (length work ≡ length work₀) × (work ≡ partly work₀ (open_knots (window 1 (n - 1) (window s s-end work₀))) t j)
 
-abbrev decreases-loop : tie.decreases-loop
+abbrev decreases-loop : tie.decreases-loop-j
 decreases-loop work₀ n s s-end t count j₀ work j = count - j
 
-loop-holds : tie.Need-loop-init invariant-loop decreases-loop
+loop-holds : tie.Need-loop-j-init invariant-loop decreases-loop
 loop-holds c =
-    let a = c.before.before.args in
+    let a = c.args in
     let w = a.work.now in
     (omega arith, refl, none_written w (open_knots (window 1 (a.q.samples - 1) (arrays_at a.q w).s)) a.q.knots)
 
-knot-requires : tie.Need-knot-requires invariant-loop decreases-loop
+knot-requires : tie.Need-knot-v-requires invariant-loop decreases-loop
 knot-requires c κs =
-    let s = c.before.before.before.before.before.before in
-    let q = s.args.q in
-    let l = c.before.before.before.loop in
+    let q = c.args.q in
+    let l = c.loop-j in
     let k = length_window q.parameters (q.parameters + q.samples) l.work (omega arith) (omega arith) in
-    (s.requires.two, omega arith, omega arith)
+    (c.requires.two, omega arith, omega arith)
 
-loop-again : tie.Need-loop-preserved invariant-loop decreases-loop
+loop-again : tie.Need-loop-j-preserved invariant-loop decreases-loop
 loop-again c =
-    let s = c.before.before.before.before.before.before.before in
-    let q = s.args.q in
-    let l = c.before.before.before.before.loop in
+    let q = c.args.q in
+    let l = c.loop-j in
     let e =
-    next_written s.args.work.now l.work q.samples q.parameters q.knots l.j c.knot.result s.requires.two
-    s.requires.parameters_fit (omega arith) (omega arith) l.invariant.2 c.knot.ensures in
+    next_written c.args.work.now l.work q.samples q.parameters q.knots l.j c.knot-v.result c.requires.two
+    c.requires.parameters_fit (omega arith) (omega arith) l.invariant.2 c.knot-v.ensures in
     (omega arith, simp length-set l.invariant.1, e)
 
-same_length : tie.Need-same-length invariant-loop decreases-loop
-same_length c = c.before.loop.invariant.1
+same_length : tie.Need-shape_of-work invariant-loop decreases-loop
+same_length c = c.loop-j.invariant.1
 
 returns : tie.Need-returns invariant-loop decreases-loop
 returns c =
-    let s = c.before.before.before.before in
-    let q = s.args.q in
-    let w = s.args.work.now in
-    let l = c.before.loop in
+    let q = c.args.q in
+    let w = c.args.work.now in
+    let l = c.loop-j in
     let n = length_window q.parameters (q.parameters + q.samples) w (omega arith) (omega arith) in
-    let k = knots_long (arrays_at q w).s q.samples s.requires.two (omega arith) in
+    let k = knots_long (arrays_at q w).s q.samples c.requires.two (omega arith) in
     let knots = open_knots (window 1 (q.samples - 1) (arrays_at q w).s) in
     l.invariant.2 ∙ all_written w knots q.knots l.j (q.count + 6) (omega arith) (omega arith)
 
-pub put-knots-spec : {M : Type 1} → statement M
-put-knots-spec =
+pub put_knots_spec : {M : Type 1} → statement M
+put_knots_spec =
     tie.close
     (tie.spec
     invariant-loop

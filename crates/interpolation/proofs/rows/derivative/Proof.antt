@@ -18,28 +18,28 @@ use Rattle.interpolation.proofs.rows.derivative.Tie as tie
 abbrev turn : List Float → ℕ → Float → Float → ℕ → List Float → List Float
 turn rows r factorial scale i v = set v i (mul binary64 (mul binary64 (at rows (6 * i + r)) factorial) scale)
 
-abbrev invariant-loop : tie.invariant-loop
+abbrev invariant-loop : tie.invariant-loop-i
 invariant-loop h r powers factorial scale values₀ i₀ values i =
     (i ≤ 6) × (each (turn powers.rows r factorial scale) i 6 values ≡ derivative_of 0 0 [] [] powers.rows h r)
 
-abbrev decreases-loop : tie.decreases-loop
+abbrev decreases-loop : tie.decreases-loop-i
 decreases-loop h r powers factorial scale values₀ i₀ values i = 6 - i
 
-loop-holds : tie.Need-loop-init invariant-loop decreases-loop
+loop-holds : tie.Need-loop-i-init invariant-loop decreases-loop
 unfolding derivative_of factorials of_bits round
 loop-holds c =
-    let a = c.before.args in
+    let a = c.args in
     let factorial = get_or (factorials floats) a.r nan in
-    (omega arith, ap (λ (z : Float). each (turn a.t1.rows a.r factorial z) 0 6 (zeros 6)) c.powi.ensures)
+    (omega arith, ap (λ (z : Float). each (turn a.powers.rows a.r factorial z) 0 6 (zeros 6)) c.powi-scale.ensures)
 
-loop-again : tie.Need-loop-preserved invariant-loop decreases-loop
-loop-again c = (omega arith, sym (each_turn _ _ _ _ (omega arith)) ∙ c.before.before.loop.invariant.1)
+loop-again : tie.Need-loop-i-preserved invariant-loop decreases-loop
+loop-again c = (omega arith, sym (each_turn _ _ _ _ (omega arith)) ∙ c.loop-i.invariant.1)
 
 returns : tie.Need-returns invariant-loop decreases-loop
-returns c = sym (each_done _ _ _ _ c.loop-test.false) ∙ c.before.loop.invariant.1
+returns c = sym (each_done _ _ _ _ c.loop-i-test.false) ∙ c.loop-i.invariant.1
 
-pub derivative-spec : {M : Type 1} → statement M
-derivative-spec =
+pub derivative_spec : {M : Type 1} → statement M
+derivative_spec =
     tie.close
     (tie.spec
     invariant-loop

@@ -6,18 +6,17 @@ use Rattle.interpolation.proofs.solution.put_polynomial.Tie as tie
 
 polynomial-requires : tie.Need-polynomial-requires
 polynomial-requires c κs =
-    let s = c.before.before.before in polynomial_asks s.args.p s.args.work.now s.requires
+    polynomial_asks c.args.p c.args.work.now c.requires
 
 returns : tie.Need-returns
 returns c =
-    let s = c.before.before.before.before.before.before in
-    let v = c.before.before.polynomial in (
-      polynomial_put s.args.p s.args.work.now s.requires v.result v.new.0 v.ensures.0 v.ensures.1,
-      few_segments s.args.p s.args.work.now s.requires v.result v.new.0 v.ensures.0 v.ensures.1,
+    let v = c.polynomial in (
+      polynomial_put c.args.p c.args.work.now c.requires v.result v.new.work v.ensures.0 v.ensures.1,
+      few_segments c.args.p c.args.work.now c.requires v.result v.new.work v.ensures.0 v.ensures.1,
     )
 
-pub put-polynomial-spec : {M : Type 1} → statement M
-put-polynomial-spec =
+pub put_polynomial_spec : {M : Type 1} → statement M
+put_polynomial_spec =
     tie.close
     (tie.spec
     (λ c. search rules)

@@ -10,16 +10,15 @@ use Rattle.interpolation.proofs.solution.solve.Tie as tie
 
 returns : tie.Need-returns
 returns c =
-    let s = c.before.before.before.before.before.before in
-    let q = s.args.q in
-    let w = s.args.work.now in
-    let v = c.before.before.before.solve in
-    let fills : length v.new.0 ≡ size_of q.count q.axes = omega arith in
-    let kept = arrays_kept q w s.requires v.new.0 fills in
-    (c.number_of.ensures ∙ v.ensures.0, (kept, system_written q w s.requires v.new.0 fills ∙ v.ensures.1))
+    let q = c.args.q in
+    let w = c.args.work.now in
+    let v = c.solve-solved in
+    let fills : length v.new.sys ≡ size_of q.count q.axes = omega arith in
+    let kept = arrays_kept q w c.requires v.new.sys fills in
+    (c.number_of.ensures ∙ v.ensures.0, (kept, system_written q w c.requires v.new.sys fills ∙ v.ensures.1))
 
-pub solve-spec : {M : Type 1} → statement M
-solve-spec =
+pub solve_spec : {M : Type 1} → statement M
+solve_spec =
     tie.close
     (tie.spec
     (λ c. search rules)

@@ -9,24 +9,24 @@ use Rattle.lane_file.proofs.cells.curve_at.Tie as tie
 
 returns : tie.Need-returns
 returns c =
-    let a = c.before.before.before.before.before.before.before.args in
+    let a = c.args in
     let l = a.file.now in
-    let x : c.before.before.before.float.result ≡ (curve_at l a.head).start = c.before.before.before.float.ensures
+    let x : c.float-start.result ≡ (curve_at l a.head).start = c.float-start.ensures
     ∙ number_at l a.head.next in
-    let y : c.before.float2.result ≡ (curve_at l a.head).end = c.before.float2.ensures ∙ number_at l (a.head.next + 8) in
+    let y : c.float-end.result ≡ (curve_at l a.head).end = c.float-end.ensures ∙ number_at l (a.head.next + 8) in
     λ i. record {
       d = a.head.d;
       k = a.head.k;
       axes = a.head.axes;
       start = x i;
       end = y i;
-      mode = c.Mode-of.ensures i;
+      mode = c.mode_of-mode.ensures i;
       segments = a.head.segments;
       other_segments = a.head.other_segments;
     }
 
-pub curve-at-spec : {M : Type 1} → statement M
-curve-at-spec =
+pub curve_at_spec : {M : Type 1} → statement M
+curve_at_spec =
     tie.close
     (tie.spec
     (λ c. search rules)

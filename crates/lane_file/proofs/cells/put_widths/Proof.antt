@@ -12,44 +12,41 @@ use Rattle.lane_file.specs.Curves.{pattern_of}
 use Rattle.lane_file.proofs.cells.put_widths.Statement.{statement}
 use Rattle.lane_file.proofs.cells.put_widths.Tie as tie
 
-abbrev invariant-loop : tie.invariant-loop
+abbrev invariant-loop : tie.invariant-loop-i
 invariant-loop breaks from cells₀ i₀ cells i = (i ≤ length breaks - 1) × (length cells ≡ length cells₀)
     × (cells ≡ written from (list_of i (λ j. pattern_of (width_of breaks j))) cells₀)
 
-abbrev decreases-loop : tie.decreases-loop
+abbrev decreases-loop : tie.decreases-loop-i
 decreases-loop breaks from cells₀ i₀ cells i = length breaks - i
 
-loop-holds : tie.Need-loop-init invariant-loop decreases-loop
+loop-holds : tie.Need-loop-i-init invariant-loop decreases-loop
 unfolding join
 loop-holds c =
-    let a = c.before.before.args in (omega arith, refl, sym (written_none a.from a.cells.now))
+    let a = c.args in (omega arith, refl, sym (written_none a.from a.cells.now))
 
-slice-write-cells : tie.Need-slice-write-cells invariant-loop decreases-loop
-slice-write-cells c = omega (arith, c.before.before.before.before.loop.invariant.1)
+slice-write-cells : tie.Need-bounds-cells-from invariant-loop decreases-loop
+slice-write-cells c = omega (arith, c.loop-i.invariant.1)
 
-loop-again : tie.Need-loop-preserved invariant-loop decreases-loop
+loop-again : tie.Need-loop-i-preserved invariant-loop decreases-loop
 loop-again c =
-    let l = c.before.before.before.before in
-    let s = l.before.before.before in
-    let a = s.args in
-    let i = l.loop.i in (
+    let a = c.args in
+    let i = c.loop-i.i in (
       omega arith,
-      length-set l.loop.cells (a.from + i) c.pattern.result ∙ l.loop.invariant.1,
-      ap (λ (x : List ℕ). set x (a.from + i) c.pattern.result) l.loop.invariant.2
+      length-set c.loop-i.cells (a.from + i) c.pattern.result ∙ c.loop-i.invariant.1,
+      ap (λ (x : List ℕ). set x (a.from + i) c.pattern.result) c.loop-i.invariant.2
           ∙ fill_next a.from (λ j. pattern_of (width_of a.breaks.now j)) i a.cells.now c.pattern.result
-          (omega (arith, s.requires, c.before.before.before.loop-test.true)) c.pattern.ensures,
+          (omega (arith, c.requires, c.loop-i-test.true)) c.pattern.ensures,
     )
 
-same_length : tie.Need-same-length invariant-loop decreases-loop
-same_length c = c.before.loop.invariant.1
+same_length : tie.Need-shape_of-cells invariant-loop decreases-loop
+same_length c = c.loop-i.invariant.1
 
 returns : tie.Need-returns invariant-loop decreases-loop
 returns c =
-    let l = c.before in
-    let e : l.loop.i ≡ length l.before.before.before.args.breaks.now - 1 = omega arith in rw (← e) l.loop.invariant.2
+    let e : c.loop-i.i ≡ length c.args.breaks.now - 1 = omega arith in rw (← e) c.loop-i.invariant.2
 
-pub put-widths-spec : {M : Type 1} → statement M
-put-widths-spec =
+pub put_widths_spec : {M : Type 1} → statement M
+put_widths_spec =
     tie.close
     (tie.spec
     invariant-loop

@@ -22,50 +22,47 @@ module _ (w : tie.After-wholes) where
   start = first.before.before.before.before.before.before.before
 
   abbrev count : ℕ
-  count = first.before.before.before.break-count.result
+  count = first.break_count-count.result
 
   abbrev breaks : List Float
-  breaks = first.floats.last.1.0 ++ drop (count - 0) start.args.breaks.now
+  breaks = first.floats.new.cells ++ drop (count - 0) start.args.breaks.now
 
   abbrev cells : List ℕ
-  cells = w.wholes.last.1.0 ++ drop (coefficient_count start.args.n start.args.m - 0) start.args.coefficients.now
+  cells = w.wholes.new.cells ++ drop (coefficient_count start.args.n start.args.m - 0) start.args.coefficients.now
 
   break-count : count ≡ break_count start.args.n
-  break-count = first.before.before.before.break-count.ensures.0
+  break-count = first.break_count-count.ensures.0
 
   breaks_are : breaks ≡ onto (breaks_at start.args.file.now start.args.at start.args.n) start.args.breaks.now
   breaks_are = let a = start.args in
-      breaks_put a.file.now a.at a.n count a.breaks.now first.floats.last.1.0 break-count
-      (omega (arith, break-count, start.pre.2)) first.floats.ensures
+      breaks_put a.file.now a.at a.n count a.breaks.now first.floats.new.cells break-count
+      (omega (arith, break-count, start.requires.2)) first.floats.ensures
 
   cells_are : cells
       ≡ onto (coefficients_at start.args.file.now start.args.at start.args.n start.args.m) start.args.coefficients.now
   cells_are = let a = start.args in
-      coefficients_put a.file.now a.at a.n a.m count a.coefficients.now w.wholes.last.1.0 break-count
-      (omega (arith, start.pre.3)) w.wholes.ensures
+      coefficients_put a.file.now a.at a.n a.m count a.coefficients.now w.wholes.new.cells break-count
+      (omega (arith, start.requires.3)) w.wholes.ensures
 
   taken : take (count - 0) breaks ≡ breaks_at start.args.file.now start.args.at start.args.n
   taken = let a = start.args in breaks_again a.file.now a.at a.n count breaks a.breaks.now break-count breaks_are
 
-put-widths-requires : tie.Need-put-widths-requires
+put-widths-requires : tie.Need-put_widths-requires
 put-widths-requires c κs =
-    let w = c.before.before.before.before.before in
-    let a = (start w).args in
-    widths_room a.file.now a.at a.n a.m a.coefficients.now (cells w) (take (count w - 0) (breaks w)) (taken w)
-    (cells_are w) (start w).requires.3
+    let a = (start c.before.before.before.before).args in
+    widths_room a.file.now a.at a.n a.m a.coefficients.now (cells c.before.before.before.before) (take (count c.before.before.before.before - 0) (breaks c.before.before.before.before)) (taken c.before.before.before.before)
+    (cells_are c.before.before.before.before) (start c.before.before.before.before).requires.3
 
 returns : tie.Need-returns
 returns c =
-    let done = c.before.before in
-    let w = done.before.before.before.before.before.before in
-    let a = (start w).args in (
-      breaks_are w,
-      widths_put a.file.now a.at a.n a.m a.coefficients.now (cells w) done.put-widths.new.1.1.0
-          (take (count w - 0) (breaks w)) (taken w) (cells_are w) done.put-widths.ensures,
+    let a = (start c.before.before.before.before.before.before.before).args in (
+      breaks_are c.before.before.before.before.before.before.before,
+      widths_put a.file.now a.at a.n a.m a.coefficients.now (cells c.before.before.before.before.before.before.before) c.put_widths.new.cells
+          (take (count c.before.before.before.before.before.before.before - 0) (breaks c.before.before.before.before.before.before.before)) (taken c.before.before.before.before.before.before.before) (cells_are c.before.before.before.before.before.before.before) c.put_widths.ensures,
     )
 
-pub read-set-spec : {M : Type 1} → statement M
-read-set-spec =
+pub read_set_spec : {M : Type 1} → statement M
+read_set_spec =
     tie.close
     (tie.spec
     (λ c κs. search rules)

@@ -17,41 +17,35 @@ module _ (s : tie.Start) where
       (length s.args.other_coefficients.now)
   enough = room s.args.head _ _ _ _ s.requires.1
 
-read-set-requires : tie.Need-read-set-requires
+read-set-requires : tie.Need-read_set-requires
 read-set-requires c κs =
-    let s = c.before.before.before.before.before.before.before.before in
-    let r = enough s in
-    (s.requires.0.segments_small, omega (arith, s.requires.0.long), r.breaks, r.coefficients)
+    let r = enough c.before.before.before.before.before.before.before.before in
+    (c.requires.0.segments_small, omega (arith, c.requires.0.long), r.breaks, r.coefficients)
 
-read-set-requires-2 : tie.Need-read-set-requires-2
+read-set-requires-2 : tie.Need-read_set-requires-2
 read-set-requires-2 c κs =
-    let place = c.before.before.before in
-    let s = place.before.before.before.before.before.before.before.before.before.before.before.before.before.before in
-    let r = enough s in (
-      s.requires.0.others_small,
-      omega (arith, s.requires.0.long, place.other_place.ensures.0),
+    let r = enough c.before.before.before.before.before.before.before.before.before.before.before.before.before.before.before.before.before in (
+      c.requires.0.others_small,
+      omega (arith, c.requires.0.long, c.other_place-other.ensures.0),
       r.other_breaks,
       r.other_coefficients,
     )
 
 returns : tie.Need-returns
 returns c =
-    let other = c.before.before.before.before in
-    let place = other.before.before.before.before in
-    let set = place.before.before.before.before.before in
-    let a = set.before.before.before.before.before.before.before.before.before.args in
+    let a = c.args in
     let l = a.file.now in
     let f = a.head in
-    let e = set.read_set.ensures in
-    let o = other.read-set2.ensures in
-    let p = place.other_place.ensures.0 in
+    let e = c.read_set.ensures in
+    let o = c.read_set-2.ensures in
+    let p = c.other_place-other.ensures.0 in
     let ob = o.0 ∙ ap (λ (at : ℕ). onto (breaks_at l at f.other_segments) a.other_breaks.now) p in
     let ok = o.1 ∙ ap (λ (at : ℕ). onto (coefficients_at l at f.other_segments (f.d - f.k)
     ++ width_patterns (breaks_at l at f.other_segments)) a.other_coefficients.now) p in
     λ i. cells (e.0 i) (e.1 i) (ob i) (ok i)
 
-pub read-sets-spec : {M : Type 1} → statement M
-read-sets-spec =
+pub read_sets_spec : {M : Type 1} → statement M
+read_sets_spec =
     tie.close
     (tie.spec
     (λ c. search rules)

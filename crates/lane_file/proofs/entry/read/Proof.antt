@@ -23,7 +23,7 @@ use Rattle.lane_file.proofs.entry.read.Tie as tie
 subst2 : (file : List ℕ) (c d : Curve) (s t : Cells) → c ≡ d → s ≡ t → ReadPromised file c s → ReadPromised file d t
 subst2 file c d s t e f x = subst (λ (t : Cells). ReadPromised file d t) f (subst (λ (c : Curve). ReadPromised file c s) e x)
 
-module _ (c : tie.Else1) where
+module _ (c : tie.Else-not-head) where
   abbrev start : tie.Start
   start = c.before.before.before.before.before.before.before.before
 
@@ -34,14 +34,14 @@ module _ (c : tie.Else1) where
   lent = let a = start.args in cells a.breaks.now a.coefficients.now a.other_breaks.now a.other_coefficients.now
 
   abbrev head : FoundHead
-  head = c.before.before.whole-head.result
+  head = c.whole_head-head.result
 
   reads : FileAt file head
-  reads = c.before.before.whole-head.ensures.1 (not-false _ c.if1.false)
+  reads = c.whole_head-head.ensures.1 (not-false _ c.if-not-head.false)
 
-formed : (c : tie.Else2) → well_formed (curve_at (file c.before.before) (head c.before.before))
+formed : (c : tie.Else-not-formed) → well_formed (curve_at (file c.before.before) (head c.before.before))
     (slices_of (cells_at (file c.before.before) (head c.before.before))) ≡ true
-formed c = sym c.before.formed.ensures ∙ not-false _ c.if2.false
+formed c = sym c.formed.ensures ∙ not-false _ c.if-not-formed.false-raw
 
 -- an answer of a refusal
 refusal : (number : ℕ) (answer r : Reading) (curve : Curve) (s : Cells) (o : ReadOutcome) (file : List ℕ) → read_number answer ≡ number
@@ -53,57 +53,49 @@ refusal number answer r curve s o file n p e f h =
       λ z. absurd (omega (arith, m, z, p)),
     )
 
-returns : tie.Need-returns
+returns : tie.Need-returns-then-not-head
 returns c =
-    let a = c.before.before.before.before.before.before.before.before.before.args in
+    let a = c.args in
     let lent = cells a.breaks.now a.coefficients.now a.other_breaks.now a.other_coefficients.now in
     refusal 27 _ _ _ lent _ _ refl (omega arith) c.refused.ensures.0 c.refused.ensures.1
-    (not-read a.file.now lent (c.before.before.before.whole-head.ensures.0 (not-true _ c.before.if1.true)))
+    (not-read a.file.now lent (c.whole_head-head.ensures.0 (not-true _ c.if-not-head.true)))
 
 formed-requires : tie.Need-formed-requires
 formed-requires c κs = reads c
 
-returns-2 : tie.Need-returns-2
+returns-2 : tie.Need-returns-then-not-formed
 returns-2 c =
-    let g = c.before.before.before in
-    refusal 24 _ _ _ (lent g) _ _ refl (omega arith) c.refused2.ensures.0 c.refused2.ensures.1
-    (read-not-formed (file g) (lent g) (head g) (reads g) (sym c.before.before.formed.ensures ∙ not-true _ c.before.if2.true))
+    refusal 24 _ _ _ (lent c.before.before.before) _ _ refl (omega arith) c.refused-then-not-formed.ensures.0 c.refused-then-not-formed.ensures.1
+    (read-not-formed (file c.before.before.before) (lent c.before.before.before) (head c.before.before.before) (reads c.before.before.before) (sym c.formed.ensures ∙ not-true _ c.if-not-formed.true-raw))
 
-too-short-requires : tie.Need-too-short-requires
+too-short-requires : tie.Need-too_short-short-requires
 too-short-requires c κs = reads c.before.before
 
-returns-3 : tie.Need-returns-3
+returns-3 : tie.Need-returns-then-short
 returns-3 c =
-    let e = c.before.before.before in
-    let g = e.before.before in
-    refusal 19 _ _ _ (lent g) _ _ refl (omega arith) c.refused3.ensures.0 c.refused3.ensures.1
-    (read-too-short (file g) (lent g) (head g) (reads g) (formed e)
-    (short_is (file g) (head g) (lent g) ∙ sym c.before.before.too_short.ensures ∙ c.before.if3.true))
+    refusal 19 _ _ _ (lent c.before.before.before.before.before) _ _ refl (omega arith) c.refused-then-short.ensures.0 c.refused-then-short.ensures.1
+    (read-too-short (file c.before.before.before.before.before) (lent c.before.before.before.before.before) (head c.before.before.before.before.before) (reads c.before.before.before.before.before) (formed c.before.before.before)
+    (short_is (file c.before.before.before.before.before) (head c.before.before.before.before.before) (lent c.before.before.before.before.before) ∙ sym c.too_short-short.ensures ∙ c.if-short.true))
 
-read-sets-requires : tie.Need-read-sets-requires
+read-sets-requires : tie.Need-read_sets-requires
 read-sets-requires c κs = (
   reads c.before.before.before.before.before.before.before.before,
   sym
-      c.before.before.before.before.before.too_short.ensures ∙ c.before.before.before.before.if3.false,
+      c.too_short-short.ensures ∙ c.if-short.false,
 )
 
-curve-at-requires : tie.Need-curve-at-requires
+curve-at-requires : tie.Need-curve_at-curve-requires
 curve-at-requires c κs =
-    let done = c.before.before.before.before.before.before.before.before in
-    reads done.before.before.before.before.before.before.before.before.before
+    reads c.before.before.before.before.before.before.before.before.before.before.before.before.before.before.before.before.before
 
-returns-4 : tie.Need-returns-4
+returns-4 : tie.Need-returns
 returns-4 c =
-    let done = c.before.before.before.before.before.before.before.before.before in
-    let long = done.before.before.before.before.before in
-    let e = long.before.before in
-    let g = e.before.before in
-    let m = read_done (file g) (lent g) (head g) (reads g) (formed e)
-    (short_is (file g) (head g) (lent g) ∙ sym long.before.too_short.ensures ∙ long.if3.false) in
-    let q = c.curve-at.ensures in
-    let v = done.read-sets.ensures in
-    let t = taken (file g) (lent g) (head g) (reads g) (formed e) in
-    ((λ i. read_outcome 0 (q i) (v i)) ∙ m, λ z. subst2 (file g) _ _ _ _ (sym q) (sym v) t)
+    let m = read_done (file c.before.before.before.before.before.before.before.before.before.before.before.before.before.before.before.before.before.before) (lent c.before.before.before.before.before.before.before.before.before.before.before.before.before.before.before.before.before.before) (head c.before.before.before.before.before.before.before.before.before.before.before.before.before.before.before.before.before.before) (reads c.before.before.before.before.before.before.before.before.before.before.before.before.before.before.before.before.before.before) (formed c.before.before.before.before.before.before.before.before.before.before.before.before.before.before.before.before)
+    (short_is (file c.before.before.before.before.before.before.before.before.before.before.before.before.before.before.before.before.before.before) (head c.before.before.before.before.before.before.before.before.before.before.before.before.before.before.before.before.before.before) (lent c.before.before.before.before.before.before.before.before.before.before.before.before.before.before.before.before.before.before) ∙ sym c.too_short-short.ensures ∙ c.if-short.false) in
+    let q = c.curve_at-curve.ensures in
+    let v = c.read_sets.ensures in
+    let t = taken (file c.before.before.before.before.before.before.before.before.before.before.before.before.before.before.before.before.before.before) (lent c.before.before.before.before.before.before.before.before.before.before.before.before.before.before.before.before.before.before) (head c.before.before.before.before.before.before.before.before.before.before.before.before.before.before.before.before.before.before) (reads c.before.before.before.before.before.before.before.before.before.before.before.before.before.before.before.before.before.before) (formed c.before.before.before.before.before.before.before.before.before.before.before.before.before.before.before.before) in
+    ((λ i. read_outcome 0 (q i) (v i)) ∙ m, λ z. subst2 (file c.before.before.before.before.before.before.before.before.before.before.before.before.before.before.before.before.before.before) _ _ _ _ (sym q) (sym v) t)
 
 pub read_spec : {M : Type 1} → statement M
 read_spec =

@@ -18,7 +18,7 @@ use Rattle.lane_file.proofs.entry.write.Statement.{statement}
 use Rattle.lane_file.proofs.entry.write.Tie as tie
 
 -- the slices
-module _ (c : tie.After-well-formed) where
+module _ (c : tie.After-well_formed-formed) where
   abbrev start : tie.Start
   start = c.before.before.before.before.before.before
 
@@ -30,24 +30,24 @@ module _ (c : tie.After-well-formed) where
     axes = search rules;
     start = search rules;
     end = search rules;
-    breaks = c.before.before.before.before.shared-slice-known.given;
-    coefficients = λ i. omega (arith, c.before.before.before.shared-slice-known2.given i);
-    other_breaks = c.before.before.shared-slice-known3.given;
-    other_coefficients = λ i. omega (arith, c.before.shared-slice-known4.given i);
+    breaks = c.shared_slice_known-1.given;
+    coefficients = λ i. omega (arith, c.shared_slice_known-2-1.given i);
+    other_breaks = c.shared_slice_known-3-1.given;
+    other_coefficients = λ i. omega (arith, c.shared_slice_known-4-1.given i);
   }
 
-formed : (c : tie.Else1) → well_formed (start c.before).args.curve (slices_of (lent c.before)) ≡ true
-formed c = sym c.before.well-formed-2.ensures ∙ not-false _ c.if1.false
+formed : (c : tie.Else-not-formed) → well_formed (start c.before).args.curve (slices_of (lent c.before)) ≡ true
+formed c = sym c.well_formed-formed.ensures ∙ not-false _ c.if-not-formed.false-raw
 
-small : (c : tie.Else1) → Small (start c.before).args.curve (lent c.before)
+small : (c : tie.Else-not-formed) → Small (start c.before).args.curve (lent c.before)
 small c = formed_small (start c.before).args.curve (lent c.before) (formed c)
 
-returns : tie.Need-returns
+returns : tie.Need-returns-then-not-formed
 returns c =
     let a = (start c.before).args in
-    not_formed a.curve (lent c.before) a.file.now (sym c.before.well-formed-2.ensures ∙ not-true _ c.if1.true)
+    not_formed a.curve (lent c.before) a.file.now (sym c.well_formed-formed.ensures ∙ not-true _ c.if-not-formed.true-raw)
 
-head-length-requires : tie.Need-head-length-requires
+head-length-requires : tie.Need-head_length-requires
 head-length-requires c κs =
     let z = small c.before.before in (
       omega (arith, z.d_high),
@@ -57,12 +57,12 @@ head-length-requires c κs =
       λ i l. omega (arith, z.axes i l),
     )
 
-mul-count : tie.Need-overflow-mul-count
+mul-count : tie.Need-overflow_mul-count
 mul-count c =
     let z = small c.before.before.before in
     omega (arith, z.set.few_breaks, z.set.few_coefficients, z.others.few_breaks, z.others.few_coefficients)
 
-add-count : tie.Need-overflow-add-count
+add-count : tie.Need-overflow_add-count
 add-count c =
     let z = small c.before.before.before in
     omega (
@@ -71,22 +71,20 @@ add-count c =
       z.set.few_coefficients,
       z.others.few_breaks,
       z.others.few_coefficients,
-      c.head-length.ensures.1,
+      c.head_length.ensures.1,
     )
 
-returns-2 : tie.Need-returns-2
+returns-2 : tie.Need-returns-then-file-count
 returns-2 c =
-    let e = c.before.before.before.before in
-    let a = (start e.before).args in
-    let n = rows_lengths a.curve (lent e.before) (small e) in
-    too_short_law a.curve (lent e.before) a.file.now (formed e)
-    (omega (arith, file_length a.curve (lent e.before), n.0, n.1, c.before.head-length.ensures.0, c.if2.true))
+    let a = (start c.before.before.before.before.before).args in
+    let n = rows_lengths a.curve (lent c.before.before.before.before.before) (small c.before.before.before.before) in
+    too_short_law a.curve (lent c.before.before.before.before.before) a.file.now (formed c.before.before.before.before)
+    (omega (arith, file_length a.curve (lent c.before.before.before.before.before), n.0, n.1, c.head_length.ensures.0, c.if-file-count.true))
 
-put-head-requires : tie.Need-put-head-requires
+put-head-requires : tie.Need-put_head-next-requires
 put-head-requires c κs =
-    let e = c.before.before.before.before.before in
-    let z = small e in (
-      omega (arith, z.two, z.six, z.set.coefficients_count, c.before.if2.false),
+    let z = small c.before.before.before.before.before in (
+      omega (arith, z.two, z.six, z.set.coefficients_count, c.if-file-count.false),
       omega (arith, z.d_high),
       omega (arith, z.k_high, z.d_high),
       omega (arith, z.set.most),
@@ -94,45 +92,37 @@ put-head-requires c κs =
       λ i l. omega (arith, z.axes i l),
     )
 
-put-patterns-requires : tie.Need-put-patterns-requires
+put-patterns-requires : tie.Need-put_patterns-requires
 put-patterns-requires c κs =
-    let headed = c.before.before.before.before.before in
-    let room = headed.before.before in
-    let e = room.before.before.before.before in
-    let s = lent e.before in
-    let a = (start e.before).args in
+    let s = lent c.before.before.before.before.before.before.before.before.before.before.before.before in
+    let a = (start c.before.before.before.before.before.before.before.before.before.before.before.before).args in
     omega (
       arith,
       length-take-le (length s.coefficients - a.curve.segments - 0) s.coefficients (omega arith),
       length-take-le (length s.other_coefficients - a.curve.other_segments - 0) s.other_coefficients (omega arith),
-      room.before.head-length.ensures.0,
-      headed.put-head.ensures.1,
-      room.if2.false,
+      c.head_length.ensures.0,
+      c.put_head-next.ensures.1,
+      c.if-file-count.false,
     )
 
-returns-3 : tie.Need-returns-3
+returns-3 : tie.Need-returns
 returns-3 c =
-    let put = c.before.before in
-    let headed = put.before.before.before.before.before.before in
-    let room = headed.before.before in
-    let e = room.before.before.before.before in
-    let g = e.before in
-    let a = (start g).args in
-    let s = lent g in
-    let z = small e in
+    let a = (start c.before.before.before.before.before.before.before.before.before.before.before.before.before.before.before).args in
+    let s = lent c.before.before.before.before.before.before.before.before.before.before.before.before.before.before.before in
+    let z = small c.before.before.before.before.before.before.before.before.before.before.before.before.before.before in
     let n = file_length a.curve s in
     let k = rows_lengths a.curve s z in
-    let m = room.before.head-length.ensures.0 in
-    let long : length (file_of a.curve s) ≤ length a.file.now = omega (arith, n, k.0, k.1, m, room.if2.false) in
+    let m = c.head_length.ensures.0 in
+    let long : length (file_of a.curve s) ≤ length a.file.now = omega (arith, n, k.0, k.1, m, c.if-file-count.false) in
     let p : length s.coefficients - a.curve.segments - 0 ≡ coefficient_count a.curve.segments a.curve.k =
     omega (arith, z.set.coefficients_count) in
     let q : length s.other_coefficients - a.curve.other_segments - 0
     ≡ coefficient_count a.curve.other_segments (a.curve.d - a.curve.k) = omega (arith, z.others.coefficients_count) in
-    put_whole a.curve s a.file.now _ _ (formed e) (held g) long (omega (arith, n, k.0, k.1, m))
-    (file_put a.curve s a.file.now _ _ _ long headed.put-head.ensures.0 headed.put-head.ensures.1
-    (put.put-patterns.ensures
-    ∙ (λ i. written headed.put-head.result ((patterns_form (head_of a.curve)).write (patterns_from a.curve
-    (cells s.breaks (take (p i) s.coefficients) s.other_breaks (take (q i) s.other_coefficients)))) headed.put-head.new.0)))
+    put_whole a.curve s a.file.now _ _ (formed c.before.before.before.before.before.before.before.before.before.before.before.before.before.before) (held c.before.before.before.before.before.before.before.before.before.before.before.before.before.before.before) long (omega (arith, n, k.0, k.1, m))
+    (file_put a.curve s a.file.now _ _ _ long c.put_head-next.ensures.0 c.put_head-next.ensures.1
+    (c.put_patterns.ensures
+    ∙ (λ i. written c.put_head-next.result ((patterns_form (head_of a.curve)).write (patterns_from a.curve
+    (cells s.breaks (take (p i) s.coefficients) s.other_breaks (take (q i) s.other_coefficients)))) c.put_head-next.new.file)))
 
 pub write_spec : {M : Type 1} → statement M
 write_spec =

@@ -18,44 +18,39 @@ module _ (s : tie.Start) where
   abbrev slices : Slices
   slices = slices_of (cells_at s.args.file.now s.args.head)
 
-returns : tie.Need-returns
-returns c = let s = c.before.before.before in no_axis (curve s) (slices s) c.if1.true
+returns : tie.Need-returns-then-d-lt1
+returns c = no_axis (curve c.before.before.before) (slices c.before.before.before) c.if-d-lt1.true
 
-returns-2 : tie.Need-returns-2
-returns-2 c = let s = c.before.before.before.before in many_axes (curve s) (slices s) c.if2.true
+returns-2 : tie.Need-returns-then-d-gt16
+returns-2 c = many_axes (curve c.before.before.before.before) (slices c.before.before.before.before) c.if-d-gt16.true
 
-returns-3 : tie.Need-returns-3
-returns-3 c = let s = c.before.before.before.before.before in none_selected (curve s) (slices s) c.if3.true
+returns-3 : tie.Need-returns-then-k-lt1
+returns-3 c = none_selected (curve c.before.before.before.before.before) (slices c.before.before.before.before.before) c.if-k-lt1.true
 
-returns-4 : tie.Need-returns-4
+returns-4 : tie.Need-returns-then-not-axes_formed
 returns-4 c =
-    let s = c.before.before.before.before.before.before.before.before in
-    bad_axes_law (curve s) (slices s) (sym c.before.axes_formed_law.ensures ∙ not-true _ c.if4.true)
+    bad_axes_law (curve c.before.before.before.before.before.before.before.before) (slices c.before.before.before.before.before.before.before.before) (sym c.axes_formed.ensures ∙ not-true _ c.if-not-axes_formed.true-raw)
 
-returns-5 : tie.Need-returns-5
+returns-5 : tie.Need-returns-then-not-sets_formed
 returns-5 c =
-    let s = c.before.before.before.before.before.before.before.before.before.before in
-    bad_sets (curve s) (slices s) (sym c.before.sets-formed.ensures ∙ not-true _ c.if5.true)
+    bad_sets (curve c.before.before.before.before.before.before.before.before.before.before) (slices c.before.before.before.before.before.before.before.before.before.before) (sym c.sets_formed.ensures ∙ not-true _ c.if-not-sets_formed.true-raw)
 
-returns-6 : tie.Need-returns-6
+returns-6 : tie.Need-returns
 returns-6 c =
-    let s = c.before.before.before.before.before.before.before.before.before.before.before.before.before.before.before in
-    let sets = c.before.before.before.before.before.before in
-    let axes = c.before.before.before.before.before.before.before.before in
-    let l = s.args.file.now in
-    let next = s.args.head.next in
-    let x : c.before.before.before.float.result ≡ (curve s).start = c.before.before.before.float.ensures ∙ number_at l next in
-    let y : c.before.float2.result ≡ (curve s).end = c.before.float2.ensures ∙ number_at l (next + 8) in
-    c.range_formed_law.ensures ∙ (λ i. range_formed (x i) (y i))
-    ∙ range_left (curve s) (slices s)
-    c.before.before.before.before.before.before.before.before.before.before.before.before.if1.false
-    c.before.before.before.before.before.before.before.before.before.before.before.if2.false
-    c.before.before.before.before.before.before.before.before.before.before.if3.false s.requires.k_high
-    (sym axes.axes_formed_law.ensures ∙ not-false _ c.before.before.before.before.before.before.before.if4.false)
-    (sym sets.sets-formed.ensures ∙ not-false _ c.before.before.before.before.before.if5.false)
+    let l = c.args.file.now in
+    let next = c.args.head.next in
+    let x : c.float.result ≡ (curve c.before.before.before.before.before.before.before.before.before.before.before.before.before.before.before).start = c.float.ensures ∙ number_at l next in
+    let y : c.float-2.result ≡ (curve c.before.before.before.before.before.before.before.before.before.before.before.before.before.before.before).end = c.float-2.ensures ∙ number_at l (next + 8) in
+    c.range_formed.ensures ∙ (λ i. range_formed (x i) (y i))
+    ∙ range_left (curve c.before.before.before.before.before.before.before.before.before.before.before.before.before.before.before) (slices c.before.before.before.before.before.before.before.before.before.before.before.before.before.before.before)
+    c.if-d-lt1.false
+    c.if-d-gt16.false
+    c.if-k-lt1.false c.requires.k_high
+    (sym c.axes_formed.ensures ∙ not-false _ c.if-not-axes_formed.false-raw)
+    (sym c.sets_formed.ensures ∙ not-false _ c.if-not-sets_formed.false-raw)
 
-pub formed-spec : {M : Type 1} → statement M
-formed-spec =
+pub formed_spec : {M : Type 1} → statement M
+formed_spec =
     tie.close
     (tie.spec
     returns

@@ -4,14 +4,14 @@ use Rattle.lane_file.proofs.ByteBreaks.{others_some, others_none}
 use Rattle.lane_file.proofs.formed.others_formed.Statement.{statement}
 use Rattle.lane_file.proofs.formed.others_formed.Tie as tie
 
-returns : tie.Need-returns
+returns : tie.Need-returns-then-m-ne0
 returns c l e =
-    let a = c.before.before.before.args in
-    others_some a.bytes.now a.n a.m l e _ c.before.if1.true (c.set_formed_law.ensures a.m l e)
+    let a = c.args in
+    others_some a.bytes.now a.n a.m l e _ c.if-m-ne0.true (c.set_formed.ensures a.m l e)
 
-returns-2 : tie.Need-returns-2
+returns-2 : tie.Need-returns
 returns-2 c l e =
-    let a = c.before.before.args in others_none a.bytes.now a.n a.m l e c.if1.false
+    let a = c.args in others_none a.bytes.now a.n a.m l e c.if-m-ne0.false
 
-pub others-formed-spec : {M : Type 1} → statement M
-others-formed-spec = tie.close (tie.spec (λ c κs. search rules) returns returns-2)
+pub others_formed_spec : {M : Type 1} → statement M
+others_formed_spec = tie.close (tie.spec (λ c κs. search rules) returns returns-2)

@@ -14,48 +14,48 @@ use Rattle.lane_file.proofs.ByteBreaks.{compared}
 use Rattle.lane_file.proofs.formed.rise.Statement.{statement}
 use Rattle.lane_file.proofs.formed.rise.Tie as tie
 
-abbrev invariant-loop : tie.invariant-loop
+abbrev invariant-loop : tie.invariant-loop-i
 invariant-loop bytes n below₀ i₀ below i =
     (i ≤ n) × Counted (λ j. lt (at (floats_of (n + 1) bytes) j) (at (floats_of (n + 1) bytes) (j + 1))) i below
 
-abbrev decreases-loop : tie.decreases-loop
+abbrev decreases-loop : tie.decreases-loop-i
 decreases-loop bytes n below₀ i₀ below i = n - i
 
-loop-holds : tie.Need-loop-init invariant-loop decreases-loop
+loop-holds : tie.Need-loop-i-init invariant-loop decreases-loop
 loop-holds c =
-    let a = c.before.args in
+    let a = c.args in
     let b = floats_of (a.n + 1) a.bytes.now in (omega arith, counted_none (λ j. lt (at b j) (at b (j + 1))))
 
 float-requires : tie.Need-float-requires invariant-loop decreases-loop
 float-requires c κs = simp length-take (omega arith)
 
-float-requires-2 : tie.Need-float-requires-2 invariant-loop decreases-loop
+float-requires-2 : tie.Need-float-requires-in-loop-i invariant-loop decreases-loop
 float-requires-2 c κs = simp length-take (omega arith)
 
-add-below : tie.Need-overflow-add-below invariant-loop decreases-loop
-add-below c = omega (arith, c.before.before.before.before.before.before.loop.invariant.1.0, c.one-if.ensures.1)
+add-below : tie.Need-overflow_add-below invariant-loop decreases-loop
+add-below c = omega (arith, c.loop-i.invariant.1.0, c.one_if-below.ensures.1)
 
-loop-again : tie.Need-loop-preserved invariant-loop decreases-loop
+loop-again : tie.Need-loop-i-preserved invariant-loop decreases-loop
 loop-again c =
-    let a = c.before.before.before.before.before.before.before.before.args in
-    let l = c.before.before.before.before.before.before.loop in
+    let a = c.args in
+    let l = c.loop-i in
     let b = floats_of (a.n + 1) a.bytes.now in
     let k = counted_next (λ j. lt (at b j) (at b (j + 1))) l.i l.below l.invariant.1 in
-    let t = compared a.bytes.now a.n l.i c.before.before.before.float.result c.before.float2.result
-    c.before.before.before.before.before.loop-test.true
-    c.before.before.before.float.ensures c.before.float2.ensures in
-    (omega arith, rw (c.one-if.ensures.0 ∙ ap (λ (t : Bool). cond t 1 0) t) k)
+    let t = compared a.bytes.now a.n l.i c.float.result c.float-in-loop-i.result
+    c.loop-i-test.true
+    c.float.ensures c.float-in-loop-i.ensures in
+    (omega arith, rw (c.one_if-below.ensures.0 ∙ ap (λ (t : Bool). cond t 1 0) t) k)
 
 returns : tie.Need-returns invariant-loop decreases-loop
 returns c =
-    let a = c.before.before.before.args in
-    let l = c.before.loop in
+    let a = c.args in
+    let l = c.loop-i in
     let b = floats_of (a.n + 1) a.bytes.now in
     let e : l.i ≡ a.n = omega arith in
     subst (λ (i : ℕ). eqb l.below i ≡ every i (λ j. lt (at b j) (at b (j + 1)))) e l.invariant.1.1
 
-pub rise-spec : {M : Type 1} → statement M
-rise-spec =
+pub rise_spec : {M : Type 1} → statement M
+rise_spec =
     tie.close
     (tie.spec
     invariant-loop

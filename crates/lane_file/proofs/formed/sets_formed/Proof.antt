@@ -16,7 +16,7 @@ use Rattle.lane_file.proofs.formed.sets_formed.Statement.{statement}
 use Rattle.lane_file.proofs.formed.sets_formed.Tie as tie
 
 -- the selected axes
-module _ (c : tie.After-set-formed) where
+module _ (c : tie.After-set_formed) where
   abbrev start : tie.Start
   start = c.before.before.before.before.before
 
@@ -29,38 +29,36 @@ module _ (c : tie.After-set-formed) where
   abbrev numbers : List Float
   numbers = map number_of (coefficients_at file (set_place head) head.segments head.k)
 
-  selected : c.set_formed_law.result ≡ set_formed head.k head.segments (slices_of (cells_at file head)).breaks
+  selected : c.set_formed.result ≡ set_formed head.k head.segments (slices_of (cells_at file head)).breaks
       (slices_of (cells_at file head)).coefficients
   selected =
-      set_in file (set_place head) head.segments (set_place head + 8 * c.before.before.break-count.result - set_place head)
-      (omega (arith, c.before.before.break-count.ensures.0)) _ head.k numbers
-      (c.set_formed_law.ensures head.k numbers (coefficients_count file (set_place head) head.segments head.k))
+      set_in file (set_place head) head.segments (set_place head + 8 * c.break_count.result - set_place head)
+      (omega (arith, c.break_count.ensures.0)) _ head.k numbers
+      (c.set_formed.ensures head.k numbers (coefficients_count file (set_place head) head.segments head.k))
       ∙ ap (set_formed head.k head.segments (breaks_at file (set_place head) head.segments))
       (sym (widened_numbers (breaks_at file (set_place head) head.segments)
       (coefficients_at file (set_place head) head.segments head.k)))
 
-returns : tie.Need-returns
-returns c = rw (sym (selected c.before) ∙ not-true _ c.if1.true)
+returns : tie.Need-returns-then-not-set_formed
+returns c = rw (sym (selected c.before) ∙ not-true _ c.if-not-set_formed.true-raw)
 
-returns-2 : tie.Need-returns-2
+returns-2 : tie.Need-returns
 returns-2 c =
-    let e = c.before.before.before.before.before in
-    let g = e.before in
-    let p = c.before.before.before.before.other_place.ensures.0 in
-    let at = c.before.before.before.before.other_place.result in
-    let n = (head g).other_segments in
-    let m = (head g).d - (head g).k in
-    let t = map number_of (coefficients_at (file g) (other_place (head g)) n m) in
-    let r = c.before.before.before.break-count2 in
-    rw (sym (selected g) ∙ not-false _ e.if1.false)
-    (others_in (file g) at n (at + 8 * r.result - at) (omega (arith, r.ensures.0)) _ m t
-    (c.others_formed_law.ensures t (coefficients_count (file g) (other_place (head g)) n m))
-    ∙ ap (λ (at : ℕ). others_formed m n (breaks_at (file g) at n) (with_widths (breaks_at (file g) at n) t)) p
-    ∙ ap (others_formed m n (breaks_at (file g) (other_place (head g)) n))
-    (sym (widened_numbers (breaks_at (file g) (other_place (head g)) n) (coefficients_at (file g) (other_place (head g)) n m))))
+    let p = c.other_place-other.ensures.0 in
+    let at = c.other_place-other.result in
+    let n = (head c.before.before.before.before.before.before).other_segments in
+    let m = (head c.before.before.before.before.before.before).d - (head c.before.before.before.before.before.before).k in
+    let t = map number_of (coefficients_at (file c.before.before.before.before.before.before) (other_place (head c.before.before.before.before.before.before)) n m) in
+    let r = c.break_count-2 in
+    rw (sym (selected c.before.before.before.before.before.before) ∙ not-false _ c.if-not-set_formed.false-raw)
+    (others_in (file c.before.before.before.before.before.before) at n (at + 8 * r.result - at) (omega (arith, r.ensures.0)) _ m t
+    (c.others_formed.ensures t (coefficients_count (file c.before.before.before.before.before.before) (other_place (head c.before.before.before.before.before.before)) n m))
+    ∙ ap (λ (at : ℕ). others_formed m n (breaks_at (file c.before.before.before.before.before.before) at n) (with_widths (breaks_at (file c.before.before.before.before.before.before) at n) t)) p
+    ∙ ap (others_formed m n (breaks_at (file c.before.before.before.before.before.before) (other_place (head c.before.before.before.before.before.before)) n))
+    (sym (widened_numbers (breaks_at (file c.before.before.before.before.before.before) (other_place (head c.before.before.before.before.before.before)) n) (coefficients_at (file c.before.before.before.before.before.before) (other_place (head c.before.before.before.before.before.before)) n m))))
 
-pub sets-formed-spec : {M : Type 1} → statement M
-sets-formed-spec =
+pub sets_formed_spec : {M : Type 1} → statement M
+sets_formed_spec =
     tie.close
     (tie.spec
     (λ c. search rules)

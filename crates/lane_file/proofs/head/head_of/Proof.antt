@@ -24,101 +24,86 @@ unread : (l : List ℕ) (r : FoundHead) → r.reads ≡ false → head_form.read
 unread l r e h = (λ f. h, λ f. absurd (true≢false (sym f ∙ e)))
 
 -- after d and k were read
-module _ (c : tie.After-k) where
-  abbrev first : tie.After-d
-  first = c.before.before.before.before
+module _ (c : tie.In-Number-number_at) where
+  abbrev first : tie.In-Number
+  first = c.before.before
 
   abbrev start : tie.Start
-  start = first.before.before.before.before
+  start = first.before.before.before
 
   abbrev file : List ℕ
   file = start.args.file.now
 
   abbrev d : ℕ
-  d = first.d.given.0.0
+  d = first.in-Number.d
 
   abbrev second : ℕ
-  second = first.d.given.0.1.0
+  second = first.in-Number.second
 
   abbrev k : ℕ
-  k = c.k.given.0.0
+  k = c.in-Number-number_at.k
 
   abbrev third : ℕ
-  third = c.k.given.0.1.0
+  third = c.in-Number-number_at.third
 
   d-read : Number d second ≡ number_at file 0
-  d-read = sym first.d.given.1 ∙ first.before.before.number-at.ensures
+  d-read = sym first.in-Number.is ∙ first.number_at.ensures
 
   k-read : Number k third ≡ number_at file second
-  k-read = sym c.k.given.1 ∙ c.before.before.number-at2.ensures
+  k-read = sym c.in-Number-number_at.is ∙ c.number_at-2.ensures
 
-returns : tie.Need-returns
+returns : tie.Need-returns-in_default
 returns c =
-    let f = c.before in
-    let l = c.before.before.before.before.before.args.file.now in
-    unread l c.unread.result c.unread.ensures (head_unread1 l (sym f.enum_told.given.1
-    ∙ f.before.before.number-at.ensures))
+    let l = c.args.file.now in
+    unread l c.unread.result c.unread.ensures (head_unread1 l (sym c.in_default.is
+    ∙ c.number_at.ensures))
 
-returns-2 : tie.Need-returns-2
+returns-2 : tie.Need-returns-in_default-number_at
 returns-2 c =
-    let f = c.before in
-    let g = f.before.before.before.before in
-    let l = g.before.before.before.before.args.file.now in
-    unread l c.unread2.result c.unread2.ensures
-    (head_unread2 l _ _ (sym g.d.given.1 ∙ g.before.before.number-at.ensures)
-    (sym f.enum-told2.given.1 ∙ f.before.before.number-at2.ensures))
+    let l = c.args.file.now in
+    unread l c.unread-in_default-number_at.result c.unread-in_default-number_at.ensures
+    (head_unread2 l _ _ (sym c.in-Number.is ∙ c.number_at.ensures)
+    (sym c.in_default-number_at.is ∙ c.number_at-2.ensures))
 
-returns-3 : tie.Need-returns-3
+returns-3 : tie.Need-returns-then-d-k
 returns-3 c =
-    let g = c.before.before.before in
-    unread (file g) c.unread3.result c.unread3.ensures
-    (head_above (file g) (d g) (second g) (d-read g) (k g) (third g) (k-read g) c.before.if1.true)
+    unread (file c.before.before) c.unread-then-d-k.result c.unread-then-d-k.ensures
+    (head_above (file c.before.before) (d c.before.before) (second c.before.before) (d-read c.before.before) (k c.before.before) (third c.before.before) (k-read c.before.before) c.if-d-k.true)
 
-axes-at-requires : tie.Need-axes-at-requires
+axes-at-requires : tie.Need-axes_at-list-requires
 axes-at-requires c κs =
-    let g = c.before.before in
-    (number_read (file g) (second g) (k g) (third g) (k-read g)).1
+    (number_read (file c.before) (second c.before) (k c.before) (third c.before) (k-read c.before)).1
 
-returns-4 : tie.Need-returns-4
+returns-4 : tie.Need-returns-then-not-list
 returns-4 c =
-    let a = c.before.before.before in
-    let g = a.before.before.before in
-    unread (file g) c.unread4.result c.unread4.ensures
-    (head_unread3 (file g) (d g) (second g) (d-read g) (k g) (third g) (k-read g) a.before.if1.false
-    (a.axes-at.ensures.0 (not-true _ c.before.if2.true)))
+    unread (file c.before.before.before.before.before) c.unread-then-not-list.result c.unread-then-not-list.ensures
+    (head_unread3 (file c.before.before.before.before.before) (d c.before.before.before.before.before) (second c.before.before.before.before.before) (d-read c.before.before.before.before.before) (k c.before.before.before.before.before) (third c.before.before.before.before.before) (k-read c.before.before.before.before.before) c.if-d-k.false
+    (c.axes_at-list.ensures.0 (not-true _ c.if-not-list.true)))
 
-returns-5 : tie.Need-returns-5
+returns-5 : tie.Need-returns-in_default-tail_at
 returns-5 c =
-    let f = c.before in
-    let t = f.before.before in
-    let a = t.before.before.before.before in
-    let g = a.before.before.before in
-    let x = a.axes-at.ensures.1 (not-false _ t.before.before.if2.false) in
-    unread (file g) c.unread5.result c.unread5.ensures
-    (head_unread4 (file g) (d g) (second g) (d-read g) (k g) (third g) (k-read g) a.before.if1.false x.list
-    a.axes-at.result.next x.read
-    (sym t.tail_at.ensures.0 ∙ ap (tail_in (file g)) f.enum-told3.given.1))
+    let x = c.axes_at-list.ensures.1 (not-false _ c.if-not-list.false) in
+    unread (file c.before.before.before.before.before.before.before.before) c.unread-in_default-tail_at.result c.unread-in_default-tail_at.ensures
+    (head_unread4 (file c.before.before.before.before.before.before.before.before) (d c.before.before.before.before.before.before.before.before) (second c.before.before.before.before.before.before.before.before) (d-read c.before.before.before.before.before.before.before.before) (k c.before.before.before.before.before.before.before.before) (third c.before.before.before.before.before.before.before.before) (k-read c.before.before.before.before.before.before.before.before) c.if-d-k.false x.list
+    c.axes_at-list.result.next x.read
+    (sym c.tail_at.ensures.0 ∙ ap (tail_in (file c.before.before.before.before.before.before.before.before)) c.in_default-tail_at.is))
 
-returns-6 : tie.Need-returns-6
+returns-6 : tie.Need-returns
 returns-6 c =
-    let f = c.before in
-    let t = f.before.before in
-    let a = t.before.before.before.before in
-    let g = a.before.before.before in
-    let x = a.axes-at.ensures.1 (not-false _ t.before.before.if2.false) in (
+    let x = c.axes_at-list.ensures.1 (not-false _ c.if-not-list.false) in (
       λ e. absurd (true≢false e),
       λ e. record {
         axes = x.list;
-        read = head_read (file g) (d g) (second g) (d-read g) (k g) (third g) (k-read g) a.before.if1.false x.list
-            a.axes-at.result.next x.read _ _ _ f.mode.given.0.1.1.1.0
-            (sym t.tail_at.ensures.0 ∙ ap (tail_in (file g)) f.mode.given.1);
+        read = head_read (file c.before.before.before.before.before.before.before) (d c.before.before.before.before.before.before.before) (second c.before.before.before.before.before.before.before) (d-read c.before.before.before.before.before.before.before) (k c.before.before.before.before.before.before.before) (third c.before.before.before.before.before.before.before) (k-read c.before.before.before.before.before.before.before) c.if-d-k.false x.list
+            c.axes_at-list.result.next x.read _ _ _ c.in-Three.next
+            (sym c.tail_at.ensures.0 ∙ ap (tail_in (file c.before.before.before.before.before.before.before)) c.in-Three.is);
         held = x.held;
-        ended = subst (λ (r : Tail). tail_end r ≤ length (file g)) f.mode.given.1 t.tail_at.ensures.1;
+        ended = subst (λ (r : Tail). tail_end r ≤ length (file c.before.before.before.before.before.before.before)) c.in-Three.is c.tail_at.ensures.1;
       },
     )
 
-pub head-of-spec : {M : Type 1} → statement M
-head-of-spec =
+pub head_of_spec : {M : Type 1} → statement M
+head_of_spec =
     tie.close
     (tie.spec
     (λ c κs. search rules)

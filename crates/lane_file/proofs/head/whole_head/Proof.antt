@@ -14,7 +14,7 @@ use Rattle.lane_file.proofs.Whole.{file_unread, bytes_of, whole_bad, whole_read}
 use Rattle.lane_file.proofs.head.whole_head.Statement.{statement}
 use Rattle.lane_file.proofs.head.whole_head.Tie as tie
 
-module _ (c : tie.Else1) where
+module _ (c : tie.Else-not-head) where
   abbrev start : tie.Start
   start = c.before.before.before.before
 
@@ -22,50 +22,48 @@ module _ (c : tie.Else1) where
   file = start.args.file.now
 
   abbrev found : FoundHead
-  found = c.before.before.head_of.result
+  found = c.head_of-head.result
 
   head : HeadAt file found
-  head = c.before.before.head_of.ensures.1 (not-false _ c.if1.false)
+  head = c.head_of-head.ensures.1 (not-false _ c.if-not-head.false)
 
   bytes : Bytes file
-  bytes = bytes_of file (λ i. omega (arith, c.before.before.before.shared-slice-known.given i))
+  bytes = bytes_of file (λ i. omega (arith, c.shared_slice_known-1.given i))
 
   small : SmallHead (head_in found head.axes)
   small = head_small (head_in found head.axes) file _ bytes head.read
 
-returns : tie.Need-returns
+returns : tie.Need-returns-then-not-head
 returns c =
-    let e = not-true _ c.if1.true in (
-      λ f. file_unread c.before.before.before.before.args.file.now (c.before.before.head_of.ensures.0 e),
+    let e = not-true _ c.if-not-head.true in (
+      λ f. file_unread c.args.file.now (c.head_of-head.ensures.0 e),
       λ f. absurd
           (true≢false (sym f ∙ e)),
     )
 
-word-count-requires : tie.Need-word-count-requires
+word-count-requires : tie.Need-word_count-count-requires
 word-count-requires c κs =
     let z = small c in (z.d_small, z.k_high, z.segments_small, z.others_small)
 
-sub-if2 : tie.Need-overflow-sub-if2
+sub-if2 : tie.Need-overflow_sub-file
 sub-if2 c = (head c.before).ended
 
-returns-2 : tie.Need-returns-2
+returns-2 : tie.Need-returns-then-file-next
 returns-2 c =
-    let w = c.before.before in
-    let g = w.before in (
-      λ f. whole_bad (file g) (found g) (head g) (λ e. omega (arith, e, c.before.if2.true, w.word_count.ensures.0)),
+    (
+      λ f. whole_bad (file c.before.before.before) (found c.before.before.before) (head c.before.before.before) (λ e. omega (arith, e, c.if-file-next.true, c.word_count-count.ensures.0)),
       λ f. absurd (true≢false (sym f ∙ c.unread.ensures)),
     )
 
-returns-3 : tie.Need-returns-3
+returns-3 : tie.Need-returns
 returns-3 c =
-    let w = c.before in
-    let g = w.before in (
-      λ f. absurd (true≢false (sym (not-false _ g.if1.false) ∙ f)),
-      λ f. whole_read (file g) (found g) (head g) (bytes g) (omega (arith, c.if2.false, w.word_count.ensures.0)),
+    (
+      λ f. absurd (true≢false (sym (not-false _ c.if-not-head.false) ∙ f)),
+      λ f. whole_read (file c.before.before) (found c.before.before) (head c.before.before) (bytes c.before.before) (omega (arith, c.if-file-next.false, c.word_count-count.ensures.0)),
     )
 
-pub whole-head-spec : {M : Type 1} → statement M
-whole-head-spec =
+pub whole_head_spec : {M : Type 1} → statement M
+whole_head_spec =
     tie.close
     (tie.spec
     (λ c κs. search rules)

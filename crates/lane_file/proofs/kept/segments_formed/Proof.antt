@@ -25,42 +25,36 @@ asked b c from i w l e =
     ap (λ (w : Float). lt (at b i) (at b (i + 1)) && eqb (to_bits binary64 w) (to_bits binary64 (width_of b i)))
     (e ∙ sym (map_at number_of c (from + i) 0 nan l))
 
-abbrev invariant-loop : tie.invariant-loop
+abbrev invariant-loop : tie.invariant-loop-i
 invariant-loop breaks cells from n kept₀ i₀ kept i = (i ≤ n) × Counted (formed_at breaks (map number_of cells) from) i kept
 
-abbrev decreases-loop : tie.decreases-loop
+abbrev decreases-loop : tie.decreases-loop-i
 decreases-loop breaks cells from n kept₀ i₀ kept i = n - i
 
-loop-holds : tie.Need-loop-init invariant-loop decreases-loop
+loop-holds : tie.Need-loop-i-init invariant-loop decreases-loop
 loop-holds c =
-    let a = c.before.before.args in (omega arith, counted_none (formed_at a.breaks.now (map number_of a.cells.now) a.from))
+    let a = c.args in (omega arith, counted_none (formed_at a.breaks.now (map number_of a.cells.now) a.from))
 
-add_kept : tie.Need-overflow-add-kept invariant-loop decreases-loop
-add_kept c = omega (arith, c.before.before.before.before.before.before.before.loop.invariant.1.0, c.one-if.ensures.1)
+add_kept : tie.Need-overflow_add-kept invariant-loop decreases-loop
+add_kept c = omega (arith, c.loop-i.invariant.1.0, c.one_if-kept.ensures.1)
 
-loop-again : tie.Need-loop-preserved invariant-loop decreases-loop
+loop-again : tie.Need-loop-i-preserved invariant-loop decreases-loop
 loop-again c =
-    let w = c.before in
-    let n = w.before.before.before in
-    let t = n.before.before in
-    let l = t.before in
-    let s = l.before.before.before in
-    let a = s.args in
-    let e = asked a.breaks.now a.cells.now a.from l.loop.i n.number.result
-    (omega (arith, s.requires.1, t.loop-test.true)) n.number.ensures in
-    let k = counted_next (formed_at a.breaks.now (map number_of a.cells.now) a.from) l.loop.i l.loop.auto
-    l.loop.invariant.1 in
-    (omega arith, rw (c.one-if.ensures.0, w.is-width.ensures ∙ e) k)
+    let a = c.args in
+    let e = asked a.breaks.now a.cells.now a.from c.loop-i.i c.number-width.result
+    (omega (arith, c.requires.1, c.loop-i-test.true)) c.number-width.ensures in
+    let k = counted_next (formed_at a.breaks.now (map number_of a.cells.now) a.from) c.loop-i.i c.loop-i.kept
+    c.loop-i.invariant.1 in
+    (omega arith, rw (c.one_if-kept.ensures.0, c.is_width.ensures ∙ e) k)
 
 returns : tie.Need-returns invariant-loop decreases-loop
 returns c =
-    let l = c.before in
-    let a = l.before.before.before.args in
-    let e : l.loop.i ≡ a.n = omega arith in
-    rw (← e) (formed_counted a.breaks.now (map number_of a.cells.now) a.from l.loop.i l.loop.auto l.loop.invariant.1)
+    let a = c.args in
+    let e : c.loop-i.i ≡ a.n = omega arith in
+    rw (← e) (formed_counted a.breaks.now (map number_of a.cells.now) a.from c.loop-i.i c.loop-i.kept c.loop-i.invariant.1)
 
-pub segments-formed-spec : {M : Type 1} → statement M
-segments-formed-spec =
+pub segments_formed_spec : {M : Type 1} → statement M
+segments_formed_spec =
     tie.close
     (tie.spec
     invariant-loop

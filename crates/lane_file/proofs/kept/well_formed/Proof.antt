@@ -26,41 +26,37 @@ module _ (s : tie.Start) where
   abbrev lent : Cells
   lent = let a = s.args in cells a.breaks.now a.coefficients.now a.other_breaks.now a.other_coefficients.now
 
-abbrev start : tie.Else1 → tie.Start
+abbrev start : tie.Else-not-well_shaped → tie.Start
 start c = c.before.before.before.before.before.before
 
-passed : (c : tie.Else1) → let a = (start c).args in well_shaped a.curve a.breaks.now (length a.coefficients.now)
+passed : (c : tie.Else-not-well_shaped) → let a = (start c).args in well_shaped a.curve a.breaks.now (length a.coefficients.now)
     a.other_breaks.now (length a.other_coefficients.now) ≡ true
-passed c = sym c.before.well-shaped.ensures ∙ not-false _ c.if1.false
+passed c = sym c.well_shaped.ensures ∙ not-false _ c.if-not-well_shaped.false-raw
 
-sizes : (c : tie.Else1) → let a = (start c).args in Shaped a.curve a.breaks.now (length a.coefficients.now)
+sizes : (c : tie.Else-not-well_shaped) → let a = (start c).args in Shaped a.curve a.breaks.now (length a.coefficients.now)
     a.other_breaks.now (length a.other_coefficients.now)
 sizes c = let a = (start c).args in shaped a.curve a.breaks.now _ a.other_breaks.now _ (passed c)
 
-returns : tie.Need-returns
-returns c = let s = c.before.before.before.before.before.before in
-    sym (split s.args.curve (lent s) ∙ rw (sym c.before.well-shaped.ensures ∙ not-true _ c.if1.true))
+returns : tie.Need-returns-then-not-well_shaped
+returns c = sym (split c.args.curve (lent c.before.before.before.before.before.before) ∙ rw (sym c.well_shaped.ensures ∙ not-true _ c.if-not-well_shaped.true-raw))
 
-segments-formed-requires : tie.Need-segments-formed-requires
+segments-formed-requires : tie.Need-segments_formed-requires
 segments-formed-requires c κs = let z = sizes c in (z.set.enough, z.set.room)
 
-returns-2 : tie.Need-returns-2
-returns-2 c = let e = c.before.before in
-    sym (split (start e).args.curve (lent (start e))
-    ∙ rw (passed e, sym c.before.segments-formed.ensures ∙ not-true _ c.if2.true))
+returns-2 : tie.Need-returns-then-not-segments_formed
+returns-2 c = sym (split (start c.before.before).args.curve (lent (start c.before.before))
+    ∙ rw (passed c.before.before, sym c.segments_formed.ensures ∙ not-true _ c.if-not-segments_formed.true-raw))
 
-segments-formed-requires-2 : tie.Need-segments-formed-requires-2
+segments-formed-requires-2 : tie.Need-segments_formed-requires-2
 segments-formed-requires-2 c κs = let z = sizes c.before.before in (z.others.enough, z.others.room)
 
-returns-3 : tie.Need-returns-3
-returns-3 c = let k = c.before in
-    let e = k.before.before in
-    c.segments-formed2.ensures
-    ∙ sym (split (start e).args.curve (lent (start e))
-    ∙ rw (passed e, sym k.before.segments-formed.ensures ∙ not-false _ k.if2.false))
+returns-3 : tie.Need-returns
+returns-3 c = c.segments_formed-2.ensures
+    ∙ sym (split (start c.before.before.before).args.curve (lent (start c.before.before.before))
+    ∙ rw (passed c.before.before.before, sym c.segments_formed.ensures ∙ not-false _ c.if-not-segments_formed.false-raw))
 
-pub well-formed-spec : {M : Type 1} → statement M
-well-formed-spec =
+pub well_formed_spec : {M : Type 1} → statement M
+well_formed_spec =
     tie.close
     (tie.spec
     (λ c κs. search rules)

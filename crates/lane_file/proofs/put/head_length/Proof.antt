@@ -7,14 +7,13 @@ use Rattle.lane_file.proofs.put.head_length.Tie as tie
 
 returns : tie.Need-returns
 returns c =
-    let s = c.before.before.before in
-    let e = head_length s.args.curve s.requires.0 s.requires.1 (search rules) s.requires.4 in (
-      omega (arith, e, c.group-count2.ensures.0, c.before.group-count.ensures.0),
-      omega (arith, s.requires.1, c.group-count2.ensures.1, c.before.group-count.ensures.1),
+    let e = head_length c.args.curve c.requires.0 c.requires.1 (search rules) c.requires.4 in (
+      omega (arith, e, c.group_count-2.ensures.0, c.group_count.ensures.0),
+      omega (arith, c.requires.1, c.group_count-2.ensures.1, c.group_count.ensures.1),
     )
 
-pub head-length-spec : {M : Type 1} → statement M
-head-length-spec =
+pub head_length_spec : {M : Type 1} → statement M
+head_length_spec =
     tie.close
     (tie.spec
     (λ c. search rules)

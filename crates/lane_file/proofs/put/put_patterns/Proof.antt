@@ -11,19 +11,16 @@ use Rattle.lane_file.proofs.put.put_patterns.Tie as tie
 
 returns : tie.Need-returns
 returns c =
-    let second = c.before.before.before.before.before.before.before.before.before.before in
-    let first = second.before.before.before.before.before in
-    let s = first.before.before.before.before.before.before.before.before in
-    let a = s.args in
+    let a = c.args in
     patterns_put a.curve (cells a.breaks.now a.coefficients.now a.other_breaks.now a.other_coefficients.now) a.at
-    a.file.now _ _ _ _ s.requires
-    (first.put_word.ensures ∙ ap (λ (x : ℕ). written a.at (low_bytes 8 x) a.file.now) first.before.pattern.ensures)
-    (second.put-word2.ensures ∙ ap (λ (x : ℕ). written (a.at + 8) (low_bytes 8 x) first.put_word.new.0)
-    second.before.pattern2.ensures)
-    c.before.before.before.before.before.before.put-set.ensures c.before.before.put-set2.ensures
+    a.file.now _ _ _ _ c.requires
+    (c.put_word.ensures ∙ ap (λ (x : ℕ). written a.at (low_bytes 8 x) a.file.now) c.pattern.ensures)
+    (c.put_word-2.ensures ∙ ap (λ (x : ℕ). written (a.at + 8) (low_bytes 8 x) c.put_word.new.file)
+    c.pattern-2.ensures)
+    c.put_set.ensures c.put_set-2.ensures
 
-pub put-patterns-spec : {M : Type 1} → statement M
-put-patterns-spec =
+pub put_patterns_spec : {M : Type 1} → statement M
+put_patterns_spec =
     tie.close
     (tie.spec
     (λ c κs. search rules)

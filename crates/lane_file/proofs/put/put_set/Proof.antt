@@ -6,12 +6,11 @@ use Rattle.lane_file.proofs.put.put_set.Tie as tie
 
 returns : tie.Need-returns
 returns c =
-    let s = c.before.before.before.before.before.before.before.before.before.before.before in
-    (set_put s.args.breaks.now s.args.coefficients.now s.requires
-    c.before.before.before.before.before.before.put-floats.ensures c.before.before.put-words.ensures).now
+    (set_put c.args.breaks.now c.args.coefficients.now c.requires
+    c.put_floats.ensures c.put_words.ensures).now
 
-pub put-set-spec : {M : Type 1} → statement M
-put-set-spec =
+pub put_set_spec : {M : Type 1} → statement M
+put_set_spec =
     tie.close
     (tie.spec
     (λ c κs. search rules)

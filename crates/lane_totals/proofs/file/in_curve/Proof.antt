@@ -21,63 +21,57 @@ form s = formed s.args.curve (slices_of (used s)) s.requires.0
 small : (s : tie.Start) → Small s.args.curve (used s)
 small s = formed_small s.args.curve (used s) s.requires.0
 
-abbrev start : tie.After-axis-place → tie.Start
+abbrev start : tie.After-axis_place-at → tie.Start
 start c = c.before.before.before.before.before.before.before.before
 
-axis-place-requires : tie.Need-axis-place-requires
+axis-place-requires : tie.Need-axis_place-at-requires
 axis-place-requires c κs =
     let f = form c.before.before.before.before.before.before.before in (omega (arith, f.k_high, f.d_high), omega arith)
 
-of-set-requires : tie.Need-of-set-requires
+of-set-requires : tie.Need-of_set-requires
 of-set-requires c κs =
-    let p = c.before in
-    let s = start p in
+    let s = start c.before in
     let a = s.args in
-    let h = selected_sized a.curve (slices_of (used s)) 0 s.pre.0 (form s).d_low p.axis-place.result p.axis-place.ensures
-    c.if1.true in (
-      set-lent a.curve.segments a.curve.k p.axis-place.result a.breaks.now a.coefficients.now h (small s).set,
-      s.pre.1,
+    let h = selected_sized a.curve (slices_of (used s)) 0 s.requires.0 (form s).d_low c.axis_place-at.result c.axis_place-at.ensures
+    c.if-at-k.true in (
+      set-lent a.curve.segments a.curve.k c.axis_place-at.result a.breaks.now a.coefficients.now h (small s).set,
+      s.requires.1,
     )
 
-returns : tie.Need-returns
+returns : tie.Need-returns-then-at-k
 returns c =
-    let t = c.before in
-    let p = t.before in
-    let s = start p in
+    let s = start c.before.before in
     let a = s.args in
-    let h = selected_sized a.curve (slices_of (used s)) 0 s.pre.0 (form s).d_low p.axis-place.result p.axis-place.ensures
-    t.if1.true in (
-      in-selected a.curve (slices_of (used s)) s.pre.0 (form s).d_low p.axis-place.result p.axis-place.ensures _
-          t.if1.true
-          (set-cut a.curve.segments a.curve.k p.axis-place.result a.breaks.now a.coefficients.now h (small s).set _
-          c.of-set.ensures.0),
-      c.of-set.ensures.1,
+    let h = selected_sized a.curve (slices_of (used s)) 0 s.requires.0 (form s).d_low c.axis_place-at.result c.axis_place-at.ensures
+    c.if-at-k.true in (
+      in-selected a.curve (slices_of (used s)) s.requires.0 (form s).d_low c.axis_place-at.result c.axis_place-at.ensures _
+          c.if-at-k.true
+          (set-cut a.curve.segments a.curve.k c.axis_place-at.result a.breaks.now a.coefficients.now h (small s).set _
+          c.of_set.ensures.0),
+      c.of_set.ensures.1,
     )
 
-sub-of-set : tie.Need-overflow-sub-of-set
+sub-of-set : tie.Need-overflow_sub-d
 sub-of-set c = omega (arith, (form (start c.before)).k_high)
 
-of-set-requires-2 : tie.Need-of-set-requires-2
+of-set-requires-2 : tie.Need-of_set-requires-2
 of-set-requires-2 c κs =
-    let p = c.before in
-    let s = start p in
+    let s = start c.before in
     let a = s.args in
-    let h = others_sized a.curve (slices_of (used s)) 0 s.pre.0 (form s).d_low p.axis-place.result p.axis-place.ensures
-    c.if1.false in
-    (set-lent _ _ _ a.other_breaks.now a.other_coefficients.now h (small s).others, s.pre.1)
+    let h = others_sized a.curve (slices_of (used s)) 0 s.requires.0 (form s).d_low c.axis_place-at.result c.axis_place-at.ensures
+    c.if-at-k.false in
+    (set-lent _ _ _ a.other_breaks.now a.other_coefficients.now h (small s).others, s.requires.1)
 
-returns-2 : tie.Need-returns-2
+returns-2 : tie.Need-returns
 returns-2 c =
-    let t = c.before in
-    let p = t.before in
-    let s = start p in
+    let s = start c.before.before in
     let a = s.args in
-    let h = others_sized a.curve (slices_of (used s)) 0 s.pre.0 (form s).d_low p.axis-place.result p.axis-place.ensures
-    t.if1.false in (
-      in-others a.curve (slices_of (used s)) s.pre.0 (form s).d_low p.axis-place.result p.axis-place.ensures _ t.if1.false
-          (set-cut _ _ _ a.other_breaks.now a.other_coefficients.now h (small s).others _ c.of-set2.ensures.0),
-      c.of-set2.ensures.1,
+    let h = others_sized a.curve (slices_of (used s)) 0 s.requires.0 (form s).d_low c.axis_place-at.result c.axis_place-at.ensures
+    c.if-at-k.false in (
+      in-others a.curve (slices_of (used s)) s.requires.0 (form s).d_low c.axis_place-at.result c.axis_place-at.ensures _ c.if-at-k.false
+          (set-cut _ _ _ a.other_breaks.now a.other_coefficients.now h (small s).others _ c.of_set-2.ensures.0),
+      c.of_set-2.ensures.1,
     )
 
-pub in-curve-spec : {M : Type 1} → statement M
-in-curve-spec = tie.close (tie.spec axis-place-requires of-set-requires returns sub-of-set of-set-requires-2 returns-2)
+pub in_curve_spec : {M : Type 1} → statement M
+in_curve_spec = tie.close (tie.spec axis-place-requires of-set-requires returns sub-of-set of-set-requires-2 returns-2)

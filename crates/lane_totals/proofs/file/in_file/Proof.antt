@@ -13,57 +13,52 @@ use Rattle.lane_totals.proofs.Answers.{file-away, file-read}
 use Rattle.lane_totals.proofs.file.in_file.Statement.{statement}
 use Rattle.lane_totals.proofs.file.in_file.Tie as tie
 
-abbrev start : tie.After-read → tie.Start
+abbrev start : tie.After-read-read → tie.Start
 start c = c.before.before.before.before.before.before.before.before.before.before.before
 
-abbrev file : tie.After-read → List ℕ
+abbrev file : tie.After-read-read → List ℕ
 file c = (start c).args.file.now
 
-abbrev lent : tie.After-read → Cells
+abbrev lent : tie.After-read-read → Cells
 lent c = let a = (start c).args in cells a.breaks.now a.coefficients.now a.other_breaks.now a.other_coefficients.now
 
 -- what reading answered
-number : (c : tie.After-read) → read_number c.read.result.answer ≡ (read_of (file c) (lent c)).number
-number c = ap (λ (o : ReadOutcome). o.number) c.read.ensures.0
+number : (c : tie.After-read-read) → read_number c.read-read.result.answer ≡ (read_of (file c) (lent c)).number
+number c = ap (λ (o : ReadOutcome). o.number) c.read-read.ensures.0
 
-never-short : (c : tie.After-read) → (read_of (file c) (lent c)).number ≡ 19 → ⊥
+never-short : (c : tie.After-read-read) → (read_of (file c) (lent c)).number ≡ 19 → ⊥
 never-short c =
     let s = start c in
     never_short_slices (file c) (lent c)
     (bytes_of (file c) (λ i. omega (
       arith,
-      c.before.before.before.before.before.before.before.before.before.before.shared-slice-known.given i,
+      c.shared_slice_known-1.given i,
     )))
-    s.pre.0.0 s.pre.0.1 s.pre.0.2 s.pre.0.3
+    s.requires.0.0 s.requires.0.1 s.requires.0.2 s.requires.0.3
 
-returns : tie.Need-returns
+returns : tie.Need-returns-then-read_number-ne0
 returns c =
-    let n = c.before.before in
-    let r = n.before.before.before.before.before.before.before.before.before in (
-      c.one-away.ensures.0
-          ∙ file-away (file r) (lent r) (λ z. c.before.if1.true (n.read_number.ensures ∙ number r ∙ z)) (never-short r),
-      kept_wider 1 0 20000 _ (omega arith) c.one-away.ensures.1,
+    (
+      c.one_away.ensures.0
+          ∙ file-away (file c.before.before.before.before.before.before.before.before.before.before.before) (lent c.before.before.before.before.before.before.before.before.before.before.before) (λ z. c.if-read_number-ne0.true (c.read_number.ensures ∙ number c.before.before.before.before.before.before.before.before.before.before.before ∙ z)) (never-short c.before.before.before.before.before.before.before.before.before.before.before),
+      kept_wider 1 0 20000 _ (omega arith) c.one_away.ensures.1,
     )
 
 -- the curve was read
-done : (c : tie.Else1) → read_number c.before.before.before.before.before.before.before.before.before.before.read.result.answer
+done : (c : tie.Else-read_number-ne0) → read_number c.read-read.result.answer
     ≡ 0
-done c = sym c.before.read_number.ensures ∙ c.if1.false
+done c = sym c.read_number.ensures ∙ c.if-read_number-ne0.false
 
-in-curve-requires : tie.Need-in-curve-requires
+in-curve-requires : tie.Need-in_curve-requires
 in-curve-requires c κs =
-    let e = c.before.before.before.before.before in
-    let r = e.before.before.before.before.before.before.before.before.before.before in
-    ((r.read.ensures.1 (done e)).formed, (start r).requires.1)
+    ((c.read-read.ensures.1 (done c.before)).formed, (start c.before.before.before.before.before.before.before.before.before.before.before).requires.1)
 
-returns-2 : tie.Need-returns-2
+returns-2 : tie.Need-returns
 returns-2 c =
-    let e = c.before.before.before.before.before.before in
-    let r = e.before.before.before.before.before.before.before.before.before.before in
-    (c.in-curve.ensures.0 ∙ file-read (file r) (lent r) _ r.read.ensures.0 (done e), c.in-curve.ensures.1)
+    (c.in_curve.ensures.0 ∙ file-read (file c.before.before.before.before.before.before.before.before.before.before.before.before) (lent c.before.before.before.before.before.before.before.before.before.before.before.before) _ c.read-read.ensures.0 (done c.before.before), c.in_curve.ensures.1)
 
-pub in-file-spec : {M : Type 1} → statement M
-in-file-spec =
+pub in_file_spec : {M : Type 1} → statement M
+in_file_spec =
     tie.close
     (tie.spec
     (λ c κs. search rules)

@@ -22,29 +22,24 @@ six l from p h e =
     let n = length_window from (from + 6) (map number_of l) (omega arith) (omega (arith, h, m)) in
     ap length e ∙ n ∙ omega arith
 
-slice-aggregate-of-segment : tie.Need-slice-aggregate-of-segment
+slice-aggregate-of-segment : tie.Need-slice_bounds-of_segment-end
 slice-aggregate-of-segment c =
-    let p = c.before.before in
-    let s = p.before.before.before in
-    let a = s.args in
-    sym (six a.coefficients.now (6 * (a.i * a.m + a.place)) p.powers-at.result.cells s.requires.1 p.powers-at.ensures)
+    let a = c.args in
+    sym (six a.coefficients.now (6 * (a.i * a.m + a.place)) c.powers_at-powers.result.cells c.requires.1 c.powers_at-powers.ensures)
 
-of-segment-requires : tie.Need-of-segment-requires
+of-segment-requires : tie.Need-of_segment-requires
 of-segment-requires c κs =
-    let p = c.before.before.before.before in
-    let s = p.before.before.before in
-    let a = s.args in
-    six a.coefficients.now (6 * (a.i * a.m + a.place)) p.powers-at.result.cells s.requires.1 p.powers-at.ensures
+    let a = c.args in
+    six a.coefficients.now (6 * (a.i * a.m + a.place)) c.powers_at-powers.result.cells c.requires.1 c.powers_at-powers.ensures
 
 returns : tie.Need-returns
 returns c =
-    let p = c.before.before.before.before.before in
-    let a = p.before.before.before.args in
+    let a = c.args in
     subst (λ (q : List Float). ControlsFrom (segment_form (at a.breaks.now a.i) (at a.breaks.now (a.i + 1)) q)
-    c.of-segment.result) p.powers-at.ensures c.of-segment.ensures
+    c.of_segment.result) c.powers_at-powers.ensures c.of_segment.ensures
 
-pub controls-on-spec : {M : Type 1} → statement M
-controls-on-spec =
+pub controls_on_spec : {M : Type 1} → statement M
+controls_on_spec =
     tie.close
     (tie.spec
     (λ c. search rules)

@@ -34,18 +34,17 @@ whole n m at b c t e =
     e ∙ ap (λ (i : ℕ). axis_totals (set_with (take i b) (map number_of (take (6 * (n * m) + n - 0) c)) n m at)) i
     ∙ ap (λ (j : ℕ). axis_totals (set_with (take (n + 1) b) (map number_of (take j c)) n m at)) j
 
-all-segments-requires : tie.Need-all-segments-requires
+all-segments-requires : tie.Need-all_segments-requires
 all-segments-requires c κs =
-    let s = c.before.before.before.before.before in
-    let a = s.args in (sized a.n a.m a.at a.breaks.now a.coefficients.now s.requires.0, s.requires.1)
+    let a = c.args in (sized a.n a.m a.at a.breaks.now a.coefficients.now c.requires.0, c.requires.1)
 
 returns : tie.Need-returns
 returns c =
-    let a = c.before.before.before.before.before.before.args in
-    (whole a.n a.m a.at a.breaks.now a.coefficients.now _ c.all-segments.ensures.0, c.all-segments.ensures.1)
+    let a = c.args in
+    (whole a.n a.m a.at a.breaks.now a.coefficients.now _ c.all_segments.ensures.0, c.all_segments.ensures.1)
 
-pub of-set-spec : {M : Type 1} → statement M
-of-set-spec =
+pub of_set_spec : {M : Type 1} → statement M
+of_set_spec =
     tie.close
     (tie.spec
     (λ c. search rules)

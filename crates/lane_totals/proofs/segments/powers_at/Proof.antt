@@ -17,10 +17,10 @@ use Rattle.lane_totals.proofs.segments.powers_at.Tie as tie
 abbrev from-there : List ℕ → ℕ → List Float
 from-there coefficients from = drop from (map number_of coefficients)
 
-abbrev invariant-loop : tie.invariant-loop
+abbrev invariant-loop : tie.invariant-loop-k
 invariant-loop coefficients from cells₀ k₀ cells k = (k ≤ 6) × (cells ≡ take k (from-there coefficients from) ++ drop k cells₀)
 
-abbrev decreases-loop : tie.decreases-loop
+abbrev decreases-loop : tie.decreases-loop-k
 decreases-loop coefficients from cells₀ k₀ cells k = 6 - k
 
 next : (coefficients : List ℕ) (from k : ℕ) (cells₀ cells : List Float) (x : Float) → from + 6 ≤ length coefficients → k < 6
@@ -43,27 +43,25 @@ all l from k cells₀ cells e n f =
     ∙ ap (λ (t : List Float). take 6 (from-there l from) ++ t) (drop-length cells₀) ∙ append-nil (take 6 (from-there l from))
     ∙ ap (λ (i : ℕ). take i (from-there l from)) (sym s)
 
-loop-holds : tie.Need-loop-init invariant-loop decreases-loop
+loop-holds : tie.Need-loop-k-init invariant-loop decreases-loop
 loop-holds c = (omega arith, refl)
 
-loop-again : tie.Need-loop-preserved invariant-loop decreases-loop
+loop-again : tie.Need-loop-k-preserved invariant-loop decreases-loop
 loop-again c =
-    let t = c.before.before in
-    let l = t.before.loop in
-    let s = t.before.before.before in (
-      omega (arith, t.loop-test.true),
-      next s.args.coefficients.now s.args.from l.k _ l.cells c.number.result s.requires t.loop-test.true refl
+    let l = c.loop-k in
+    (
+      omega (arith, c.loop-k-test.true),
+      next c.args.coefficients.now c.args.from l.k _ l.cells c.number.result c.requires c.loop-k-test.true refl
           c.number.ensures l.invariant.1,
     )
 
 returns : tie.Need-returns invariant-loop decreases-loop
 returns c =
-    let l = c.before.loop in
-    let s = c.before.before.before in
-    all s.args.coefficients.now s.args.from l.k _ l.cells (omega (arith, l.invariant.0, c.loop-test.false)) refl l.invariant.1
+    let l = c.loop-k in
+    all c.args.coefficients.now c.args.from l.k _ l.cells (omega (arith, l.invariant.0, c.loop-k-test.false)) refl l.invariant.1
 
-pub powers-at-spec : {M : Type 1} → statement M
-powers-at-spec =
+pub powers_at_spec : {M : Type 1} → statement M
+powers_at_spec =
     tie.close
     (tie.spec
     invariant-loop

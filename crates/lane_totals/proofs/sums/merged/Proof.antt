@@ -5,10 +5,10 @@ use Rattle.lane_totals.proofs.sums.merged.Tie as tie
 
 returns : tie.Need-returns
 returns c =
-    let h = c.before.before.before.before.before.before.before.before in rw (h.higher.ensures, h.before.lower.ensures)
+    rw (c.higher-high.ensures, c.lower-low.ensures)
 
-pub merged-spec : {M : Type 1} → statement M
-merged-spec =
+pub merged_spec : {M : Type 1} → statement M
+merged_spec =
     tie.close
     (tie.spec
     (λ c κs. search rules)

@@ -14,7 +14,7 @@ use Rattle.refinement.proofs.Inserting.{beside_self, beside_then, insert_next, i
 use Rattle.refinement.proofs.insertions.insert_all.Statement.{statement}
 use Rattle.refinement.proofs.insertions.insert_all.Tie as tie
 
-abbrev invariant-loop : tie.invariant-loop
+abbrev invariant-loop : tie.invariant-loop-i
 invariant-loop work₀ p count m₀ i₀ work m i =
     (i ≤ count)
     × (m ≡ p.count + i)
@@ -23,7 +23,7 @@ invariant-loop work₀ p count m₀ i₀ work m i =
     × (insert_all p.axes (drop i (locations_at p count work₀)) (spline_at (sized p m) work)
     ≡ insert_all p.axes (locations_at p count work₀) (spline_at p work₀))
 
-abbrev decreases-loop : tie.decreases-loop
+abbrev decreases-loop : tie.decreases-loop-i
 decreases-loop work₀ p count m₀ i₀ work m i = count - i
 
 -- there are as many locations as are asked for
@@ -31,79 +31,76 @@ many : (p : Plan) (w : List Float) (count : ℕ) → Roomy p (length w) → p.co
     → count ≤ length (memory_at p w).locations
 many p w count r h = omega (arith, (lengths p w r).locations)
 
-loop-holds : tie.Need-loop-init invariant-loop decreases-loop
+loop-holds : tie.Need-loop-i-init invariant-loop decreases-loop
 loop-holds c =
-    let a = c.before.args in (omega arith, omega arith, refl, beside_self (memory_at a.p a.work.now), refl)
+    let a = c.args in (omega arith, omega arith, refl, beside_self (memory_at a.p a.work.now), refl)
 
 -- before each turn the arrays lie in the slice
-roomy : (c : tie.At-loop invariant-loop decreases-loop) → Roomy (sized c.before.before.args.p c.loop.m) (length c.loop.work)
+roomy : (c : tie.At-loop-i invariant-loop decreases-loop) → Roomy (sized c.args.p c.loop-i.m) (length c.loop-i.work)
 roomy c =
-    let s = c.before.before in
-    let a = s.args in
-    let l = c.loop in
-    roomy_more a.p (length a.work.now) (length l.work) a.count l.m l.i s.requires.0 l.invariant.2 s.requires.1 l.invariant.1
+    let a = c.args in
+    let l = c.loop-i in
+    roomy_more a.p (length a.work.now) (length l.work) a.count l.m l.i c.requires.0 l.invariant.2 c.requires.1 l.invariant.1
     l.invariant.0
 
-location-at-requires : tie.Need-location-at-requires invariant-loop decreases-loop
-location-at-requires c κs = (roomy c.before.before, omega arith)
+location-at-requires : tie.Need-location_at-x-requires invariant-loop decreases-loop
+location-at-requires c κs = (roomy c.before, omega arith)
 
-outside-at-requires : tie.Need-outside-at-requires invariant-loop decreases-loop
-outside-at-requires c κs = roomy c.before.before.before.before
+outside-at-requires : tie.Need-outside_at-requires invariant-loop decreases-loop
+outside-at-requires c κs = roomy c.before.before
 
-same_length : tie.Need-same-length invariant-loop decreases-loop
-same_length c = c.before.before.before.before.before.before.loop.invariant.2
+same_length : tie.Need-shape_of-work-then-outside_at invariant-loop decreases-loop
+same_length c = c.loop-i.invariant.2
 
-returns : tie.Need-returns invariant-loop decreases-loop
+returns : tie.Need-returns-then-outside_at invariant-loop decreases-loop
 returns c =
-    let s = c.before.before.before.before.before.before.before.before in
-    let a = s.args in
-    let l = c.before.before.before.before.before.before.loop in
-    let x = c.before.before.before.location-at in
+    let a = c.args in
+    let l = c.loop-i in
+    let x = c.location_at-x in
     let b = spline_at (sized a.p l.m) l.work in (
       insert_stopped a.p.axes a.count (memory_at a.p a.work.now).locations
           (memory_at (sized a.p l.m) l.work).locations l.i x.result b _
-          (many a.p a.work.now a.count s.requires.0 s.requires.1) l.invariant.3.same_locations x.ensures l.invariant.4
-          (omega arith) b (sym c.if1.true ∙ c.before.outside-at.ensures),
+          (many a.p a.work.now a.count c.requires.0 c.requires.1) l.invariant.3.same_locations x.ensures l.invariant.4
+          (omega arith) b (sym c.if-outside_at.true ∙ c.outside_at.ensures),
       λ h. absurd (omega arith),
     )
 
-insert-one-requires : tie.Need-insert-one-requires invariant-loop decreases-loop
-insert-one-requires c κs = (roomy c.before.before.before.before.before.before.before, omega arith)
+insert-one-requires : tie.Need-insert_one-requires invariant-loop decreases-loop
+insert-one-requires c κs = (roomy c.before.before.before.before.before, omega arith)
 
-loop-again : tie.Need-loop-preserved invariant-loop decreases-loop
+loop-again : tie.Need-loop-i-preserved invariant-loop decreases-loop
 loop-again c =
-    let s = c.before.before.before.before.before.before.before.before.before.before.before.before in
-    let a = s.args in
-    let l = c.before.before.before.before.before.before.before.before.before.before.loop in
-    let x = c.before.before.before.before.before.before.before.location-at in
-    let v = c.before.before.insert-one in (
+    let a = c.args in
+    let l = c.loop-i in
+    let x = c.location_at-x in
+    let v = c.insert_one in (
       omega arith,
       omega arith,
       omega arith,
       beside_then l.invariant.3 v.ensures.1,
       insert_next a.p.axes a.count (memory_at a.p a.work.now).locations (memory_at (sized a.p l.m) l.work).locations
           l.i x.result
-          (spline_at (sized a.p l.m) l.work) _ (many a.p a.work.now a.count s.requires.0 s.requires.1)
+          (spline_at (sized a.p l.m) l.work) _ (many a.p a.work.now a.count c.requires.0 c.requires.1)
           l.invariant.3.same_locations x.ensures
-          l.invariant.4 (omega arith) (spline_at (sized a.p (l.m + 1)) v.new.0)
-          (sym c.before.before.before.before.if1.false ∙ c.before.before.before.before.before.outside-at.ensures)
+          l.invariant.4 (omega arith) (spline_at (sized a.p (l.m + 1)) v.new.work)
+          (sym c.if-outside_at.false ∙ c.outside_at.ensures)
           v.ensures.0,
     )
 
-same-length-2 : tie.Need-same-length-2 invariant-loop decreases-loop
-same-length-2 c = c.before.loop.invariant.2
+same-length-2 : tie.Need-shape_of-work invariant-loop decreases-loop
+same-length-2 c = c.loop-i.invariant.2
 
-returns-2 : tie.Need-returns-2 invariant-loop decreases-loop
+returns-2 : tie.Need-returns invariant-loop decreases-loop
 returns-2 c =
-    let a = c.before.before.before.args in
-    let l = c.before.loop in (
+    let a = c.args in
+    let l = c.loop-i in (
       inserts_done a.p.axes a.count l.i (memory_at a.p a.work.now).locations (spline_at (sized a.p l.m) l.work) _
           (omega arith) l.invariant.4,
       λ h. (l.invariant.3, omega arith),
     )
 
-pub insert-all-spec : {M : Type 1} → statement M
-insert-all-spec =
+pub insert_all_spec : {M : Type 1} → statement M
+insert_all_spec =
     tie.close
     (tie.spec
     invariant-loop

@@ -6,10 +6,10 @@ use Rattle.refinement.proofs.insertions.location_at.Tie as tie
 
 returns : tie.Need-returns
 returns c =
-    let s = c.before.before.before in location_is s.args.p s.args.work.now s.args.i s.requires.1
+    location_is c.args.p c.args.work.now c.args.i c.requires.1
 
-pub location-at-spec : {M : Type 1} → statement M
-location-at-spec =
+pub location_at_spec : {M : Type 1} → statement M
+location_at_spec =
     tie.close
     (tie.spec
     (λ c. search rules)

@@ -8,30 +8,27 @@ use Rattle.refinement.proofs.insertions.outside_at.Statement.{statement}
 use Rattle.refinement.proofs.insertions.outside_at.Tie as tie
 
 -- the span's knots are there
-inside : (c : tie.After-span) → c.span.result + 1 < length c.before.knots.result.now
+inside : (c : tie.After-span-span) → c.span-span.result + 1 < length c.knots-t.result.now
 inside c =
-    let s = c.before.before.before in
-    let k = c.before.knots in
-    span_inside s.args.p s.args.work.now s.requires k.result.now k.ensures s.args.x c.span.result c.span.ensures
+    let k = c.knots-t in
+    span_inside c.args.p c.args.work.now c.requires k.result.now k.ensures c.args.x c.span-span.result c.span-span.ensures
 
-returns : tie.Need-returns
+returns : tie.Need-returns-then-x-t
 returns c =
-    let s = c.before.before.before.before.before in
-    let k = c.before.before.before.knots in
-    let v = c.before.before.span in
-    outside_below s.args.p s.args.work.now s.requires k.result.now k.ensures s.args.x v.result v.ensures
-    c.if1.true
+    let k = c.knots-t in
+    let v = c.span-span in
+    outside_below c.args.p c.args.work.now c.requires k.result.now k.ensures c.args.x v.result v.ensures
+    c.if-x-t.true
 
-returns-2 : tie.Need-returns-2
+returns-2 : tie.Need-returns
 returns-2 c =
-    let s = c.before.before.before.before.before.before in
-    let k = c.before.before.before.before.knots in
-    let v = c.before.before.before.span in
-    outside_above s.args.p s.args.work.now s.requires k.result.now k.ensures s.args.x v.result v.ensures
-    c.before.if1.false
+    let k = c.knots-t in
+    let v = c.span-span in
+    outside_above c.args.p c.args.work.now c.requires k.result.now k.ensures c.args.x v.result v.ensures
+    c.if-x-t.false
 
-pub outside-at-spec : {M : Type 1} → statement M
-outside-at-spec =
+pub outside_at_spec : {M : Type 1} → statement M
+outside_at_spec =
     tie.close
     (tie.spec
     (λ c κs. search rules)

@@ -6,19 +6,17 @@ use Rattle.refinement.proofs.insertions.rebuild.Tie as tie
 
 polynomial-requires : tie.Need-polynomial-requires
 polynomial-requires c κs =
-    let s = c.before.before.before.before.before.before in
-    let q = c.before.before.before.before.spline-of in
-    polynomial_asks s.args.p s.args.work.now s.requires.0 s.requires.1 q.result q.ensures
+    let q = c.spline_of-s in
+    polynomial_asks c.args.p c.args.work.now c.requires.0 c.requires.1 q.result q.ensures
 
 returns : tie.Need-returns
 returns c =
-    let s = c.before.before.before.before.before.before.before.before.before in
-    let q = c.before.before.before.before.before.before.before.spline-of in
-    let v = c.before.before.polynomial in
-    polynomial_memory s.args.p s.args.work.now s.requires.0 s.requires.1 q.result q.ensures v.new.0 v.ensures.1
+    let q = c.spline_of-s in
+    let v = c.polynomial in
+    polynomial_memory c.args.p c.args.work.now c.requires.0 c.requires.1 q.result q.ensures v.new.work v.ensures.1
 
-pub rebuild-spec : {M : Type 1} → statement M
-rebuild-spec =
+pub rebuild_spec : {M : Type 1} → statement M
+rebuild_spec =
     tie.close
     (tie.spec
     (λ c κs. search rules)

@@ -5,23 +5,21 @@ use Rattle.refinement.proofs.Locating.{location_added, location_none}
 use Rattle.refinement.proofs.locations.add_location.Statement.{statement}
 use Rattle.refinement.proofs.locations.add_location.Tie as tie
 
-returns : tie.Need-returns
+returns : tie.Need-returns-then-is_selected
 returns c =
-    let s = c.before.before.before.before.before.before.before.before in
-    let a = s.args in
-    let v = c.before.before.middle in
-    location_added a.p a.work.now s.requires.0 a.i a.count s.requires.1 s.requires.2 v.result
-    (sym c.before.before.before.before.if1.true ∙ c.before.before.before.before.before.is-selected.ensures) v.ensures
+    let a = c.args in
+    let v = c.middle-x in
+    location_added a.p a.work.now c.requires.0 a.i a.count c.requires.1 c.requires.2 v.result
+    (sym c.if-is_selected.true ∙ c.is_selected.ensures) v.ensures
 
-returns-2 : tie.Need-returns-2
+returns-2 : tie.Need-returns
 returns-2 c =
-    let s = c.before.before.before.before in
-    let a = s.args in
-    location_none a.p a.work.now s.requires.0 a.i a.count s.requires.1 s.requires.2
-    (sym c.if1.false ∙ c.before.is-selected.ensures)
+    let a = c.args in
+    location_none a.p a.work.now c.requires.0 a.i a.count c.requires.1 c.requires.2
+    (sym c.if-is_selected.false ∙ c.is_selected.ensures)
 
-pub add-location-spec : {M : Type 1} → statement M
-add-location-spec =
+pub add_location_spec : {M : Type 1} → statement M
+add_location_spec =
     tie.close
     (tie.spec
     (λ c κs. search rules)

@@ -6,11 +6,11 @@ use Rattle.refinement.proofs.locations.locate.Tie as tie
 
 returns : tie.Need-returns
 returns c =
-    let a = c.before.before.before.before.before.before.before.before.before.args in
-    let u = c.before.before.before.before.before.before.collect in
-    let v = c.before.before.settle in
-    located a.p u.result v.result a.work.now u.new.0 v.new.0 u.ensures.0 u.ensures.1.0 v.ensures.0
+    let a = c.args in
+    let u = c.collect-count in
+    let v = c.settle in
+    located a.p u.result v.result a.work.now u.new.work v.new.work u.ensures.0 u.ensures.1.0 v.ensures.0
     v.ensures.1.0 v.ensures.1.1
 
-pub locate-spec : {M : Type 1} → statement M
-locate-spec = tie.close (tie.spec (λ c κs. search rules) (λ c κs. search rules) (λ c. search rules) returns)
+pub locate_spec : {M : Type 1} → statement M
+locate_spec = tie.close (tie.spec (λ c κs. search rules) (λ c κs. search rules) (λ c. search rules) returns)

@@ -10,22 +10,20 @@ use Rattle.refinement.proofs.locations.middle.Statement.{statement}
 use Rattle.refinement.proofs.locations.middle.Tie as tie
 
 -- the span's knots are there
-inside : (c : tie.After-span) → c.span.result + 1 < length c.before.before.before.before.knots.result.now
+inside : (c : tie.After-span-span) → c.span-span.result + 1 < length c.knots-t.result.now
 inside c =
-    let s = c.before.before.before.before.before.before in
-    let k = c.before.before.before.before.knots in
-    span_inside s.args.p s.args.work.now s.requires.0 k.result.now k.ensures _ c.span.result c.span.ensures
+    let k = c.knots-t in
+    span_inside c.args.p c.args.work.now c.requires.0 k.result.now k.ensures _ c.span-span.result c.span-span.ensures
 
 returns : tie.Need-returns
 unfolding of_bits round
 returns c =
-    let s = c.before.before.before.before.before.before.before.before in
-    let k = c.before.before.before.before.before.before.knots in
-    let v = c.before.before.span in
-    middle_is s.args.p s.args.work.now k.result.now s.args.i v.result k.ensures s.requires.1 v.ensures
+    let k = c.knots-t in
+    let v = c.span-span in
+    middle_is c.args.p c.args.work.now k.result.now c.args.i v.result k.ensures c.requires.1 v.ensures
 
-pub middle-spec : {M : Type 1} → statement M
-middle-spec =
+pub middle_spec : {M : Type 1} → statement M
+middle_spec =
     tie.close
     (tie.spec
     (λ c κs. search rules)

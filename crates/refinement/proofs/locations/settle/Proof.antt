@@ -6,13 +6,12 @@ use Rattle.refinement.proofs.locations.settle.Tie as tie
 
 returns : tie.Need-returns
 returns c =
-    let s = c.before.before.before.before.before.before.before in
-    let a = s.args in
-    let v = c.before.before.sort-once in
-    settled_all a.p a.work.now s.requires.0 a.count s.requires.1 v.new.0 v.result v.ensures.0 v.ensures.1
+    let a = c.args in
+    let v = c.sort_once in
+    settled_all a.p a.work.now c.requires.0 a.count c.requires.1 v.new.cells v.result v.ensures.0 v.ensures.1
 
-pub settle-spec : {M : Type 1} → statement M
-settle-spec =
+pub settle_spec : {M : Type 1} → statement M
+settle_spec =
     tie.close
     (tie.spec
     (λ c. search rules)

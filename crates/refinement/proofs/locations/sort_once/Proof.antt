@@ -4,7 +4,7 @@ use Rattle.refinement.proofs.locations.sort_once.Statement.{statement}
 use Rattle.refinement.proofs.locations.sort_once.Tie as tie
 
 returns : tie.Need-returns
-returns c = rw c.before.before.before.before.before.before.sort.ensures at c.before.before.dedup.ensures
+returns c = rw c.sort.ensures at c.dedup.ensures
 
-pub sort-once-spec : {M : Type 1} → statement M
-sort-once-spec = tie.close (tie.spec (λ c κs. search rules) (λ c κs. search rules) (λ c. search rules) returns)
+pub sort_once_spec : {M : Type 1} → statement M
+sort_once_spec = tie.close (tie.spec (λ c κs. search rules) (λ c κs. search rules) (λ c. search rules) returns)

@@ -13,8 +13,8 @@ fit : (c : tie.Start) → let p = c.args.p in
     ((p.samples - 1) * p.axes ≤ 320256) × (bounds_place p + (p.samples - 1) * p.axes ≤ length c.args.work.now)
 fit c = bounds_numbers c.args.p c.args.work.now c.requires (block c.args.p) refl
 
-pub bounds-spec : {M : Type 1} → statement M
-bounds-spec =
+pub bounds_spec : {M : Type 1} → statement M
+bounds_spec =
     tie.close
     (tie.spec
     (λ c. search rules)

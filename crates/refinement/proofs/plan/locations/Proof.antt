@@ -6,10 +6,10 @@ use Rattle.refinement.proofs.plan.locations.Tie as tie
 
 returns : tie.Need-returns
 returns c =
-    let s = c.before.before.before in locations_read s.args.p s.args.work.now s.args.count s.requires.1
+    locations_read c.args.p c.args.work.now c.args.count c.requires.1
 
-pub locations-spec : {M : Type 1} → statement M
-locations-spec =
+pub locations_spec : {M : Type 1} → statement M
+locations_spec =
     tie.close
     (tie.spec
     (λ c. search rules)

@@ -6,23 +6,21 @@ use Rattle.refinement.proofs.refit.audit_in.Tie as tie
 
 audit-requires : tie.Need-audit-requires
 audit-requires c κs =
-    let b = c.before.before.before.before in
-    (audit_asks b.args.p b.args.work.now b.requires.0, b.requires.1, b.requires.2)
+    (audit_asks c.args.p c.args.work.now c.requires.0, c.requires.1, c.requires.2)
 
 returns : tie.Need-returns
 returns c =
-    let b = c.before.before.before.before.before.before.before in
-    let a = b.args in
-    let v = c.before.before.audit in (
+    let a = c.args in
+    let v = c.audit in (
       (v.ensures.0, v.ensures.1),
       (
-        audit_memory a.p a.work.now b.requires.0 a.first a.last v.new.0 v.ensures.2,
-        checked_few a.p a.work.now b.requires.0 a.first a.last v.result.checked v.ensures.1 b.requires.2,
+        audit_memory a.p a.work.now c.requires.0 a.first a.last v.new.work v.ensures.2,
+        checked_few a.p a.work.now c.requires.0 a.first a.last v.result.checked v.ensures.1 c.requires.2,
       ),
     )
 
-pub audit-in-spec : {M : Type 1} → statement M
-audit-in-spec =
+pub audit_in_spec : {M : Type 1} → statement M
+audit_in_spec =
     tie.close
     (tie.spec
     (λ c. search rules)

@@ -16,22 +16,20 @@ fits c =
 
 fit-requires : tie.Need-fit-requires
 fit-requires c κs =
-    let b = c.before.before.before.before in
-    let a = b.args in
-    fit_asks a.p a.work.now b.requires.0 a.a a.z b.requires.1 b.requires.2
+    let a = c.args in
+    fit_asks a.p a.work.now c.requires.0 a.a a.z c.requires.1 c.requires.2
 
 returns : tie.Need-returns
 returns c =
-    let b = c.before.before.before.before.before.before.before in
-    let a = b.args in
-    let f = c.before.before.fit in (
-      fit_answer a.p a.work.now b.requires.0 a.a a.z b.requires.1 b.requires.2 a.strength _ f.ensures.0,
-      fit_memory a.p a.work.now b.requires.0 a.a a.z b.requires.1 b.requires.2 a.strength f.new.0 (omega (arith, fits b))
+    let a = c.args in
+    let f = c.fit in (
+      fit_answer a.p a.work.now c.requires.0 a.a a.z c.requires.1 c.requires.2 a.strength _ f.ensures.0,
+      fit_memory a.p a.work.now c.requires.0 a.a a.z c.requires.1 c.requires.2 a.strength f.new.work (omega (arith, fits c.before.before.before.before.before.before.before))
           f.ensures.1.0,
     )
 
-pub fit-in-spec : {M : Type 1} → statement M
-fit-in-spec =
+pub fit_in_spec : {M : Type 1} → statement M
+fit_in_spec =
     tie.close
     (tie.spec
     (λ c. search rules)

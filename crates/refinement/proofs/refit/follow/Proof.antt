@@ -11,16 +11,15 @@ use Rattle.refinement.proofs.refit.follow.Tie as tie
 
 returns : tie.Need-returns
 returns c =
-    let n = c.number_of in
-    let v = c.before.before.before.audit-in in
-    let s = c.before.before.before.before.before.smaller in
-    let d = c.before.before.before.before.before.before.before.down in
-    let f = c.before.before.before.before.before.before.before.before.before.before.refresh in
-    let b = c.before.before.before.before.before.before.before.before.before.before.before.before.before in
-    let a = b.args in
+    let n = c.number_of-number in
+    let v = c.audit_in-audited in
+    let s = c.smaller-right in
+    let d = c.down-left in
+    let f = c.refresh in
+    let a = c.args in
     let x = memory_at a.p a.work.now in
-    let x₁ = memory_at a.p f.new.0 in
-    let x₂ = memory_at a.p v.new.0 in
+    let x₁ = memory_at a.p f.new.work in
+    let x₂ = memory_at a.p v.new.work in
     let P = (polynomial_in a.p.axes (spline_at a.p a.work.now)).coefficients in
     let A = audit_over a.p d.result s.result x₁ in (
       λ k. (
@@ -31,12 +30,12 @@ returns c =
           ),
       (
         after_audit a.p x x₁ x₂ P A.bounds A.witness f.ensures.0 f.ensures.1 v.ensures.1.0,
-        (refl, omega (arith, v.ensures.1.1, b.requires.0.0.waypoints_fit, b.requires.0.0.small)),
+        (refl, omega (arith, v.ensures.1.1, c.requires.0.0.waypoints_fit, c.requires.0.0.small)),
       ),
     )
 
-pub follow-spec : {M : Type 1} → statement M
-follow-spec =
+pub follow_spec : {M : Type 1} → statement M
+follow_spec =
     tie.close
     (tie.spec
     (λ c κs. search rules)

@@ -16,7 +16,7 @@ use Rattle.refinement.proofs.Turns.{same_self, same_then, turn_next, turn_refuse
 use Rattle.refinement.proofs.regions.refit_all.Statement.{statement}
 use Rattle.refinement.proofs.regions.refit_all.Tie as tie
 
-abbrev invariant-loop : tie.invariant-loop
+abbrev invariant-loop : tie.invariant-loop-from
 invariant-loop work₀ p count strength so-far₀ from₀ work so_far from =
     (from ≤ count)
     × (length work ≡ length work₀)
@@ -27,57 +27,56 @@ invariant-loop work₀ p count strength so-far₀ from₀ work so_far from =
     × (so_far.refinements ≡ so-far₀.refinements)
     × More from so-far₀ so_far
 
-abbrev decreases-loop : tie.decreases-loop
+abbrev decreases-loop : tie.decreases-loop-from
 decreases-loop work₀ p count strength so-far₀ from₀ work so_far from = count - from
 
-loop-holds : tie.Need-loop-init invariant-loop decreases-loop
+loop-holds : tie.Need-loop-from-init invariant-loop decreases-loop
 loop-holds c =
-    let b = c.before in (
+    (
       omega arith,
       refl,
-      b.requires.0.3,
-      same_self (memory_at b.args.p b.args.work.now),
+      c.requires.0.3,
+      same_self (memory_at c.args.p c.args.work.now),
       refl,
       refl,
       record { rows = omega arith; intervals = omega arith },
     )
 
-region-turn-requires : tie.Need-region-turn-requires invariant-loop decreases-loop
+region-turn-requires : tie.Need-region_turn-t-requires invariant-loop decreases-loop
 region-turn-requires c κs =
-    let b = c.before.before.before.before in
-    let a = b.args in
-    let l = c.before.before.loop in
-    let some = c.before.loop-test.true in
+    let a = c.args in
+    let l = c.loop-from in
+    let some = c.loop-from-test.true in
     let g = l.invariant.6 in (
       (
-        rw l.invariant.1 b.requires.0.0,
+        rw l.invariant.1 c.requires.0.0,
         some,
         omega arith,
-        subst (λ (t : List Float). Wide t a.p.count) (sym l.invariant.3.same_t) b.requires.0.2,
+        subst (λ (t : List Float). Wide t a.p.count) (sym l.invariant.3.same_t) c.requires.0.2,
         l.invariant.2,
       ),
       (
-        b.requires.1.0 ∙ ap strength_of (sym l.invariant.5),
-        (omega (arith, g.rows, b.requires.1.1.0, some), omega (arith, g.intervals, b.requires.1.1.1, some)),
+        c.requires.1.0 ∙ ap strength_of (sym l.invariant.5),
+        (omega (arith, g.rows, c.requires.1.1.0, some), omega (arith, g.intervals, c.requires.1.1.1, some)),
       ),
     )
 
-same_length : tie.Need-same-length invariant-loop decreases-loop
+same_length : tie.Need-shape_of-work-then-number-gt0 invariant-loop decreases-loop
 same_length c = omega arith
 
-returns : tie.Need-returns invariant-loop decreases-loop
+returns : tie.Need-returns-then-number-gt0 invariant-loop decreases-loop
 returns c =
-    let a = c.before.before.before.before.before.before.before.before.before.args in
-    let l = c.before.before.before.before.before.before.before.loop in
-    let t = c.before.before.before.before.region-turn in
+    let a = c.args in
+    let l = c.loop-from in
+    let t = c.region_turn-t in
     let f = t.ensures.1.1 in
-    let some = c.before.before.before.before.before.before.loop-test.true in (
+    let some = c.loop-from-test.true in (
       turn_refused a.p a.count l.from (memory_at a.p a.work.now) (memory_at a.p l.work)
           (state_at a.p (counts_of l.so_far) l.work) _ l.invariant.3 l.invariant.4
-          t.result.next t.result.number (state_at a.p (counts_of t.result.report) t.new.0) c.if1.true
+          t.result.next t.result.number (state_at a.p (counts_of t.result.report) t.new.work) c.if-number-gt0.true
           t.ensures.0,
       (
-        λ h. absurd (omega (arith, c.if1.true, h)),
+        λ h. absurd (omega (arith, c.if-number-gt0.true, h)),
         (
           f.0 ∙ l.invariant.5,
           record {
@@ -88,16 +87,16 @@ returns c =
       ),
     )
 
-loop-less : tie.Need-loop-smaller invariant-loop decreases-loop
-loop-less c = omega (arith, c.before.before.before.before.region-turn.ensures.1.1.2)
+loop-less : tie.Need-loop-from-smaller invariant-loop decreases-loop
+loop-less c = omega (arith, c.region_turn-t.ensures.1.1.2)
 
-loop-again : tie.Need-loop-preserved invariant-loop decreases-loop
+loop-again : tie.Need-loop-from-preserved invariant-loop decreases-loop
 loop-again c =
-    let a = c.before.before.before.before.before.before.before.before.before.args in
-    let l = c.before.before.before.before.before.before.before.loop in
-    let t = c.before.before.before.before.region-turn in
+    let a = c.args in
+    let l = c.loop-from in
+    let t = c.region_turn-t in
     let f = t.ensures.1.1 in
-    let z : t.result.number ≡ 0 = omega (arith, c.if1.false) in
+    let z : t.result.number ≡ 0 = omega (arith, c.if-number-gt0.false) in
     let k = t.ensures.1.0 z in (
       f.3,
       omega arith,
@@ -105,7 +104,7 @@ loop-again c =
       same_then l.invariant.3 k.1,
       turn_next a.p a.count l.from (memory_at a.p a.work.now) (memory_at a.p l.work)
           (state_at a.p (counts_of l.so_far) l.work) _ l.invariant.3 l.invariant.4
-          t.result.next t.result.number (state_at a.p (counts_of t.result.report) t.new.0) z t.ensures.0,
+          t.result.next t.result.number (state_at a.p (counts_of t.result.report) t.new.work) z t.ensures.0,
       f.0 ∙ l.invariant.5,
       record {
         rows = omega (arith, f.1.rows, l.invariant.6.rows, f.2);
@@ -113,15 +112,15 @@ loop-again c =
       },
     )
 
-same-length-2 : tie.Need-same-length-2 invariant-loop decreases-loop
-same-length-2 c = c.before.loop.invariant.1
+same-length-2 : tie.Need-shape_of-work invariant-loop decreases-loop
+same-length-2 c = c.loop-from.invariant.1
 
-returns-2 : tie.Need-returns-2 invariant-loop decreases-loop
+returns-2 : tie.Need-returns invariant-loop decreases-loop
 returns-2 c =
-    let a = c.before.before.before.args in
-    let l = c.before.loop in (
+    let a = c.args in
+    let l = c.loop-from in (
       turns_done a.p a.count l.from (memory_at a.p a.work.now) (memory_at a.p l.work)
-          (state_at a.p (counts_of l.so_far) l.work) _ l.invariant.3 l.invariant.4 c.loop-test.false,
+          (state_at a.p (counts_of l.so_far) l.work) _ l.invariant.3 l.invariant.4 c.loop-from-test.false,
       (
         λ h. l.invariant.3,
         (
@@ -134,8 +133,8 @@ returns-2 c =
       ),
     )
 
-pub refit-all-spec : {M : Type 1} → statement M
-refit-all-spec =
+pub refit_all_spec : {M : Type 1} → statement M
+refit_all_spec =
     tie.close
     (tie.spec
     invariant-loop

@@ -8,19 +8,17 @@ use Rattle.refinement.proofs.Turns.{region_is}
 use Rattle.refinement.proofs.regions.region_at.Statement.{statement}
 use Rattle.refinement.proofs.regions.region_at.Tie as tie
 
-next-region-requires : tie.Need-next-region-requires
+next-region-requires : tie.Need-next_region-requires
 next-region-requires c κs =
-    let s = c.before.before.before in
-    let a = s.args in
-    omega (arith, ap length c.locations.ensures, locations_count a.p a.work.now s.requires.0 a.count s.requires.2, s.requires.1)
+    let a = c.args in
+    omega (arith, ap length c.locations-x.ensures, locations_count a.p a.work.now c.requires.0 a.count c.requires.2, c.requires.1)
 
 returns : tie.Need-returns
 returns c =
-    let s = c.before.before.before.before in
-    let a = s.args in
-    let v = c.next-region in
-    region_is a.p a.work.now s.requires.0 a.count a.from v.result.a v.result.z v.result.next s.requires.2 _ _
-    c.before.before.knots.ensures c.before.locations.ensures v.ensures.0 v.ensures.1
+    let a = c.args in
+    let v = c.next_region in
+    region_is a.p a.work.now c.requires.0 a.count a.from v.result.a v.result.z v.result.next c.requires.2 _ _
+    c.knots-t.ensures c.locations-x.ensures v.ensures.0 v.ensures.1
 
-pub region-at-spec : {M : Type 1} → statement M
-region-at-spec = tie.close (tie.spec (λ c κs. search rules) (λ c κs. search rules) next-region-requires returns)
+pub region_at_spec : {M : Type 1} → statement M
+region_at_spec = tie.close (tie.spec (λ c κs. search rules) (λ c κs. search rules) next-region-requires returns)

@@ -11,85 +11,80 @@ use Rattle.refinement.proofs.Rounds.{round_refused, knots_wide, rebuilt_wide, re
 use Rattle.refinement.proofs.round.round_from.Statement.{statement}
 use Rattle.refinement.proofs.round.round_from.Tie as tie
 
-returns : tie.Need-returns
+returns : tie.Need-returns-then-number-gt0
 returns c =
-    let v = c.before.before.before.insert_all in (
-      round_refused v.result.number _ _ _ _ c.if1.true v.ensures.0,
+    let v = c.insert_all-g in (
+      round_refused v.result.number _ _ _ _ c.if-number-gt0.true v.ensures.0,
       (
-        λ h. absurd (omega (arith, c.if1.true, h)),
+        λ h. absurd (omega (arith, c.if-number-gt0.true, h)),
         (
           omega arith,
-          more_none c.before.before.before.before.before.before.args.count
-              c.before.before.before.before.before.before.args.report,
+          more_none c.args.count
+              c.args.report,
         ),
       ),
     )
 
 rebuild-requires : tie.Need-rebuild-requires
 rebuild-requires c κs =
-    let b = c.before.before.before.before.before.before.before in
-    let a = b.args in
-    let v = c.before.before.before.before.insert_all in
+    let a = c.args in
+    let v = c.insert_all-g in
     let x = memory_at a.p a.work.now in
     let m = v.result.count in
-    let x₁ = memory_at (sized a.p m) v.new.0 in
-    let z : v.result.number ≡ 0 = omega (arith, c.before.if1.false) in
-    let same : length v.new.0 ≡ length a.work.now = omega arith in (
-      roomy_more a.p (length a.work.now) (length v.new.0) a.count m a.count b.requires.0.0 same b.requires.0.1
+    let x₁ = memory_at (sized a.p m) v.new.work in
+    let z : v.result.number ≡ 0 = omega (arith, c.if-number-gt0.false) in
+    let same : length v.new.work ≡ length a.work.now = omega arith in (
+      roomy_more a.p (length a.work.now) (length v.new.work) a.count m a.count c.requires.0.0 same c.requires.0.1
           (v.ensures.1 z).1 (omega arith),
-      knots_wide a.p m a.count v.result.number x x₁ z v.ensures.0 b.requires.0.2 b.requires.0.3,
+      knots_wide a.p m a.count v.result.number x x₁ z v.ensures.0 c.requires.0.2 c.requires.0.3,
     )
 
-refit-all-requires : tie.Need-refit-all-requires
+refit-all-requires : tie.Need-refit_all-e-requires
 refit-all-requires c κs =
-    let b = c.before.before.before.before.before.before.before.before.before.before.before.before.before in
-    let a = b.args in
-    let v = c.before.before.before.before.before.before.before.before.before.before.insert_all in
-    let u = c.before.before.before.before.before.rebuild in
+    let a = c.args in
+    let v = c.insert_all-g in
+    let u = c.rebuild in
     let x = memory_at a.p a.work.now in
     let m = v.result.count in
-    let x₁ = memory_at (sized a.p m) v.new.0 in
-    let x₂ = memory_at (sized a.p m) u.new.0 in
-    let z : v.result.number ≡ 0 = omega (arith, c.before.before.before.before.before.before.before.if1.false) in
-    let same : length u.new.0 ≡ length a.work.now = omega arith in (
+    let x₁ = memory_at (sized a.p m) v.new.work in
+    let x₂ = memory_at (sized a.p m) u.new.work in
+    let z : v.result.number ≡ 0 = omega (arith, c.if-number-gt0.false) in
+    let same : length u.new.work ≡ length a.work.now = omega arith in (
       (
-        roomy_more a.p (length a.work.now) (length u.new.0) a.count m a.count b.requires.0.0 same b.requires.0.1
+        roomy_more a.p (length a.work.now) (length u.new.work) a.count m a.count c.requires.0.0 same c.requires.0.1
             (v.ensures.1 z).1 (omega arith),
-        omega (arith, b.requires.0.1),
-        rebuilt_wide a.p m a.count v.result.number x x₁ z v.ensures.0 x₂ u.ensures b.requires.0.2 b.requires.0.3,
+        omega (arith, c.requires.0.1),
+        rebuilt_wide a.p m a.count v.result.number x x₁ z v.ensures.0 x₂ u.ensures c.requires.0.2 c.requires.0.3,
         rebuilt_stored a.p m a.count v.result.number x x₁ z v.ensures.0 x₂ u.ensures,
       ),
-      (c.before.strength-of.ensures, b.requires.1.1),
+      (c.strength_of-strength.ensures, c.requires.1.1),
     )
 
-returns-2 : tie.Need-returns-2
+returns-2 : tie.Need-returns
 returns-2 c =
-    let rebuilt = c.before.before.before.before.before.before.before.before.before in
-    let inserted = rebuilt.before.before.before.before.before in
-    let b = inserted.before.before.before in
-    let a = b.args in
-    let v = inserted.insert_all in
-    let u = rebuilt.rebuild in
-    let e = c.before.before.before.refit-all in
+    let a = c.args in
+    let v = c.insert_all-g in
+    let u = c.rebuild in
+    let e = c.refit_all-e in
     let m = v.result.count in
-    let z : v.result.number ≡ 0 = omega (arith, rebuilt.before.before.if1.false) in
+    let z : v.result.number ≡ 0 = omega (arith, c.if-number-gt0.false) in
     let k = v.ensures.1 z in (
-      round_is a.p m a.count v.result.number (memory_at a.p a.work.now) (memory_at (sized a.p m) v.new.0) z
+      round_is a.p m a.count v.result.number (memory_at a.p a.work.now) (memory_at (sized a.p m) v.new.work) z
           v.ensures.0
-          (memory_at (sized a.p m) u.new.0) u.ensures k.0 (counts_of a.report) _ e.ensures.0,
+          (memory_at (sized a.p m) u.new.work) u.ensures k.0 (counts_of a.report) _ e.ensures.0,
       (
         λ h. (
-          round_stands a.p m a.count v.result.number a.work.now v.new.0 u.new.0 e.new.0 z v.ensures.0
+          round_stands a.p m a.count v.result.number a.work.now v.new.work u.new.work e.new.work z v.ensures.0
               u.ensures k.0
-              (e.ensures.1.0 h) b.requires.0.2 b.requires.0.3,
+              (e.ensures.1.0 h) c.requires.0.2 c.requires.0.3,
           k.1,
         ),
         (omega (arith, e.ensures.1.1.0), record { rows = e.ensures.1.1.1.rows; intervals = e.ensures.1.1.1.intervals }),
       ),
     )
 
-pub round-from-spec : {M : Type 1} → statement M
-round-from-spec =
+pub round_from_spec : {M : Type 1} → statement M
+round_from_spec =
     tie.close
     (tie.spec
     (λ c κs. search rules)

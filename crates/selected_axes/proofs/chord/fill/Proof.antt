@@ -10,22 +10,22 @@ use Rattle.window.proofs.Filling.{fill_more}
 use Rattle.selected_axes.proofs.chord.fill.Statement.{statement}
 use Rattle.selected_axes.proofs.chord.fill.Tie as tie
 
-abbrev invariant-loop : tie.invariant-loop
+abbrev invariant-loop : tie.invariant-loop-i
 invariant-loop cells₀ x i₀ cells i = (i ≤ length cells₀) × ((cells ≡ replicate i x ++ drop i cells₀) × (length cells ≡ length cells₀))
 
-abbrev decreases-loop : tie.decreases-loop
+abbrev decreases-loop : tie.decreases-loop-i
 decreases-loop cells₀ x i₀ cells i = length cells₀ - i
 
-loop-again : tie.Need-loop-preserved invariant-loop decreases-loop
+loop-again : tie.Need-loop-i-preserved invariant-loop decreases-loop
 loop-again c =
-    let l = c.before.loop in
-    let a = c.before.before.args in
+    let l = c.loop-i in
+    let a = c.args in
     (omega arith, (rw l.invariant.1.0 (fill_more a.x a.cells.now l.i (omega arith)), simp length-set (search rules)))
 
 returns : tie.Need-returns invariant-loop decreases-loop
 returns c =
-    let l = c.before.loop in
-    let a = c.before.before.args in
+    let l = c.loop-i in
+    let a = c.args in
     let e : l.i ≡ length a.cells.now = omega arith in
     l.invariant.1.0 ∙ rw (e, drop-length) (append-nil _)
 

@@ -16,26 +16,26 @@ use Rattle.selected_axes.proofs.chord.greville.Tie as tie
 abbrev term : List Float → ℕ → ℕ → Float → Float
 term t i j v = add binary64 v (at t (i + 1 + j))
 
-abbrev invariant-loop : tie.invariant-loop
+abbrev invariant-loop : tie.invariant-loop-j
 invariant-loop t i sum₀ j₀ sum j = (j ≤ 5) × (each (term t i) j 5 sum ≡ each (term t i) 0 5 systems.-0)
 
-abbrev decreases-loop : tie.decreases-loop
+abbrev decreases-loop : tie.decreases-loop-j
 decreases-loop t i sum₀ j₀ sum j = 5 - j
 
-loop-holds : tie.Need-loop-init invariant-loop decreases-loop
+loop-holds : tie.Need-loop-j-init invariant-loop decreases-loop
 unfolding of_bits neg
 loop-holds c = (omega arith, refl)
 
-loop-again : tie.Need-loop-preserved invariant-loop decreases-loop
-loop-again c = (omega arith, sym (each_turn _ _ _ _ c.before.loop-test.true) ∙ c.before.before.loop.invariant.1)
+loop-again : tie.Need-loop-j-preserved invariant-loop decreases-loop
+loop-again c = (omega arith, sym (each_turn _ _ _ _ c.loop-j-test.true) ∙ c.loop-j.invariant.1)
 
 returns : tie.Need-returns invariant-loop decreases-loop
 unfolding greville_of of_bits round
 returns c =
-    ap (λ (v : Float). div binary64 v (floats.literal 5 1)) (sym (each_done _ _ _ _ c.loop-test.false) ∙ c.before.loop.invariant.1)
+    ap (λ (v : Float). div binary64 v (floats.literal 5 1)) (sym (each_done _ _ _ _ c.loop-j-test.false) ∙ c.loop-j.invariant.1)
 
-pub greville-spec : {M : Type 1} → statement M
-greville-spec =
+pub greville_spec : {M : Type 1} → statement M
+greville_spec =
     tie.close
     (tie.spec
     invariant-loop

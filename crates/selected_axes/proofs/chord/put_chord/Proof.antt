@@ -8,27 +8,24 @@ use Rattle.selected_axes.proofs.Placed.{chord_asks, chord_memory}
 use Rattle.selected_axes.proofs.chord.put_chord.Statement.{statement}
 use Rattle.selected_axes.proofs.chord.put_chord.Tie as tie
 
-numbers : (c : tie.After-spline-of) → let a = c.before.before.args in ((a.p.samples - 1) * a.p.axes ≤ 320256)
+numbers : (c : tie.After-spline_of-s) → let a = c.args in ((a.p.samples - 1) * a.p.axes ≤ 320256)
 numbers c =
-    let s = c.before.before in
-    let k = length s.args.work.now in
-    omega (arith, (products s.args.p k s.requires).bounds, block_small s.args.p k s.requires)
+    let k = length c.args.work.now in
+    omega (arith, (products c.args.p k c.requires).bounds, block_small c.args.p k c.requires)
 
-put-controls-requires : tie.Need-put-controls-requires
+put-controls-requires : tie.Need-put_controls-requires
 put-controls-requires c κs =
-    let s = c.before.before.before.before.before.before in
-    let q = c.before.before.before.before.spline-of in
-    chord_asks s.args.p s.args.work.now s.requires q.result q.ensures
+    let q = c.spline_of-s in
+    chord_asks c.args.p c.args.work.now c.requires q.result q.ensures
 
 returns : tie.Need-returns
 returns c =
-    let s = c.before.before.before.before.before.before.before.before.before in
-    let q = c.before.before.before.before.before.before.before.spline-of in
-    let v = c.before.before.put-controls in
-    chord_memory s.args.p s.args.work.now s.requires q.result q.ensures v.new.0 v.ensures
+    let q = c.spline_of-s in
+    let v = c.put_controls in
+    chord_memory c.args.p c.args.work.now c.requires q.result q.ensures v.new.work v.ensures
 
-pub put-chord-spec : {M : Type 1} → statement M
-put-chord-spec =
+pub put_chord_spec : {M : Type 1} → statement M
+put_chord_spec =
     tie.close
     (tie.spec
     (λ c κs. search rules)

@@ -15,13 +15,13 @@ use Rattle.selected_axes.proofs.chord.put_control.Tie as tie
 abbrev cell : List Float → ℕ → Float → ℕ → Float
 cell w last u a = mul binary64 u (at w (last + a))
 
-abbrev invariant-loop : tie.invariant-loop
+abbrev invariant-loop : tie.invariant-loop-a
 invariant-loop work₀ to last d u a₀ work a = (a ≤ d) × (work ≡ written to (list_of a (cell work₀ last u)) work₀) × (length work ≡ length work₀)
 
-abbrev decreases-loop : tie.decreases-loop
+abbrev decreases-loop : tie.decreases-loop-a
 decreases-loop work₀ to last d u a₀ work a = d - a
 
-loop-holds : tie.Need-loop-init invariant-loop decreases-loop
+loop-holds : tie.Need-loop-a-init invariant-loop decreases-loop
 loop-holds c =
     let a = c.args in (
       omega arith,
@@ -30,11 +30,10 @@ loop-holds c =
       refl,
     )
 
-loop-again : tie.Need-loop-preserved invariant-loop decreases-loop
+loop-again : tie.Need-loop-a-preserved invariant-loop decreases-loop
 loop-again c =
-    let s = c.before.before.before in
-    let a = s.args in
-    let l = c.before.before.loop in
+    let a = c.args in
+    let l = c.loop-a in
     let w = a.work.now in
     let f = cell w a.last a.u in
     let read : at l.work (a.last + l.a) ≡ at w (a.last + l.a) =
@@ -48,13 +47,13 @@ loop-again c =
 
 returns : tie.Need-returns invariant-loop decreases-loop
 returns c =
-    let a = c.before.before.args in
-    let l = c.before.loop in
+    let a = c.args in
+    let l = c.loop-a in
     let e : l.a ≡ a.d = omega arith in
     l.invariant.1 ∙ ap (λ (k : ℕ). written a.to (list_of k (cell a.work.now a.last a.u)) a.work.now) e
 
-pub put-control-spec : {M : Type 1} → statement M
-put-control-spec =
+pub put_control_spec : {M : Type 1} → statement M
+put_control_spec =
     tie.close
     (tie.spec
     invariant-loop

@@ -8,14 +8,13 @@ use Rattle.selected_axes.proofs.chord.put_ends.Tie as tie
 returns : tie.Need-returns
 unfolding of_bits round
 returns c =
-    let s = c.before.before.before.before.before.before.before.before.before.before.before.before in
-    let k = c.before.before.before.before.before.before.before.before.before.before.Block-of in
-    let u = c.before.before.before.before.before.before.clear in
-    let v = c.before.before.fill in
-    opened s.args.p s.args.work.now s.requires u.new.0 v.new.0 k.result k.ensures.0 u.ensures v.ensures
+    let k = c.block_of-b in
+    let u = c.clear in
+    let v = c.fill in
+    opened c.args.p c.args.work.now c.requires u.new.s v.new.cells k.result k.ensures.0 u.ensures v.ensures
 
-pub put-ends-spec : {M : Type 1} → statement M
-put-ends-spec =
+pub put_ends_spec : {M : Type 1} → statement M
+put_ends_spec =
     tie.close
     (tie.spec
     (λ c κs. search rules)

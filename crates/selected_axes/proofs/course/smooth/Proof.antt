@@ -33,48 +33,47 @@ units s =
     units_of a.points.now a.d p.samples (take p.axes a.axes.now) (take p.axes a.eps.now)
 
 -- the plan and the state after the start
-abbrev begun : tie.After-start → tie.Start
+abbrev begun : tie.After-start-s → tie.Start
 begun c = c.before.before.before.before
 
-abbrev plan : tie.After-start → Plan
-plan c = sized (begun c).args.p c.start.result.count
+abbrev plan : tie.After-start-s → Plan
+plan c = sized (begun c).args.p c.start-s.result.count
 
-abbrev state : tie.After-start → State
-state c = state_in (plan c) (counts_of c.start.result.report) (memory_at (plan c) c.start.new.0)
+abbrev state : tie.After-start-s → State
+state c = state_in (plan c) (counts_of c.start-s.result.report) (memory_at (plan c) c.start-s.new.work)
 
 -- the start refused nothing
-abbrev entered : tie.Else1 → tie.After-start
+abbrev entered : tie.Else-number-gt0 → tie.After-start-s
 entered c = c.before.before.before.before
 
-not_refused : (c : tie.Else1) → (entered c).start.result.number ≡ 0
-not_refused c = omega (arith, c.if1.false)
+not_refused : (c : tie.Else-number-gt0) → (entered c).start-s.result.number ≡ 0
+not_refused c = omega (arith, c.if-number-gt0.false)
 
-started : (c : tie.Else1) → let f = entered c in done (state f) ≡ start_of (begun f).args.segments (task (begun f))
-started c = let f = (entered c).start in unless_zero f.result.number _ _ (not_refused c) f.ensures.0
+started : (c : tie.Else-number-gt0) → let f = entered c in done (state f) ≡ start_of (begun f).args.segments (task (begun f))
+started c = let f = (entered c).start-s in unless_zero f.result.number _ _ (not_refused c) f.ensures.0
 
-returns : tie.Need-returns
+returns : tie.Need-returns-then-number-gt0
 returns c =
-    let b = c.before.before.before.before.before in
-    let s = begun b in
-    let f = b.start in
+    let s = begun c.before.before.before.before.before in
+    let f = c.start-s in
     let e = c.ended in (
-      answer_refused s.args.p e.result f.new.0 f.result.number e.ensures.0
-          ∙ start_refuses (limits s) (task s) (units s) f.result.number _ c.before.if1.true f.ensures.0,
+      answer_refused s.args.p e.result f.new.work f.result.number e.ensures.0
+          ∙ start_refuses (limits s) (task s) (units s) f.result.number _ c.if-number-gt0.true f.ensures.0,
       λ h. absurd (refused_done e.result.ending f.result.number e.ensures.0 h),
     )
 
-refine-requires : tie.Need-refine-requires
+refine-requires : tie.Need-refine-r-requires
 refine-requires c κs =
     let b = entered c.before in
     let s = begun b in
-    let k = b.start.ensures.1.0 (not_refused c.before) in
-    let b = b.start.ensures.1.1 in
-    let few = s.pre.2 in
-    ((k.3, s.pre.1, k.1), (omega (arith, b.0, few), omega (arith, b.1, few), omega (arith, b.2, few)))
+    let k = b.start-s.ensures.1.0 (not_refused c.before) in
+    let b = b.start-s.ensures.1.1 in
+    let few = s.requires.2 in
+    ((k.3, s.requires.1, k.1), (omega (arith, b.0, few), omega (arith, b.1, few), omega (arith, b.2, few)))
 
 -- the rounds have ended
-module _ (c : tie.After-refine) where
-  abbrev first : tie.After-start
+module _ (c : tie.After-refine-r) where
+  abbrev first : tie.After-start-s
   first = entered c.before.before
 
   abbrev s : tie.Start
@@ -84,75 +83,71 @@ module _ (c : tie.After-refine) where
   begins = started c.before.before
 
   -- by the variant that was found
-  refined : (r : Refined) → c.refine.result ≡ r
-      → outcome_of (plan first) r c.refine.new.0 ≡ refine_of s.args.segments s.args.refinements (task s) (state first)
+  refined : (r : Refined) → c.refine-r.result ≡ r
+      → outcome_of (plan first) r c.refine-r.new.work ≡ refine_of s.args.segments s.args.refinements (task s) (state first)
   refined r e =
-      ap (λ (v : Refined). outcome_of (plan first) v c.refine.new.0) (sym e) ∙ c.refine.ensures.0
+      ap (λ (v : Refined). outcome_of (plan first) v c.refine-r.new.work) (sym e) ∙ c.refine-r.ensures.0
       ∙ ap (λ (t : Task). refine_of s.args.segments s.args.refinements t (state first))
-      (first.start.ensures.1.0 (not_refused c.before.before)).2
+      (first.start-s.ensures.1.0 (not_refused c.before.before)).2
 
-  stands : (r : Refined) → c.refine.result ≡ r → Stands (plan first) r first.start.last.0 c.refine.new.0
-  stands r e = subst (λ (v : Refined). Stands (plan first) v first.start.last.0 c.refine.new.0) e c.refine.ensures.1
+  stands : (r : Refined) → c.refine-r.result ≡ r → Stands (plan first) r first.start-s.new.work c.refine-r.new.work
+  stands r e = subst (λ (v : Refined). Stands (plan first) v first.start-s.new.work c.refine-r.new.work) e c.refine-r.ensures.1
 
 conclude-requires : tie.Need-conclude-requires
 conclude-requires c κs =
-    let f = c.before.before.before.before.before.before.before in
-    let s = s f in
-    let p = s.pre in
-    let g = c.before.before.before.r.given in
-    let t = stands f _ g.1 in (
+    let s = s c.before.before.before.before.before in
+    let p = s.requires in
+    let g = c.in-Done in
+    let t = stands c.before.before.before.before.before _ g.is in (
       t.2,
       t.1,
       p.3,
       p.4,
       p.5,
       p.6,
-      settled_intervals (limits s) (task s) (units s) (state (first f)) (begins f) _ (refined f _ g.1)
+      settled_intervals (limits s) (task s) (units s) (state (first c.before.before.before.before.before)) (begins c.before.before.before.before.before) _ (refined c.before.before.before.before.before _ g.is)
           (lengths s.args.p s.args.work.now p.0).s p.4 p.2,
     )
 
-returns-2 : tie.Need-returns-2
+returns-2 : tie.Need-returns-in-Done
 returns-2 c =
-    let f = c.before.before.before.before.before.before.before.before.before.before in
-    let s = s f in
-    let v = f.refine in
-    let g = c.before.before.before.before.before.before.r.given in
-    let w = c.before.before.conclude in
-    let t = stands f _ g.1 in
-    let o = refined f _ g.1 in
-    let k = ((first f).start.ensures.1.0 (not_refused f.before.before)).2 in
-    let same : length w.new.0 ≡ length v.new.0 = omega arith in (
-      rounds_settle (limits s) (task s) (units s) (state (first f)) (begins f) _ o _ _ (t.0 ∙ k) w.ensures.0,
+    let s = s c.before.before.before.before.before.before.before.before in
+    let v = c.refine-r in
+    let g = c.in-Done in
+    let w = c.conclude in
+    let t = stands c.before.before.before.before.before.before.before.before _ g.is in
+    let o = refined c.before.before.before.before.before.before.before.before _ g.is in
+    let k = ((first c.before.before.before.before.before.before.before.before).start-s.ensures.1.0 (not_refused c.before.before.before.before.before.before.before.before.before.before)).2 in
+    let same : length w.new.work ≡ length v.new.work = omega arith in (
+      rounds_settle (limits s) (task s) (units s) (state (first c.before.before.before.before.before.before.before.before)) (begins c.before.before.before.before.before.before.before.before) _ o _ _ (t.0 ∙ k) w.ensures.0,
       λ _. (
         rw (w.ensures.1, same) t.2,
-        rw w.ensures.1 (settled_few (limits s) (task s) (units s) (state (first f)) (begins f) _ o),
+        rw w.ensures.1 (settled_few (limits s) (task s) (units s) (state (first c.before.before.before.before.before.before.before.before)) (begins c.before.before.before.before.before.before.before.before) _ o),
       ),
     )
 
-returns-3 : tie.Need-returns-3
+returns-3 : tie.Need-returns-in-Refused
 returns-3 c =
-    let f = c.before.before.before.before.before.before in
-    let s = s f in
-    let e = c.ended2 in
-    let g = c.before.before.r2.given in (
-      answer_refused s.args.p e.result f.refine.new.0 _ e.ensures.0
-          ∙ rounds_refuse (limits s) (task s) (units s) (state (first f)) (begins f) _ (refined f _ g.1),
+    let s = s c.before.before.before.before in
+    let e = c.ended-in-Refused in
+    let g = c.in-Refused in (
+      answer_refused s.args.p e.result c.refine-r.new.work _ e.ensures.0
+          ∙ rounds_refuse (limits s) (task s) (units s) (state (first c.before.before.before.before)) (begins c.before.before.before.before) _ (refined c.before.before.before.before _ g.is),
       λ h. absurd (refused_done e.result.ending _ e.ensures.0 h),
     )
 
-returns-4 : tie.Need-returns-4
+returns-4 : tie.Need-returns-in-Exhausted
 returns-4 c =
-    let f = c.before.before.before.before.before.before in
-    let s = s f in
-    let e = c.ended3 in
-    let g = c.before.before.r3.given in (
-      answer_exhausted s.args.p e.result f.refine.new.0 _ e.ensures.0
-          ∙ rounds_exhaust (limits s) (task s) (units s) (state (first f)) (begins f) _ (refined f _ g.1),
+    let s = s c.before.before.before.before in
+    let e = c.ended-in-Exhausted in
+    let g = c.in-Exhausted in (
+      answer_exhausted s.args.p e.result c.refine-r.new.work _ e.ensures.0
+          ∙ rounds_exhaust (limits s) (task s) (units s) (state (first c.before.before.before.before)) (begins c.before.before.before.before) _ (refined c.before.before.before.before _ g.is),
       λ h. absurd (exhausted_done e.result.ending _ e.ensures.0 h),
     )
 
-pub smooth-spec : {M : Type 1} → statement M
-smooth-spec =
+pub smooth_spec : {M : Type 1} → statement M
+smooth_spec =
     tie.close
     (tie.spec
     (λ c κs. search rules)

@@ -8,21 +8,19 @@ use Rattle.selected_axes.proofs.Finishing.{errors_are}
 use Rattle.selected_axes.proofs.finish.errors_in.Statement.{statement}
 use Rattle.selected_axes.proofs.finish.errors_in.Tie as tie
 
-numbers : (c : tie.After-block-of) → let a = c.before.before.args in
-    ((a.p.samples - 1) * a.p.axes ≤ 320256) × (2 * a.p.room + 2 * c.Block-of.result + (a.p.samples - 1) * a.p.axes ≤ length
+numbers : (c : tie.After-block_of-b) → let a = c.args in
+    ((a.p.samples - 1) * a.p.axes ≤ 320256) × (2 * a.p.room + 2 * c.block_of-b.result + (a.p.samples - 1) * a.p.axes ≤ length
     a.work.now)
 numbers c =
-    let s = c.before.before in
-    bounds_numbers s.args.p s.args.work.now s.requires c.Block-of.result c.Block-of.ensures.0
+    bounds_numbers c.args.p c.args.work.now c.requires c.block_of-b.result c.block_of-b.ensures.0
 
 returns : tie.Need-returns
 returns c =
-    let s = c.before.before.before.before.before.before.before in
-    let k = c.before.before.before.before.before.Block-of in
-    errors_are s.args.p s.args.work.now c.errors.result k.result s.requires k.ensures.0 c.errors.ensures
+    let k = c.block_of-b in
+    errors_are c.args.p c.args.work.now c.errors.result k.result c.requires k.ensures.0 c.errors.ensures
 
-pub errors-in-spec : {M : Type 1} → statement M
-errors-in-spec =
+pub errors_in_spec : {M : Type 1} → statement M
+errors_in_spec =
     tie.close
     (tie.spec
     (λ c κs. search rules)

@@ -14,20 +14,20 @@ use Rattle.selected_axes.proofs.Finishing.{Audited, finish_refused, finish_exces
 use Rattle.selected_axes.proofs.finish.finish.Statement.{statement}
 use Rattle.selected_axes.proofs.finish.finish.Tie as tie
 
-put-physical-requires : tie.Need-put-physical-requires
+put-physical-requires : tie.Need-put_physical-requires
 put-physical-requires c κs =
-    let s = c.before.before.before in (
-      s.requires.0,
-      s.requires.2,
-      s.requires.3,
-      s.requires.4,
-      s.requires.5,
-      wide (memory_at s.args.p s.args.work.now).t s.args.p.count s.requires.1,
+    (
+      c.requires.0,
+      c.requires.2,
+      c.requires.3,
+      c.requires.4,
+      c.requires.5,
+      wide (memory_at c.args.p c.args.work.now).t c.args.p.count c.requires.1,
     )
 
 -- the errors were read: where it began
-abbrev begun : tie.After-errors-in → tie.Start
-begun c = c.before.before.before.before.before.before.before.before.before.before.before.before.before.before
+abbrev begun : tie.After-errors_in-errors → tie.Start
+begun c = c.before.before.before.before.before.before.before.before.before.before.before.before.before
 
 abbrev units : tie.Start → Units
 units s =
@@ -35,50 +35,45 @@ units s =
     let p = a.p in
     units_of a.points.now a.d p.samples (take p.axes a.axes.now) (take p.axes a.eps.now)
 
-abbrev counts : tie.After-errors-in → Counts
+abbrev counts : tie.After-errors_in-errors → Counts
 counts c = counts_of (begun c).args.report
 
-audited : (c : tie.After-errors-in) → let s = begun c in
+audited : (c : tie.After-errors_in-errors) → let s = begun c in
     let p = s.args.p in
-    let v = c.before.before.before.before.before in
-    let f = v.before.before.before.before.before.put-physical in
-    Audited p (units s) (memory_at p s.args.work.now) (memory_at p f.new.0) (memory_at p v.audit-in.new.0)
-    c.errors-in.result c.before.before.number_of.result v.audit-in.result.checked v.audit-in.result.outcome
+    let f = c.put_physical in
+    Audited p (units s) (memory_at p s.args.work.now) (memory_at p f.new.work) (memory_at p c.audit_in-a.new.work)
+    c.errors_in-errors.result c.number_of-number.result c.audit_in-a.result.checked c.audit_in-a.result.outcome
 audited c =
-    let v = c.before.before.before.before.before.audit-in in
+    let v = c.audit_in-a in
     record {
-      physical = c.before.before.before.before.before.before.before.before.before.before.put-physical.ensures;
-      number_of = c.before.before.number_of.ensures;
+      physical = c.put_physical.ensures;
+      number_of = c.number_of-number.ensures;
       outcome = v.ensures.0.0;
       counted = v.ensures.0.1;
       after = v.ensures.1.0;
-      errors_is = c.errors-in.ensures;
+      errors_is = c.errors_in-errors.ensures;
     }
 
-fits : tie.Need-after-audit-requires
+fits : tie.Need-after_audit-more-requires
 fits c κs =
     let s = begun c in
-    omega (arith, c.before.before.before.before.before.audit-in.ensures.1.1, s.pre.3, s.pre.6)
+    omega (arith, c.audit_in-a.ensures.1.1, s.requires.3, s.requires.6)
 
-returns : tie.Need-returns
-returns c = let e = c.before.before in finish_refused (audited e) (counts e) _ c.if1.true
+returns : tie.Need-returns-then-number-gt0
+returns c = finish_refused (audited c.before.before) (counts c.before.before) _ c.if-number-gt0.true
 
-returns-2 : tie.Need-returns-2
+returns-2 : tie.Need-returns-then-is_excessive
 returns-2 c =
-    let g = c.before.before.before in
-    let e = g.before.before in
-    let z : e.before.before.number_of.result ≡ 0 = omega (arith, g.if1.false) in
-    finish_excessive (audited e) (counts e) _ z (sym c.if2.true ∙ c.before.is-excessive.ensures)
+    let z : c.number_of-number.result ≡ 0 = omega (arith, c.if-number-gt0.false) in
+    finish_excessive (audited c.before.before.before.before.before) (counts c.before.before.before.before.before) _ z (sym c.if-is_excessive.true ∙ c.is_excessive.ensures)
 
-returns-3 : tie.Need-returns-3
+returns-3 : tie.Need-returns
 returns-3 c =
-    let g = c.before.before.before in
-    let e = g.before.before in
-    let p = (begun e).args.p in
-    let x = memory_at p e.before.before.before.before.before.audit-in.new.0 in
-    let z : e.before.before.number_of.result ≡ 0 = omega (arith, g.if1.false) in
-    ap (λ (k : Counts). unless 0 (selected_in p (take p.axes e.errors-in.result) k x)) g.before.after-audit.ensures
-    ∙ finish_done (audited e) (counts e) z (sym c.if2.false ∙ c.before.is-excessive.ensures)
+    let p = (begun c.before.before.before.before.before).args.p in
+    let x = memory_at p c.audit_in-a.new.work in
+    let z : c.number_of-number.result ≡ 0 = omega (arith, c.if-number-gt0.false) in
+    ap (λ (k : Counts). unless 0 (selected_in p (take p.axes c.errors_in-errors.result) k x)) c.after_audit-more.ensures
+    ∙ finish_done (audited c.before.before.before.before.before) (counts c.before.before.before.before.before) z (sym c.if-is_excessive.false ∙ c.is_excessive.ensures)
 
 pub finish_spec : {M : Type 1} → statement M
 finish_spec =

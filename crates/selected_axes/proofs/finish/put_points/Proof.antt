@@ -13,30 +13,28 @@ use Rattle.selected_axes.proofs.Placed.{points_numbers, points_written}
 use Rattle.selected_axes.proofs.finish.put_points.Statement.{statement}
 use Rattle.selected_axes.proofs.finish.put_points.Tie as tie
 
-numbers : (c : tie.After-slice-known) → let a = c.before.args in (a.p.samples * a.p.axes ≤ 320256)
+numbers : (c : tie.After-slice_known-1) → let a = c.args in (a.p.samples * a.p.axes ≤ 320256)
     × (a.p.room + a.p.samples * a.p.axes ≤ length a.work.now)
 numbers c =
-    let s = c.before in points_numbers s.args.p s.args.work.now s.requires.0
+    points_numbers c.args.p c.args.work.now c.requires.0
 
-put-rows-requires : tie.Need-put-rows-requires
+put-rows-requires : tie.Need-put_rows-requires
 put-rows-requires c κs =
-    let s = c.before.before.before in
-    let p = s.args.p in
-    let n = length_window p.room (p.room + p.samples * p.axes) s.args.work.now (omega arith) (numbers c.before.before).1 in
-    (s.requires.0.few, s.requires.1, s.requires.2, n ∙ omega arith, s.requires.3, s.requires.4)
+    let p = c.args.p in
+    let n = length_window p.room (p.room + p.samples * p.axes) c.args.work.now (omega arith) (numbers c.before.before).1 in
+    (c.requires.0.few, c.requires.1, c.requires.2, n ∙ omega arith, c.requires.3, c.requires.4)
 
 returns : tie.Need-returns
 returns c =
-    let s = c.before.before.before.before.before.before in
-    let p = s.args.p in
-    let w = s.args.work.now in
-    let v = c.before.before.put-rows in
+    let p = c.args.p in
+    let w = c.args.work.now in
+    let v = c.put_rows in
     let n = length_window p.room (p.room + p.samples * p.axes) w (omega arith)
     (numbers c.before.before.before.before.before).1 in
-    points_written p w s.requires.0 v.new.0 (omega (arith, n)) ∙ ap (λ (l : List Float). with_points l (memory_at p w)) v.ensures
+    points_written p w c.requires.0 v.new.cells (omega (arith, n)) ∙ ap (λ (l : List Float). with_points l (memory_at p w)) v.ensures
 
-pub put-points-spec : {M : Type 1} → statement M
-put-points-spec =
+pub put_points_spec : {M : Type 1} → statement M
+put_points_spec =
     tie.close
     (tie.spec
     (λ c. omega (arith, numbers c.before))

@@ -15,39 +15,39 @@ use Rattle.selected_axes.proofs.physical.is_excessive.Tie as tie
 abbrev test : List Float → List Float → ℕ → Bool
 test eps errors a = lt (at eps a) (at errors a)
 
-abbrev invariant-loop : tie.invariant-loop
+abbrev invariant-loop : tie.invariant-loop-a
 invariant-loop eps errors d a₀ a = (a ≤ d) × (any a (test eps errors) ≡ false)
 
-abbrev decreases-loop : tie.decreases-loop
+abbrev decreases-loop : tie.decreases-loop-a
 decreases-loop eps errors d a₀ a = d - a
 
-loop-holds : tie.Need-loop-init invariant-loop decreases-loop
+loop-holds : tie.Need-loop-a-init invariant-loop decreases-loop
 unfolding any
 loop-holds c = (omega arith, refl)
 
-returns : tie.Need-returns invariant-loop decreases-loop
+returns : tie.Need-returns-then-eps-a invariant-loop decreases-loop
 returns c =
-    let a = c.before.before.before.before.before.args in
-    let l = c.before.before.before.before.loop in
-    sym (any_found (test a.eps.now a.errors.now) a.d l.a (omega arith) c.if1.true)
+    let a = c.args in
+    let l = c.loop-a in
+    sym (any_found (test a.eps.now a.errors.now) a.d l.a (omega arith) c.if-eps-a.true)
     ∙ excessive_is a.eps.now a.errors.now a.d
 
-loop-again : tie.Need-loop-preserved invariant-loop decreases-loop
+loop-again : tie.Need-loop-a-preserved invariant-loop decreases-loop
 loop-again c =
-    let a = c.before.before.before.before.before.args in
-    let l = c.before.before.before.before.loop in
-    (omega arith, any_next (test a.eps.now a.errors.now) l.a l.invariant.1 c.if1.false)
+    let a = c.args in
+    let l = c.loop-a in
+    (omega arith, any_next (test a.eps.now a.errors.now) l.a l.invariant.1 c.if-eps-a.false)
 
-returns-2 : tie.Need-returns-2 invariant-loop decreases-loop
+returns-2 : tie.Need-returns invariant-loop decreases-loop
 returns-2 c =
-    let a = c.before.before.args in
-    let l = c.before.loop in
+    let a = c.args in
+    let l = c.loop-a in
     let e : l.a ≡ a.d = omega arith in
     sym (ap (λ (k : ℕ). any k (test a.eps.now a.errors.now)) (sym e) ∙ l.invariant.1)
     ∙ excessive_is a.eps.now a.errors.now a.d
 
-pub is-excessive-spec : {M : Type 1} → statement M
-is-excessive-spec =
+pub is_excessive_spec : {M : Type 1} → statement M
+is_excessive_spec =
     tie.close
     (tie.spec
     invariant-loop

@@ -4,19 +4,17 @@ use Rattle.selected_axes.proofs.Placed.{scale_asks, scale_memory}
 use Rattle.selected_axes.proofs.physical.scale_all.Statement.{statement}
 use Rattle.selected_axes.proofs.physical.scale_all.Tie as tie
 
-scale-controls-requires : tie.Need-scale-controls-requires
+scale-controls-requires : tie.Need-scale_controls-requires
 scale-controls-requires c κs =
-    let s = c.before.before.before in
-    let q = c.before.spline-of in
-    let k = scale_asks s.args.p s.args.work.now s.requires q.result q.ensures in
-    (s.requires.few, k.0, k.1)
+    let q = c.spline_of-s in
+    let k = scale_asks c.args.p c.args.work.now c.requires q.result q.ensures in
+    (c.requires.few, k.0, k.1)
 
 returns : tie.Need-returns
 returns c =
-    let s = c.before.before.before.before.before.before in
-    let q = c.before.before.before.before.spline-of in
-    let v = c.before.before.scale-controls in
-    scale_memory s.args.p s.args.work.now s.requires q.result q.ensures v.new.0 s.args.eps.now v.ensures
+    let q = c.spline_of-s in
+    let v = c.scale_controls in
+    scale_memory c.args.p c.args.work.now c.requires q.result q.ensures v.new.work c.args.eps.now v.ensures
 
-pub scale-all-spec : {M : Type 1} → statement M
-scale-all-spec = tie.close (tie.spec (λ c κs. search rules) scale-controls-requires (λ c. search rules) returns)
+pub scale_all_spec : {M : Type 1} → statement M
+scale_all_spec = tie.close (tie.spec (λ c κs. search rules) scale-controls-requires (λ c. search rules) returns)

@@ -17,14 +17,14 @@ use Rattle.selected_axes.proofs.physical.scale_control.Tie as tie
 abbrev cell : List Float → ℕ → ℕ → List Float → ℕ → Float
 cell w to first eps a = scaled (at w (to + a)) (at eps a) (at w (first + a))
 
-abbrev invariant-loop : tie.invariant-loop
+abbrev invariant-loop : tie.invariant-loop-a
 invariant-loop work₀ to first d eps a₀ work a =
     (a ≤ d) × (work ≡ written to (list_of a (cell work₀ to first eps)) work₀) × (length work ≡ length work₀)
 
-abbrev decreases-loop : tie.decreases-loop
+abbrev decreases-loop : tie.decreases-loop-a
 decreases-loop work₀ to first d eps a₀ work a = d - a
 
-loop-holds : tie.Need-loop-init invariant-loop decreases-loop
+loop-holds : tie.Need-loop-a-init invariant-loop decreases-loop
 loop-holds c =
     let a = c.args in
     let w = a.work.now in (
@@ -34,10 +34,10 @@ loop-holds c =
       refl,
     )
 
-loop-again : tie.Need-loop-preserved invariant-loop decreases-loop
+loop-again : tie.Need-loop-a-preserved invariant-loop decreases-loop
 loop-again c =
-    let a = c.before.before.before.before.before.args in
-    let l = c.before.before.before.before.loop in
+    let a = c.args in
+    let l = c.loop-a in
     let w = a.work.now in
     let f = cell w a.to a.first a.eps.now in
     let v = list_of l.a f in
@@ -57,13 +57,13 @@ loop-again c =
 
 returns : tie.Need-returns invariant-loop decreases-loop
 returns c =
-    let a = c.before.before.args in
-    let l = c.before.loop in
+    let a = c.args in
+    let l = c.loop-a in
     let e : l.a ≡ a.d = omega arith in
     l.invariant.1 ∙ ap (λ (k : ℕ). written a.to (list_of k (cell a.work.now a.to a.first a.eps.now)) a.work.now) e
 
-pub scale-control-spec : {M : Type 1} → statement M
-scale-control-spec =
+pub scale_control_spec : {M : Type 1} → statement M
+scale_control_spec =
     tie.close
     (tie.spec
     invariant-loop

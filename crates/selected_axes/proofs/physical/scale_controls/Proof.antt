@@ -17,16 +17,16 @@ use Rattle.selected_axes.proofs.physical.scale_controls.Tie as tie
 abbrev cell : List Float → ℕ → ℕ → ℕ → List Float → ℕ → ℕ → Float
 cell w to d first eps i a = scaled (at w (to + i * d + a)) (at eps a) (at w (first + a))
 
-abbrev invariant-loop : tie.invariant-loop
+abbrev invariant-loop : tie.invariant-loop-i
 invariant-loop work₀ to m first d eps i₀ work i =
     (i ≤ m) × (work ≡ written to (table i d (cell work₀ to d first eps)) work₀) × (length work ≡ length work₀)
 
-abbrev decreases-loop : tie.decreases-loop
+abbrev decreases-loop : tie.decreases-loop-i
 decreases-loop work₀ to m first d eps i₀ work i = m - i
 
-loop-holds : tie.Need-loop-init invariant-loop decreases-loop
+loop-holds : tie.Need-loop-i-init invariant-loop decreases-loop
 loop-holds c =
-    let a = c.before.args in
+    let a = c.args in
     let w = a.work.now in (
       omega arith,
       sym (written_none a.to w) ∙ ap (λ (l : List Float). written a.to l w)
@@ -34,21 +34,20 @@ loop-holds c =
       refl,
     )
 
-within : (c : tie.In-loop invariant-loop decreases-loop) → let a = c.before.before.before.args in a.to + c.before.loop.i * a.d + a.d ≤ length
+within : (c : tie.In-loop-i invariant-loop decreases-loop) → let a = c.args in a.to + c.loop-i.i * a.d + a.d ≤ length
     a.work.now
 within c =
-    let s = c.before.before.before in
-    let a = s.args in
-    row_within c.before.loop.i a.m a.d a.to (length a.work.now) c.loop-test.true s.requires.2
+    let a = c.args in
+    row_within c.loop-i.i a.m a.d a.to (length a.work.now) c.loop-i-test.true c.requires.2
 
-scale-control-requires : tie.Need-scale-control-requires invariant-loop decreases-loop
+scale-control-requires : tie.Need-scale_control-requires invariant-loop decreases-loop
 scale-control-requires c κs =
     let n = within c.before in (omega arith, omega arith, omega arith)
 
-loop-again : tie.Need-loop-preserved invariant-loop decreases-loop
+loop-again : tie.Need-loop-i-preserved invariant-loop decreases-loop
 loop-again c =
-    let a = c.before.before.before.before.before.before.before.args in
-    let l = c.before.before.before.before.before.loop in
+    let a = c.args in
+    let l = c.loop-i in
     let w = a.work.now in
     let eps = a.eps.now in
     let F = cell w a.to a.d a.first eps in
@@ -63,7 +62,7 @@ loop-again c =
     ∙ before_written a.to v w nan (a.first + j) (omega arith) (omega arith) in (
       omega arith,
       row_next a.to a.d l.i F (λ j. scaled (at l.work (a.to + l.i * a.d + j)) (at eps j) (at l.work (a.first + j)))
-          l.work c.before.before.scale-control.new.0 w (omega arith) l.invariant.1 c.before.before.scale-control.ensures
+          l.work c.scale_control.new.work w (omega arith) l.invariant.1 c.scale_control.ensures
           (λ j h. ap (λ (z : Float). scaled z (at eps j) (at l.work (a.first + j))) (here j h)
           ∙ ap (λ (z : Float). scaled (at w (a.to + l.i * a.d + j)) (at eps j) z) (there j h)),
       omega arith,
@@ -71,14 +70,14 @@ loop-again c =
 
 returns : tie.Need-returns invariant-loop decreases-loop
 returns c =
-    let a = c.before.before.before.args in
-    let l = c.before.loop in
+    let a = c.args in
+    let l = c.loop-i in
     let e : l.i ≡ a.m = omega arith in
     l.invariant.1 ∙ ap (λ (k : ℕ). written a.to (table k a.d (cell a.work.now a.to a.d a.first a.eps.now))
     a.work.now) e
 
-pub scale-controls-spec : {M : Type 1} → statement M
-scale-controls-spec =
+pub scale_controls_spec : {M : Type 1} → statement M
+scale_controls_spec =
     tie.close
     (tie.spec
     invariant-loop

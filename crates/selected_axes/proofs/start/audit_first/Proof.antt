@@ -10,23 +10,21 @@ use Rattle.selected_axes.proofs.Starting.{audit_made}
 use Rattle.selected_axes.proofs.start.audit_first.Statement.{statement}
 use Rattle.selected_axes.proofs.start.audit_first.Tie as tie
 
-fits : tie.Need-after-audit-requires
+fits : tie.Need-after_audit-more-requires
 fits c κs =
-    let s = c.before.before.before.before.before.before.before.before.before.before.before in
-    omega (arith, c.before.before.before.audit-in.ensures.1.1, s.requires.0.waypoints_fit, s.requires.0.small, s.requires.2)
+    omega (arith, c.audit_in-a.ensures.1.1, c.requires.0.waypoints_fit, c.requires.0.small, c.requires.2)
 
 returns : tie.Need-returns
 returns c =
-    let s = c.before.before.before.before.before.before.before.before.before.before.before.before in
-    let a = s.args in
+    let a = c.args in
     let p = a.p in
-    let n = c.before.number_of in
-    let v = c.before.before.before.before.audit-in in
-    let f = c.before.before.before.before.before.before.before.before.before.rebuild in
-    let told = c.after-audit.ensures in
-    let e = audit_made p (memory_at p a.work.now) (memory_at p f.new.0) (memory_at p v.new.0) n.result v.result.checked
+    let n = c.number_of-number in
+    let v = c.audit_in-a in
+    let f = c.rebuild in
+    let told = c.after_audit-more.ensures in
+    let e = audit_made p (memory_at p a.work.now) (memory_at p f.new.work) (memory_at p v.new.work) n.result v.result.checked
     v.result.outcome (counts_of a.report) f.ensures n.ensures v.ensures.0 v.ensures.1.0 in (
-      ap (λ (k : Counts). unless n.result (state_in p k (memory_at p v.new.0))) told ∙ e.0,
+      ap (λ (k : Counts). unless n.result (state_in p k (memory_at p v.new.work))) told ∙ e.0,
       (
         e.1,
         (
@@ -36,16 +34,16 @@ returns c =
             arith,
             ap (λ (k : Counts). k.intervals) told,
             v.ensures.1.1,
-            s.requires.0.waypoints_fit,
-            s.requires.0.small,
-            s.requires.2,
+            c.requires.0.waypoints_fit,
+            c.requires.0.small,
+            c.requires.2,
           ),
         ),
       ),
     )
 
-pub audit-first-spec : {M : Type 1} → statement M
-audit-first-spec =
+pub audit_first_spec : {M : Type 1} → statement M
+audit_first_spec =
     tie.close
     (tie.spec
     (λ c κs. search rules)

@@ -12,15 +12,15 @@ refused : (v : Answer) (number : ℕ) → v ≡ answer number 0 0 0
     → (number ≡ v.number) × (counts 0 0 0 ≡ add_rows v.rows (counts 0 0 0))
 refused v number e = (sym (ap (λ (w : Answer). w.number) e), sym (ap (λ (w : Answer). add_rows w.rows (counts 0 0 0)) e))
 
-returns : tie.Need-returns
+returns : tie.Need-returns-in-Done
 returns c =
-    let e = ap answer_of c.before.before.f.given.1 in (
+    let e = ap answer_of c.in-Done.is in (
       sym (ap (λ (w : Answer). w.number) e),
-      c.after-fit.ensures ∙ sym (ap (λ (w : Answer). add_rows w.rows (counts 0 0 0)) e),
+      c.after_fit-report.ensures ∙ sym (ap (λ (w : Answer). add_rows w.rows (counts 0 0 0)) e),
     )
 
-pub ended-of-spec : {M : Type 1} → statement M
-ended-of-spec =
+pub ended_of_spec : {M : Type 1} → statement M
+ended_of_spec =
     tie.close
     (tie.spec
     (λ c. search rules)
@@ -29,6 +29,6 @@ ended-of-spec =
     (λ c. search rules)
     (λ c. search rules)
     returns
-    (λ c. refused _ 9 (ap answer_of c.enum_told.given.1))
-    (λ c. refused _ 10 (ap answer_of c.enum-told2.given.1))
-    (λ c. refused _ 11 (ap answer_of c.enum-told3.given.1)))
+    (λ c. refused _ 9 (ap answer_of c.in-BadDiagonal.is))
+    (λ c. refused _ 10 (ap answer_of c.in-BadPivot.is))
+    (λ c. refused _ 11 (ap answer_of c.in-BadSolution.is)))

@@ -12,41 +12,40 @@ use Rattle.selected_axes.proofs.Starting.{first_made}
 use Rattle.selected_axes.proofs.start.first_state.Statement.{statement}
 use Rattle.selected_axes.proofs.start.first_state.Tie as tie
 
-returns : tie.Need-returns
+returns : tie.Need-returns-then-number-gt0
 returns c =
-    let f = c.before.before.before.before.fit-first in
+    let f = c.fit_first-f in
     let k = f.ensures.1.1 in (
-      round_refused f.result.number _ _ _ _ c.if1.true f.ensures.0,
-      (λ h. absurd (omega (arith, c.if1.true, h)), (k.0, k.1, omega (arith, k.2))),
+      round_refused f.result.number _ _ _ _ c.if-number-gt0.true f.ensures.0,
+      (λ h. absurd (omega (arith, c.if-number-gt0.true, h)), (k.0, k.1, omega (arith, k.2))),
     )
 
-audit-first-requires : tie.Need-audit-first-requires
+audit-first-requires : tie.Need-audit_first-requires
 audit-first-requires c κs =
-    let s = c.before.before.before.before.before.before.before.before in
-    let a = s.args in
-    let f = c.before.before.before.before.before.fit-first in
-    let same : length f.new.0 ≡ length a.work.now = omega arith in (
-      rw same s.requires.0,
-      subst (λ (t : List Float). Wide t a.p.count) (sym (ap (λ (y : Memory). y.t) f.ensures.1.0)) s.requires.2,
+    let a = c.args in
+    let f = c.fit_first-f in
+    let same : length f.new.work ≡ length a.work.now = omega arith in (
+      rw same c.requires.0,
+      subst (λ (t : List Float). Wide t a.p.count) (sym (ap (λ (y : Memory). y.t) f.ensures.1.0)) c.requires.2,
       f.ensures.1.1.2,
     )
 
-returns-2 : tie.Need-returns-2
+returns-2 : tie.Need-returns
 returns-2 c =
-    let a = c.before.before.before.before.before.before.before.before.before.before.before.args in
+    let a = c.args in
     let p = a.p in
-    let f = c.before.before.before.before.before.before.before.before.fit-first in
-    let v = c.before.before.audit-first in
-    let z : f.result.number ≡ 0 = omega (arith, c.before.before.before.before.if1.false) in
+    let f = c.fit_first-f in
+    let v = c.audit_first in
+    let z : f.result.number ≡ 0 = omega (arith, c.if-number-gt0.false) in
     let k = f.ensures.1.1 in
     let l = v.ensures.1.1 in
-    let e = first_made p (memory_at p a.work.now) (memory_at p f.new.0) (memory_at p v.new.0) f.result.number
+    let e = first_made p (memory_at p a.work.now) (memory_at p f.new.work) (memory_at p v.new.work) f.result.number
     v.result.number (counts_of f.result.report) (counts_of v.result.report) z
     f.ensures.0 f.ensures.1.0 v.ensures.0 v.ensures.1.0 in
     (e.0, (λ _. e.1, (l.0 ∙ k.0, omega (arith, l.1, k.1), l.2)))
 
-pub first-state-spec : {M : Type 1} → statement M
-first-state-spec =
+pub first_state_spec : {M : Type 1} → statement M
+first_state_spec =
     tie.close
     (tie.spec
     (λ c κs. search rules)

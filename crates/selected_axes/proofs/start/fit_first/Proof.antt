@@ -13,20 +13,19 @@ use Rattle.selected_axes.proofs.Starting.{fit_none, fit_made, controls_changed}
 use Rattle.selected_axes.proofs.start.fit_first.Statement.{statement}
 use Rattle.selected_axes.proofs.start.fit_first.Tie as tie
 
-returns : tie.Need-returns
+returns : tie.Need-returns-then-bent
 unfolding of_bits round
 returns c =
-    let s = c.before.before.before.before.before.before.before.before in
-    let a = s.args in
+    let a = c.args in
     let p = a.p in
     let x = memory_at p a.work.now in
-    let f = c.before.before.before.fit-in in
-    let x₁ = memory_at p f.new.0 in
-    let e = c.Ended-of in
+    let f = c.fit_in-f in
+    let x₁ = memory_at p f.new.work in
+    let e = c.ended_of in
     let told = e.ensures.1 in
-    let n = fit_few p a.work.now s.requires.0 1 _ (answer_of f.result) first_strength f.ensures.0 in (
+    let n = fit_few p a.work.now c.requires.0 1 _ (answer_of f.result) first_strength f.ensures.0 in (
       fit_made p x x₁ (answer_of f.result) e.result.number (counts_of e.result.report)
-          (sym s.requires.1 ∙ c.before.before.before.before.before.before.if1.true) f.ensures.0 f.ensures.1 e.ensures,
+          (sym c.requires.1 ∙ c.if-bent.true) f.ensures.0 f.ensures.1 e.ensures,
       (
         controls_changed p x x₁ _ f.ensures.1,
         (
@@ -37,14 +36,13 @@ returns c =
       ),
     )
 
-returns-2 : tie.Need-returns-2
+returns-2 : tie.Need-returns
 returns-2 c =
-    let s = c.before.before in
-    let x = memory_at s.args.p s.args.work.now in
-    (fit_none s.args.p x (sym s.requires.1 ∙ c.if1.false), (refl, (refl, omega arith, refl)))
+    let x = memory_at c.args.p c.args.work.now in
+    (fit_none c.args.p x (sym c.requires.1 ∙ c.if-bent.false), (refl, (refl, omega arith, refl)))
 
-pub fit-first-spec : {M : Type 1} → statement M
-fit-first-spec =
+pub fit_first_spec : {M : Type 1} → statement M
+fit_first_spec =
     tie.close
     (tie.spec
     (λ c. search rules)

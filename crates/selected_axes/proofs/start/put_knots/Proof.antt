@@ -11,32 +11,29 @@ use Rattle.selected_axes.proofs.start.put_knots.Tie as tie
 
 seed-requires : tie.Need-seed-requires
 seed-requires c κs =
-    let s = c.before.before.before.before.before in
-    let k = c.before.before.before.Block-of in
-    let q = products s.args.p (length s.args.work.now) s.requires.0 in
-    let r = s.requires.0 in (
+    let k = c.block_of-b in
+    let q = products c.args.p (length c.args.work.now) c.requires.0 in
+    let r = c.requires.0 in (
       r.few,
       omega (arith, r.waypoints_fit),
       omega (arith, q.points, k.ensures.0),
       omega (arith, r.waypoints_fit, r.cells_fit, r.knots_fit, k.ensures.0),
     )
 
-returns : tie.Need-returns
+returns : tie.Need-returns-then-bent
 unfolding seeded_cells
 returns c =
-    let s = c.before.before.before.before.before.before.before.before in
-    let k = c.before.before.before.before.before.before.Block-of in
-    let v = c.before.before.seed in
-    knots_put s.args.p s.args.work.now s.requires.0 k.result v.result v.new.0 _ k.ensures.0
-    (sym s.requires.1 ∙ c.before.before.before.before.if1.true) v.ensures.0 v.ensures.1
+    let k = c.block_of-b in
+    let v = c.seed in
+    knots_put c.args.p c.args.work.now c.requires.0 k.result v.result v.new.work _ k.ensures.0
+    (sym c.requires.1 ∙ c.if-bent.true) v.ensures.0 v.ensures.1
 
-returns-2 : tie.Need-returns-2
+returns-2 : tie.Need-returns
 returns-2 c =
-    let s = c.before.before.before.before in
-    knots_none s.args.p s.args.work.now s.requires.0 (sym s.requires.1 ∙ c.if1.false)
+    knots_none c.args.p c.args.work.now c.requires.0 (sym c.requires.1 ∙ c.if-bent.false)
 
-pub put-knots-spec : {M : Type 1} → statement M
-put-knots-spec =
+pub put_knots_spec : {M : Type 1} → statement M
+put_knots_spec =
     tie.close
     (tie.spec
     (λ c κs. search rules)

@@ -13,7 +13,7 @@ use Rattle.work_slice.proofs.results.put_curve.Statement.{statement}
 use Rattle.work_slice.proofs.results.put_curve.Tie as tie
 
 -- once both are copied
-module _ (c : tie.After-copy2) where
+module _ (c : tie.After-copy-2) where
   abbrev first : tie.After-copy
   first = c.before.before.before.before.before
 
@@ -34,30 +34,27 @@ module _ (c : tie.After-copy2) where
   rows-length = let a = begun.args in
       length_window a.c (a.c + a.segments * (6 * a.k)) a.cells.now (omega arith) (omega arith) ∙ omega arith
 
-put-widths-requires : tie.Need-put-widths-requires
+put-widths-requires : tie.Need-put_widths-requires
 put-widths-requires c κs =
-    let k = c.before.before.before.before in
-    let a = (begun k).args in
-    let e = k.copy2.ensures
+    let a = (begun c.before.before.before.before).args in
+    let e = c.copy-2.ensures
     ∙ part_onto a.c (a.c + a.segments * (6 * a.k)) a.cells.now a.coefficients.now (omega arith) (omega arith) (omega arith) in
-    let n = rows-length k in
-    omega (arith, ap length e, onto_length (rows k) a.coefficients.now (omega arith), breaks_length k)
+    let n = rows-length c.before.before.before.before in
+    omega (arith, ap length e, onto_length (rows c.before.before.before.before) a.coefficients.now (omega arith), breaks_length c.before.before.before.before)
 
 returns : tie.Need-returns
 returns c =
-    let w = c.before.before in
-    let k = w.before.before.before.before.before in
-    let a = (begun k).args in (
-      (first k).copy.ensures
+    let a = (begun c.before.before.before.before.before.before.before).args in (
+      (first c.before.before.before.before.before.before.before).copy.ensures
           ∙ part_onto a.a (a.a + a.segments + 1) a.cells.now a.breaks.now (omega arith) (omega arith) (omega arith),
-      widths_onto (breaks k) (rows k) a.coefficients.now _ _ (rows-length k) (omega arith)
-          (k.copy2.ensures
+      widths_onto (breaks c.before.before.before.before.before.before.before) (rows c.before.before.before.before.before.before.before) a.coefficients.now _ _ (rows-length c.before.before.before.before.before.before.before) (omega arith)
+          (c.copy-2.ensures
           ∙ part_onto a.c (a.c + a.segments * (6 * a.k)) a.cells.now a.coefficients.now (omega arith) (omega arith)
-          (omega arith)) w.put-widths.ensures,
+          (omega arith)) c.put_widths.ensures,
     )
 
-pub put-curve-spec : {M : Type 1} → statement M
-put-curve-spec =
+pub put_curve_spec : {M : Type 1} → statement M
+put_curve_spec =
     tie.close
     (tie.spec
     (λ c. search rules)

@@ -8,11 +8,11 @@ use Rattle.work_slice.proofs.results.put_front.Tie as tie
 
 returns : tie.Need-returns
 returns c =
-    let a = c.before.before.before.before.before.before.before.args in
-    c.before.before.copy.ensures ∙ front_onto a.k a.from.now a.to.now (omega arith) (omega arith)
+    let a = c.args in
+    c.copy.ensures ∙ front_onto a.k a.from.now a.to.now (omega arith) (omega arith)
 
-pub put-front-spec : {M : Type 1} → statement M
-put-front-spec =
+pub put_front_spec : {M : Type 1} → statement M
+put_front_spec =
     tie.close
     (tie.spec
     (λ c. search rules)

@@ -9,26 +9,23 @@ use Rattle.work_slice.proofs.Copying.{spans_fit}
 use Rattle.work_slice.proofs.results.put_other.Statement.{statement}
 use Rattle.work_slice.proofs.results.put_other.Tie as tie
 
-returns : tie.Need-returns
+returns : tie.Need-returns-then-j-eq0
 unfolding join
-returns c = let e = c.if1.true in (rw e refl, rw e refl)
+returns c = let e = c.if-j-eq0.true in (rw e refl, rw e refl)
 
-put-curve-requires : tie.Need-put-curve-requires
+put-curve-requires : tie.Need-put_curve-requires
 put-curve-requires c κs =
-    let s = c.before.before.before.before.before.before in
-    let a = s.args in
+    let a = c.args in
     let h = spans_fit a.segments a.room a.j (omega arith) in
-    (s.requires.0, omega arith, omega arith, omega (arith, h), omega arith, s.requires.6)
+    (c.requires.0, omega arith, omega arith, omega (arith, h), omega arith, c.requires.6)
 
-returns-2 : tie.Need-returns-2
+returns-2 : tie.Need-returns
 returns-2 c =
-    let p = c.before.before.before.before in
-    let g = p.before.before.before in
-    let e = ne_eqb g.before.before.before.before.args.j 0 g.if1.false in
-    (rw e p.put-curve.ensures.0, rw e p.put-curve.ensures.1)
+    let e = ne_eqb c.args.j 0 c.if-j-eq0.false in
+    (rw e c.put_curve.ensures.0, rw e c.put_curve.ensures.1)
 
-pub put-other-spec : {M : Type 1} → statement M
-put-other-spec =
+pub put_other_spec : {M : Type 1} → statement M
+put_other_spec =
     tie.close
     (tie.spec
     returns

@@ -6,22 +6,21 @@ use Rattle.work_slice.proofs.Copying.{spans_fit}
 use Rattle.work_slice.proofs.results.put_selected.Statement.{statement}
 use Rattle.work_slice.proofs.results.put_selected.Tie as tie
 
-put-curve-requires : tie.Need-put-curve-requires
+put-curve-requires : tie.Need-put_curve-requires
 put-curve-requires c κs =
-    let s = c.before.before.before.before.before.before.before in
-    let p = s.args.p in
-    let R = s.requires.0 in
+    let p = c.args.p in
+    let R = c.requires.0 in
     let h = spans_fit (p.count - 5) p.room p.axes (omega (arith, R.knots_fit)) in (
       R.few,
       omega (arith, R.knots_fit, R.small),
       omega (arith, R.cells_fit, R.knots_fit),
       omega (arith, R.cells_fit, h),
-      s.requires.1,
-      s.requires.2,
+      c.requires.1,
+      c.requires.2,
     )
 
-pub put-selected-spec : {M : Type 1} → statement M
-put-selected-spec =
+pub put_selected_spec : {M : Type 1} → statement M
+put_selected_spec =
     tie.close
     (tie.spec
     (λ c. search rules)

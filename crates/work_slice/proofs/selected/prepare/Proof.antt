@@ -45,67 +45,65 @@ fit s =
     let h : cells s ≤ s.args.p.room * s.args.p.axes = mul-le-mul_right s.args.p.axes (room s).waypoints_fit in
     omega (arith, h, (room s).cells_fit)
 
-put-parameters-requires : tie.Need-put-parameters-requires
+put-parameters-requires : tie.Need-put_parameters-range-requires
 put-parameters-requires c κs =
-    let s = c.before.before.before.before in
-    let l = front_long s.args.p.samples s.args.work.now (front s) in
-    let m = ap (λ (n : ℕ). n * s.args.d) l in
-    (omega (arith, l, (room s).two), omega (arith, l), omega (arith, m), λ e. omega (arith, l, s.requires.1 e))
+    let l = front_long c.args.p.samples c.args.work.now (front c.before.before.before.before) in
+    let m = ap (λ (n : ℕ). n * c.args.d) l in
+    (omega (arith, l, (room c.before.before.before.before).two), omega (arith, l), omega (arith, m), λ e. omega (arith, l, c.requires.1 e))
 
 -- the parameters were put: where it began
-abbrev begun : tie.After-put-parameters → tie.Start
+abbrev begun : tie.After-put_parameters-range → tie.Start
 begun c = c.before.before.before.before.before
 
-put : (c : tie.After-put-parameters) → let a = (begun c).args in
-    Put (listed (begun c)) a.p.samples a.work.now c.put-parameters.new.0
-put c = record { fits = front (begun c); put = c.put-parameters.ensures.1 }
+put : (c : tie.After-put_parameters-range) → let a = (begun c).args in
+    Put (listed (begun c)) a.p.samples a.work.now c.put_parameters-range.new.cells
+put c = record { fits = front (begun c); put = c.put_parameters-range.ensures.1 }
 
 -- 6, as it was tested
-tested : (c : tie.After-is-unreliable) → let s = begun c.before.before.before.before.before in
+tested : (c : tie.After-is_unreliable) → let s = begun c.before.before.before.before in
     let n = s.args.p.samples in
-    c.is-unreliable.result ≡ unreliable (listed s n) n
+    c.is_unreliable.result ≡ unreliable (listed s n) n
 tested c =
-    let v = c.before.before.before.before.before in
-    let a = (begun v).args in
-    c.is-unreliable.ensures
-    ∙ unreliable_is (listed (begun v) a.p.samples) a.p.samples _ _ (put_range (put v) v.put-parameters.ensures.0)
-    (put_read (put v))
+    let a = (begun c.before.before.before.before).args in
+    c.is_unreliable.ensures
+    ∙ unreliable_is (listed (begun c.before.before.before.before) a.p.samples) a.p.samples _ _ (put_range (put c.before.before.before.before) c.put_parameters-range.ensures.0)
+    (put_read (put c.before.before.before.before))
 
-returns : tie.Need-returns
+returns : tie.Need-returns-then-is_unreliable
 unfolding task_of
 returns c =
-    let e = sym (tested c.before) ∙ c.if1.true in
+    let e = sym (tested c.before) ∙ c.if-is_unreliable.true in
     (rw e refl, λ z. absurd (omega (arith, z)))
 
 -- 6 did not hold
-abbrev passed : tie.Else1 → tie.After-put-parameters
-passed c = c.before.before.before.before.before.before
+abbrev passed : tie.Else-is_unreliable → tie.After-put_parameters-range
+passed c = c.before.before.before.before.before
 
-part-put-centred-end : tie.Need-slice-bounds-put-centred-end
+part-put-centred-end : tie.Need-slice_bounds-put_centred-end
 part-put-centred-end c =
     let v = passed c in omega (arith, put_long (put v), fit (begun v))
 
-put-centred-requires : tie.Need-put-centred-requires
+put-centred-requires : tie.Need-put_centred-requires
 put-centred-requires c κs =
     let v = passed c.before in
     let s = begun v in
     let l = rows_long (put v) s.args.p.room (cells s) (fit s) in
-    ((room s).few, s.pre.0.1, s.pre.0.2, l, s.pre.0.3, s.pre.0.4, omega (arith, (room s).two))
+    ((room s).few, s.requires.0.1, s.requires.0.2, l, s.requires.0.3, s.requires.0.4, omega (arith, (room s).two))
 
 -- the rows were put, too
-module _ (c : tie.After-put-centred) where
-  abbrev first : tie.After-put-parameters
-  first = c.before.before.before.before.before.before.before.before
+module _ (c : tie.After-put_centred) where
+  abbrev first : tie.After-put_parameters-range
+  first = c.before.before.before.before.before.before.before
 
   abbrev start : tie.Start
   start = begun first
 
-  rows_are : c.put-centred.new.0 ≡ (task start).y
+  rows_are : c.put_centred.new.cells ≡ (task start).y
   unfolding task_of
-  rows_are = c.put-centred.ensures
+  rows_are = c.put_centred.ensures
 
-  written : Apart 0 start.args.p.samples start.args.p.room (start.args.p.room + cells start) first.put-parameters.last.0
-      c.put-centred.new.0 start.args.work.now
+  written : Apart 0 start.args.p.samples start.args.p.room (start.args.p.room + cells start) first.put_parameters-range.new.cells
+      c.put_centred.new.cells start.args.work.now
   written =
       record {
         be = omega arith;
@@ -116,38 +114,34 @@ module _ (c : tie.After-put-centred) where
         second_fits = ap length rows_are ∙ y_length start.args.p.samples start.args.p.axes _ (units start) ∙ omega arith;
       }
 
-part-is-overflowing-end : tie.Need-slice-bounds-is-overflowing-end
+part-is-overflowing-end : tie.Need-slice_bounds-is_overflowing-end
 part-is-overflowing-end c =
-    let z = c.before.before.before in omega (arith, both_length (written z), fit (start z))
+    omega (arith, both_length (written c.before.before), fit (start c.before.before))
 
 -- 7, as it was tested
-judged : (c : tie.After-is-overflowing)
-    → c.is-overflowing.result ≡ overflows (task (start c.before.before.before.before.before))
+judged : (c : tie.After-is_overflowing)
+    → c.is_overflowing.result ≡ overflows (task (start c.before.before.before.before))
 judged c =
-    let z = c.before.before.before.before.before in
-    c.is-overflowing.ensures ∙ overflow_is _ _ (both_second (written z) ∙ rows_are z)
+    c.is_overflowing.ensures ∙ overflow_is _ _ (both_second (written c.before.before.before.before) ∙ rows_are c.before.before.before.before)
 
-returns-2 : tie.Need-returns-2
+returns-2 : tie.Need-returns-then-is_overflowing
 unfolding task_of
 returns-2 c =
-    let g = c.before.before.before.before.before.before.before.before in
-    let e = sym (tested g.before) ∙ g.if1.false in
-    let o = sym (judged c.before) ∙ c.if2.true in
+    let e = sym (tested c.before.before.before.before.before.before.before.before) ∙ c.if-is_unreliable.false in
+    let o = sym (judged c.before) ∙ c.if-is_overflowing.true in
     (rw (e, o) refl, λ z. absurd (omega (arith, z)))
 
-returns-3 : tie.Need-returns-3
+returns-3 : tie.Need-returns
 unfolding task_of
 returns-3 c =
-    let g = c.before.before.before.before.before.before.before.before in
-    let e = sym (tested g.before) ∙ g.if1.false in
-    let o = sym (judged c.before) ∙ c.if2.false in
-    let z = c.before.before.before.before.before.before in
-    let a = (start z).args in
-    let s = put_stays (put (first z)) (written z) in
-    (rw (e, o) refl, λ n i. record { n = a.p.samples; k = a.p.axes; s = s i; y = (both_second (written z) ∙ rows_are z) i })
+    let e = sym (tested c.before.before.before.before.before.before.before.before) ∙ c.if-is_unreliable.false in
+    let o = sym (judged c.before) ∙ c.if-is_overflowing.false in
+    let a = (start c.before.before.before.before.before).args in
+    let s = put_stays (put (first c.before.before.before.before.before)) (written c.before.before.before.before.before) in
+    (rw (e, o) refl, λ n i. record { n = a.p.samples; k = a.p.axes; s = s i; y = (both_second (written c.before.before.before.before.before) ∙ rows_are c.before.before.before.before.before) i })
 
-pub prepare-spec : {M : Type 1} → statement M
-prepare-spec =
+pub prepare_spec : {M : Type 1} → statement M
+prepare_spec =
     tie.close
     (tie.spec
     (λ c. omega (arith, few c.before.before.before))
