@@ -12,7 +12,7 @@ pub fn put(out: &mut [u8], at: usize, words: &[u8], n: usize) -> usize
     ensures value { result ≡ at + n }
     ensures out_after { take result out.new ≡ take at out.old ++ take n words.now }
 {
-    bytes::copy(&words[0..n], &mut out[at..]);
+    out[at..at + n].copy_from_slice(&words[0..n]);
     at + n
 }
 

@@ -8,9 +8,8 @@ use Rattle.text.proofs.put.Tie as tie
 
 returns : tie.Need-returns
 returns c =
-    let f = c.before.before in
-    let a = f.before.before.before.before.before.args in
-    (refl, put_there a.out.now a.words.now _ _ a.at a.n (omega arith) (omega arith) _ f.copy.ensures.1)
+    let a = c.args in
+    (refl, put_there a.out.now a.words.now _ _ a.at a.n (omega arith) (omega arith) _ c.copy.ensures.1)
 
 pub put_spec : {M : Type 1} → statement M
 put_spec =

@@ -13,4 +13,4 @@ fit_refusal_spec =
     (λ c. is 10 _ (omega (arith, c.in-10.is)))
     (λ c. is 11 _ (omega (arith, c.in-11.is)))
     (λ c. is 12 _ (omega (arith, c.in-12.is)))
-    (λ c. is 13 _ (omega (arith, c.in_default.rest, c.requires))))
+    (λ c. is 13 _ (omega (arith, c.in_default.in_default-own.rest, c.requires))))

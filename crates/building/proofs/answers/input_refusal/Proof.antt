@@ -14,4 +14,4 @@ input_refusal_spec =
     (λ c. is 4 _ (omega (arith, c.in-4.is)))
     (λ c. is 5 _ (omega (arith, c.in-5.is)))
     (λ c. is 6 _ (omega (arith, c.in-6.is)))
-    (λ c. is 7 _ (omega (arith, c.in_default.rest, c.requires))))
+    (λ c. is 7 _ (omega (arith, c.in_default.in_default-own.rest, c.requires))))

@@ -13,4 +13,4 @@ late_refusal_spec =
     (λ c. is 17 _ (omega (arith, c.in-17.is)))
     (λ c. is 18 _ (omega (arith, c.in-18.is)))
     (λ c. is 19 _ (omega (arith, c.in-19.is)))
-    (λ c. is 20 _ (omega (arith, c.in_default.rest, c.requires))))
+    (λ c. is 20 _ (omega (arith, c.in_default.in_default-own.rest, c.requires))))

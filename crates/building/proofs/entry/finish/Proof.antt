@@ -52,7 +52,7 @@ module _ (c : tie.In-Done) where
   r = run.checked-r.result
 
   abbrev after : List Float
-  after = run.checked-r.new.d.1.1.1.1.1.1.1.1.1.0
+  after = run.checked-r.new.work
 
   abbrev begun : tie.Start
   begun = origin run
@@ -134,7 +134,7 @@ returns c =
     let s = begun t in
     let P = places t in
     let w = c.write_results in
-    let e = (roomed c).room_of in
+    let e = (roomed c).room_of-room in
     let g = both-fit t in
     let plan : ◌≡◌ {A = Plan} _ (sized (plan_of (l t) (m t)) (r t).computed.count) =
     λ i. record { axes = P.k_is i; samples = s.args.n; room = e.ensures i; count = (r t).computed.count } in (

@@ -118,7 +118,7 @@ returns c =
     let s = start c.before.before.before.before.before.before.before.before.before in
     let l = lane s in
     let r = c.room_of-room in
-    let count = (first c.before.before.before.before.before.before.before.before.before).chosen.ensures.0 in
+    let count = (first c.before.before.before.before.before.before.before.before.before).chosen-chosen.ensures.0 in
     let plan : ◌≡◌ {A = Plan} (record { axes = k c.before.before.before.before.before.before.before.before.before; samples = s.args.n; room = r.result; count = 6 })
     (plan_of l (limits_of s.args.limits)) =
     λ i. record { axes = count i; samples = s.args.n; room = r.ensures i; count = 6 } in
@@ -135,7 +135,7 @@ returns c =
             two = two_waypoints l (passed s);
             listed = listed_long l (passed s);
             all_axes = axes_count l (passed s);
-            axes_are = (first c.before.before.before.before.before.before.before.before.before).chosen.ensures.1;
+            axes_are = (first c.before.before.before.before.before.before.before.before.before).chosen-chosen.ensures.1;
             roomy = subst (λ (q : Plan). Roomy (sized q v.result.count) (length v.new.work)) plan p.0;
             few = p.1;
             others_few = p.2;
