@@ -8,7 +8,10 @@ mod fields; // fields.rt: the fields of a line
 ghost use Rattle.std.specs.Prelude.{length};
 ghost use Rattle.lane.specs.Room.{Lent};
 
-use libc::{STDIN_FILENO, STDOUT_FILENO};
+// standard input
+const STDIN_FILENO: i32 = 0;
+// standard output
+const STDOUT_FILENO: i32 = 1;
 
 // Reads as many bytes as the buffer has places, and writes the answer to them. A read that fails ends the
 // input, and a write that fails ends the output.

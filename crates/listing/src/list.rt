@@ -6,7 +6,8 @@ ghost use Rattle.window.specs.Window.{window};
 ghost use Rattle.encoding.specs.Bytes.{low_first};
 ghost use Rattle.listing.specs.Cases.{opening, after_case};
 
-use libc::STDIN_FILENO;
+// standard input
+const STDIN_FILENO: i32 = 0;
 
 #[derive(Clone, Copy)]
 pub enum Status {

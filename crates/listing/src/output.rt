@@ -2,7 +2,8 @@
 ghost use Rattle.std.specs.Prelude.{◌≡◌, true, false, take};
 ghost use Rattle.listing.specs.Output.{put, printed, whole_text, cell_text, cells_text, end_text, refused_text, damaged_text};
 
-use libc::STDOUT_FILENO;
+// standard output
+const STDOUT_FILENO: i32 = 1;
 
 // Where the next byte goes in the buffer, and whether the case was one that could be answered.
 #[derive(Clone, Copy)]

@@ -10,8 +10,12 @@ ghost use Rattle.totals.specs.Input.{ReadMore, Ended};
 
 use lane_totals::sums;
 use lane_totals::sums::Sums;
-use libc::{STDIN_FILENO, STDOUT_FILENO};
 use season::Turn;
+
+// standard input
+const STDIN_FILENO: i32 = 0;
+// standard output
+const STDOUT_FILENO: i32 = 1;
 
 // Reads as much as the buffer holds behind what is left there, and takes it in. A read that fails ends the input.
 fn take_turn(

@@ -13,75 +13,64 @@ use Rattle.lane.proofs.Answers.{told, refused-lane, small, read-lane, every-inpu
 use Rattle.lane.proofs.answer.answer.Statement.{statement}
 use Rattle.lane.proofs.answer.answer.Tie as tie
 
-abbrev bytes : tie.After-read → List ℕ
-bytes r = r.before.before.before.before.before.before.before.before.before.before.before.args.bytes.now
-
 -- after the counts were read
-module _ (c : tie.After-reading2) where
-  abbrev read : tie.After-read
-  read = c.before.before.before.before
+module _ (c : tie.In-Read) where
+  told_so : done c.in-Read.counts ≡ told c.args.bytes.now
+  told_so = sym (ap told_by c.in-Read.is) ∙ c.read-reading.ensures.0
 
-  abbrev counts : Counts
-  counts = c.reading2.given.0.0
+  limits : Small c.in-Read.counts
+  limits = small c.args.bytes.now c.in-Read.counts told_so
 
-  told-so : done counts ≡ told (bytes read)
-  told-so = sym (ap told_by c.reading2.given.1) ∙ read.read.ensures.0
+-- where the call of `build` is made
+abbrev begun : tie.After-build-told → tie.In-Read
+begun c = c.before.before.before.before.before.before.before
 
-  limits : Small counts
-  limits = small (bytes read) counts told-so
+-- where its answer is told
+abbrev built : tie.After-answered-arg-1 → tie.After-build-told
+built c = c.before.before.before.before.before.before.before.before.before.before.before.before.before
 
-build-requires : tie.Need-build-requires
+build-requires : tie.Need-build-told-requires
 build-requires c κs =
-    let k = c.before.before.before.before.before.before.before.before in
-    let r = read k in
-    let s = r.before.before.before.before.before.before.before.before.before.before.before in (
+    let k = c.before.before.before.before.before.before in (
       limits k,
       (
         omega arith,
-        omega (arith, s.pre, r.read.kept),
-        omega (arith, s.pre),
-        omega (arith, s.pre),
-        omega (arith, s.pre),
-        omega (arith, s.pre),
-        omega (arith, s.pre),
-        omega (arith, s.pre),
+        omega (arith, c.requires, c.read-reading.auto),
+        omega (arith, c.requires),
+        omega (arith, c.requires),
+        omega (arith, c.requires),
+        omega (arith, c.requires),
+        omega (arith, c.requires),
+        omega (arith, c.requires),
       ),
     )
 
-part-answered-end : tie.Need-slice-bounds-answered-end
+part-answered-end : tie.Need-slice_bounds-answered-end
 part-answered-end c =
-    let k = c.before.before.before.before.before.before.before.before.before.before.before.before.before.before.before.before.before.before.before.before.before.before in
-    let s = (read k).before.before.before.before.before.before.before.before.before.before.before in omega
-    (arith, limits k, s.pre, c.before.before.errors.given)
+    omega (arith, limits (begun (built c)), c.requires, c.errors-1.given)
 
 answered-requires : tie.Need-answered-requires
 answered-requires c κs =
-    let k = c.before.before.before.before.before.before.before.before.before.before.before.before.before.before.before.before.before.before.before.before.before.before.before.before in
-    let s = (read k).before.before.before.before.before.before.before.before.before.before.before in
-    (omega (arith, s.pre), two-errors (counts k).d _ (limits k).0)
+    let k = begun (built c.before) in
+    (omega (arith, c.requires), two-errors k.in-Read.counts.d _ (limits k).0)
 
-returns : tie.Need-returns
+returns : tie.Need-returns-in-Refused
 returns c =
-    let g = c.before.before in
-    let k = g.before.before.before in
-    let r = k.before.before.before.before in
-    let s = r.before.before.before.before.before.before.before.before.before.before.before in
-    let e = refused-lane (bytes r) _ (sym (ap told_by k.reading.given.1) ∙ r.read.ensures.0) in
-    (omega (arith, g.refused.ensures.0, s.requires), every-input (bytes r) _ (g.refused.ensures.1 ∙ ap printed_of (sym e)))
+    let b = c.args.bytes.now in
+    let e = refused-lane b _ (sym (ap told_by c.in-Refused.is) ∙ c.read-reading.ensures.0) in
+    (omega (arith, c.refused.ensures.0, c.requires), every-input b _ (c.refused.ensures.1 ∙ ap printed_of (sym e)))
 
-returns-2 : tie.Need-returns-2
+returns-2 : tie.Need-returns-in-Read
 returns-2 c =
-    let g = c.before.before in
-    let b = g.before.before.before.before.before.before.before.before.before.before.before.before.before.before.before.before in
-    let k = b.before.before.before.before.before.before.before.before.before in
-    let r = read k in
-    let s = r.before.before.before.before.before.before.before.before.before.before.before in
-    let e = read-lane (bytes r) (counts k) s.args.cells.now _ (told-so k) r.read.ensures.1 in
-    let text = g.answered.ensures.1 _ b.build.ensures.0 (λ x h. same-errors (counts k).d _ ∙ b.build.ensures.1 x h) in
-    (omega (arith, g.answered.ensures.0, s.pre), every-input (bytes r) _ (text ∙ ap printed_of e))
+    let k = begun (built c.before.before.before.before) in
+    let b = c.args.bytes.now in
+    let n = k.in-Read.counts in
+    let e = read-lane b n c.args.cells.now _ (told_so k) c.read-reading.ensures.1 in
+    let text = c.answered.ensures.1 _ c.build-told.ensures.0 (λ x h. same-errors n.d _ ∙ c.build-told.ensures.1 x h) in
+    (omega (arith, c.answered.ensures.0, c.requires), every-input b _ (text ∙ ap printed_of e))
 
-pub answer-spec : {M : Type 1} → statement M
-answer-spec =
+pub answer_spec : {M : Type 1} → statement M
+answer_spec =
     tie.close
     (tie.spec
     (λ c κs. search rules)

@@ -42,31 +42,30 @@ few s =
     let q : s.args.c.n ≤ 100 = omega arith in
     let h : s.args.c.d * s.args.c.n ≤ 2 * 100 = mul-le-mul p q in h
 
-mul-end : tie.Need-overflow-mul-end
+mul-end : tie.Need-overflow_mul-end
 mul-end c =
     let h = few c.before.before.before.before.before.before.before.before in omega (arith, h)
 
-add-end : tie.Need-overflow-add-end
+add-end : tie.Need-overflow_add-end
 add-end c =
     let h = few c.before.before.before.before.before.before.before.before in omega (arith, h)
 
-part-build-end : tie.Need-slice-bounds-build-end
+part-build-end : tie.Need-slice_bounds-build-end
 part-build-end c =
     let h = few c.before.before.before.before.before.before.before.before in omega (arith, h)
 
 returns : tie.Need-returns
 unfolding axes_of tolerance_of
 returns c =
-    let b = c.before.before.before.before.before.before.before.before.before.before.before.before in
-    let a = b.before.before.before.before.before.before.before.before.before.before.before.before.before.before.before.before.before.before.before.before.args in
-    let s = lent b.before.before.before.before.before.before.before.before.before.before.before.before.before.before.before.before.before.before.before.before in
-    let e = same b.before.before.before.before.before.before.before.before.before.before.before.before.before.before.before.before.before.before.before.before in (
-      b.build.ensures.0 ∙ ap reported e,
-      λ x h. errors_stand a.c a.cells.now s _ x (b.build.ensures.1.1.1 ∙ ap (λ (y : Answer Result). results_after y s) e) h,
+    let a = c.args in
+    let s = lent c.before.before.before.before.before.before.before.before.before.before.before.before.before.before.before.before.before.before.before.before.before.before.before.before.before.before.before.before.before.before.before.before in
+    let e = same c.before.before.before.before.before.before.before.before.before.before.before.before.before.before.before.before.before.before.before.before.before.before.before.before.before.before.before.before.before.before.before.before in (
+      c.build-built.ensures.0 ∙ ap reported e,
+      λ x h. errors_stand a.c a.cells.now s _ x (c.build-built.ensures.1.1.1 ∙ ap (λ (y : Answer Result). results_after y s) e) h,
     )
 
-pub build-spec : {M : Type 1} → statement M
-build-spec =
+pub build_spec : {M : Type 1} → statement M
+build_spec =
     tie.close
     (tie.spec
     mul-end

@@ -10,12 +10,11 @@ use Rattle.lane.proofs.fields.float.Tie as tie
 
 returns : tie.Need-returns
 returns c =
-    let p = c.before.before in
-    let h = p.before.before.before.hex in
-    let a = p.before.before.before.before.before.args in (
-      omega (arith, p.put-hex.ensures.0, h.ensures.0),
-      p.put-hex.ensures.1 ∙ ap (λ (t : List ℕ). take a.at a.out.now ++ t) h.ensures.1,
+    let h = c.hex-words in
+    let a = c.args in (
+      omega (arith, c.put_hex.ensures.0, h.ensures.0),
+      c.put_hex.ensures.1 ∙ ap (λ (t : List ℕ). take a.at a.out.now ++ t) h.ensures.1,
     )
 
-pub float-spec : {M : Type 1} → statement M
-float-spec = tie.close (tie.spec (λ c κs. search rules) (λ c κs. search rules) (λ c. search rules) returns)
+pub float_spec : {M : Type 1} → statement M
+float_spec = tie.close (tie.spec (λ c κs. search rules) (λ c κs. search rules) (λ c. search rules) returns)

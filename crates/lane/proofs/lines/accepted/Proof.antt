@@ -8,20 +8,18 @@ use Rattle.lane.specs.Printed.{error_lines}
 use Rattle.lane.proofs.lines.accepted.Statement.{statement}
 use Rattle.lane.proofs.lines.accepted.Tie as tie
 
-error-lines-requires : tie.Need-error-lines-requires
+error-lines-requires : tie.Need-error_lines-requires
 error-lines-requires c κs = omega arith
 
 returns : tie.Need-returns
 returns c =
-    let f = c.before.before in
-    let k = f.before.before.before.before in
-    let a = k.before.before.before.before.args in (
-      omega (arith, f.error-lines.ensures.0, k.counts.ensures.0),
-      f.error-lines.ensures.1 ∙ ap (λ (t : List ℕ). t ++ error_lines a.errors.now) k.counts.ensures.1,
+    let a = c.args in (
+      omega (arith, c.error_lines.ensures.0, c.counts-at.ensures.0),
+      c.error_lines.ensures.1 ∙ ap (λ (t : List ℕ). t ++ error_lines a.errors.now) c.counts-at.ensures.1,
     )
 
-pub accepted-spec : {M : Type 1} → statement M
-accepted-spec =
+pub accepted_spec : {M : Type 1} → statement M
+accepted_spec =
     tie.close
     (tie.spec
     (λ c κs. search rules)

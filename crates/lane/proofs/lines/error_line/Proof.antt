@@ -10,15 +10,13 @@ use Rattle.lane.proofs.lines.error_line.Tie as tie
 
 returns : tie.Need-returns
 returns c =
-    let n = c.before.before in
-    let f = n.before.before.before.before in
-    let a = f.before.before.before.args in (
+    let a = c.args in (
       omega arith,
-      both_there (take a.at a.out.now) _ _ (float_text a.error) newline f.float.ensures.1 n.newline.ensures.1,
+      both_there (take a.at a.out.now) _ _ (float_text a.error) newline c.float-at.ensures.1 c.newline.ensures.1,
     )
 
-pub error-line-spec : {M : Type 1} → statement M
-error-line-spec =
+pub error_line_spec : {M : Type 1} → statement M
+error_line_spec =
     tie.close
     (tie.spec
     (λ c κs. search rules)

@@ -12,51 +12,50 @@ use Rattle.lane.proofs.Printing.{lines_next}
 use Rattle.lane.proofs.lines.error_lines.Statement.{statement}
 use Rattle.lane.proofs.lines.error_lines.Tie as tie
 
-abbrev invariant-loop : tie.invariant-loop
+abbrev invariant-loop : tie.invariant-loop-i
 invariant-loop errors out₀ at next₀ i₀ out next i =
     (i ≤ length errors) × (next ≤ at + 17 * i) × (length out ≡ length out₀) × (take next out ≡ take at out₀ ++ error_lines (take i errors))
 
-abbrev decreases-loop : tie.decreases-loop
+abbrev decreases-loop : tie.decreases-loop-i
 decreases-loop errors out₀ at next₀ i₀ out next i = length errors - i
 
-loop-holds : tie.Need-loop-init invariant-loop decreases-loop
+loop-holds : tie.Need-loop-i-init invariant-loop decreases-loop
 unfolding error_lines
 loop-holds c =
     (omega arith, omega arith, refl, sym (append-nil _))
 
-mul-error-line : tie.Need-overflow-mul-error-line invariant-loop decreases-loop
+mul-error-line : tie.Need-offset_bounds-errors-i invariant-loop decreases-loop
 mul-error-line c = omega arith
 
-shared-slice-read-error-line : tie.Need-shared-slice-read-error-line invariant-loop decreases-loop
+shared-slice-read-error-line : tie.Need-bounds-errors-i invariant-loop decreases-loop
 shared-slice-read-error-line c = omega arith
 
-error-line-requires : tie.Need-error-line-requires invariant-loop decreases-loop
+error-line-requires : tie.Need-error_line-next-requires invariant-loop decreases-loop
 error-line-requires c κs = omega arith
 
-add-i : tie.Need-overflow-add-i invariant-loop decreases-loop
+add-i : tie.Need-overflow_add-i invariant-loop decreases-loop
 add-i c = omega arith
 
-loop-less : tie.Need-loop-smaller invariant-loop decreases-loop
+loop-less : tie.Need-loop-i-smaller invariant-loop decreases-loop
 loop-less c = omega arith
 
-loop-again : tie.Need-loop-preserved invariant-loop decreases-loop
+loop-again : tie.Need-loop-i-preserved invariant-loop decreases-loop
 loop-again c =
-    let e = c.before.before in
-    let l = e.before.before.before.before.loop in
-    let a = e.before.before.before.before.before.before.before.args in (
+    let l = c.loop-i in
+    let a = c.args in (
       omega arith,
       omega arith,
       omega arith,
-      lines_next (take a.at a.out.now) _ _ a.errors.now l.i _ (omega arith) l.invariant.3 e.error-line.ensures.1,
+      lines_next (take a.at a.out.now) _ _ a.errors.now l.i _ (omega arith) l.invariant.3 c.error_line-next.ensures.1,
     )
 
-same_length : tie.Need-same-length invariant-loop decreases-loop
+same_length : tie.Need-shape_of-out invariant-loop decreases-loop
 same_length c = omega arith
 
 returns : tie.Need-returns invariant-loop decreases-loop
 returns c =
-    let l = c.before.loop in
-    let a = c.before.before.before.before.args in
+    let l = c.loop-i in
+    let a = c.args in
     let e : l.i ≡ length a.errors.now = omega arith in (
       omega arith,
       l.invariant.3
@@ -64,8 +63,8 @@ returns c =
           a.errors.now),
     )
 
-pub error-lines-spec : {M : Type 1} → statement M
-error-lines-spec =
+pub error_lines_spec : {M : Type 1} → statement M
+error_lines_spec =
     tie.close
     (tie.spec
     invariant-loop

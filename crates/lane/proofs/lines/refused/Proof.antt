@@ -7,12 +7,10 @@ use Rattle.lane.proofs.lines.refused.Tie as tie
 
 returns : tie.Need-returns
 returns c =
-    let n = c.before.before in
-    let r = n.before.before.before.before in
-    (omega arith, refused_is r.before.before.before.args.number _ _ r.refusal.ensures.1 n.newline.ensures.1)
+    (omega arith, refused_is c.args.number _ _ c.refusal-at.ensures.1 c.newline.ensures.1)
 
-pub refused-spec : {M : Type 1} → statement M
-refused-spec =
+pub refused_spec : {M : Type 1} → statement M
+refused_spec =
     tie.close
     (tie.spec
     (λ c κs. search rules)

@@ -4,10 +4,10 @@ use Rattle.listing.specs.Axes.{byte_of, axes_of}
 use Rattle.listing.proofs.axes.axes_of.Statement.{statement}
 use Rattle.listing.proofs.axes.axes_of.Tie as tie
 
-abbrev invariant-loop : tie.invariant-loop
+abbrev invariant-loop : tie.invariant-loop-i
 invariant-loop wholes from listed₀ i₀ listed i = (i ≤ 16) × (length listed ≡ 16) × (take i listed ≡ axes_of i wholes from)
 
-abbrev decreases-loop : tie.decreases-loop
+abbrev decreases-loop : tie.decreases-loop-i
 decreases-loop wholes from listed₀ i₀ listed i = 16 - i
 
 -- one axis more
@@ -17,14 +17,14 @@ unfolding axes_of
 axis-more listed wholes from i x h e k =
     rw add-one (take-suc-set listed i x h ∙ ap (λ l. l ++ (x ∷ [])) k ∙ ap (λ x. axes_of i wholes from ++ (x ∷ [])) e)
 
-loop-holds : tie.Need-loop-init invariant-loop decreases-loop
+loop-holds : tie.Need-loop-i-init invariant-loop decreases-loop
 unfolding axes_of
 loop-holds c = (omega arith, refl, refl)
 
-loop-again : tie.Need-loop-preserved invariant-loop decreases-loop
+loop-again : tie.Need-loop-i-preserved invariant-loop decreases-loop
 loop-again c =
-    let l = c.before.before.before.loop in
-    let a = c.before.before.before.before.args in (
+    let l = c.loop-i in
+    let a = c.args in (
       omega arith,
       simp length-set (omega arith),
       axis-more l.listed a.wholes.now a.from l.i c.byte_of.result (omega arith) c.byte_of.ensures l.invariant.2,
@@ -32,13 +32,13 @@ loop-again c =
 
 returns : tie.Need-returns invariant-loop decreases-loop
 returns c =
-    let l = c.before.loop in
-    let a = c.before.before.args in
+    let l = c.loop-i in
+    let a = c.args in
     let e : l.i ≡ 16 = omega arith in
     sym (take_all l.i l.listed (omega arith)) ∙ l.invariant.2 ∙ ap (λ i. axes_of i a.wholes.now a.from) e
 
-pub axes-of-spec : {M : Type 1} → statement M
-axes-of-spec =
+pub axes_of_spec : {M : Type 1} → statement M
+axes_of_spec =
     tie.close
     (tie.spec
     invariant-loop

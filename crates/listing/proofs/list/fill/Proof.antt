@@ -3,10 +3,10 @@ use Rattle.std.proofs.Common.{◌≡◌, ◌-◌, ◌≤◌, length, arith}
 use Rattle.listing.proofs.list.fill.Statement.{statement}
 use Rattle.listing.proofs.list.fill.Tie as tie
 
-abbrev invariant-loop : tie.invariant-loop
+abbrev invariant-loop : tie.invariant-loop-done
 invariant-loop bytes₀ cells₀ done₀ bytes cells done = (done ≤ length cells) × ((length cells ≡ length cells₀) × (length bytes ≡ length bytes₀))
 
-abbrev decreases-loop : tie.decreases-loop
+abbrev decreases-loop : tie.decreases-loop-done
 decreases-loop bytes₀ cells₀ done₀ bytes cells done = length cells - done
 
 pub fill_spec : {M : Type 1} → statement M

@@ -12,16 +12,16 @@ opening-is : 0x3130_5941_4c50_4552 ≡ opening
 unfolding low_first
 opening-is = refl
 
-returns : tie.Need-returns
+returns : tie.Need-returns-then-not-take
 returns c h = absurd (false≢true h)
 
-returns-2 : tie.Need-returns-2
+returns-2 : tie.Need-returns
 returns-2 c h =
-    let b = c.before.before.before.before.before.take.ensures (not-false _ c.before.before.if1.false) in
-    sym (c.number-at.ensures (omega arith) (omega (arith, b))) ∙ eqb-true _ _ h ∙ opening-is
+    let b = c.take.ensures (not-false _ c.if-not-take.false-raw) in
+    sym (c.number_at.ensures (omega arith) (omega (arith, b))) ∙ eqb-true _ _ h ∙ opening-is
 
-pub opens-spec : {M : Type 1} → statement M
-opens-spec =
+pub opens_spec : {M : Type 1} → statement M
+opens_spec =
     tie.close
     (tie.spec
     (λ c κs. search rules)

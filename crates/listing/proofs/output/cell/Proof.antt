@@ -6,13 +6,12 @@ use Rattle.listing.proofs.output.cell.Tie as tie
 
 returns : tie.Need-returns
 returns c =
-    let h = c.before.before.before.before.before.before.before.before.before.before in
-    let a = h.before.before.args in
-    let y = c.before.before.before.before.before.before.before.byte.ensures in
-    byte_then (a.out.now, a.at) 32 c.before.before.prefix.ensures y h.hex.ensures.1
+    let a = c.args in
+    let y = c.byte-next.ensures in
+    byte_then (a.out.now, a.at) 32 c.prefix.ensures y c.hex-words.ensures.1
 
-pub cell-spec : {M : Type 1} → statement M
-cell-spec =
+pub cell_spec : {M : Type 1} → statement M
+cell_spec =
     tie.close
     (tie.spec
     (λ c κs. search rules)

@@ -5,7 +5,7 @@ use Rattle.listing.proofs.output.close.Statement.{statement}
 use Rattle.listing.proofs.output.close.Tie as tie
 
 returns : tie.Need-returns
-returns c = ap (λ g. g.0) (c.before.before.before.before.byte.ensures ∙ sym (printed_one _ _))
+returns c = ap (λ g. g.0) (c.byte-next.ensures ∙ sym (printed_one _ _))
 
 pub close_spec : {M : Type 1} → statement M
 close_spec =

@@ -5,10 +5,10 @@ use Rattle.listing.proofs.output.end.Statement.{statement}
 use Rattle.listing.proofs.output.end.Tie as tie
 
 returns : tie.Need-returns
-returns c = (c.before.before.byte.ensures ∙ sym (printed_one _ _), refl)
+returns c = (c.byte.ensures ∙ sym (printed_one _ _), refl)
 
-pub end-spec : {M : Type 1} → statement M
-end-spec =
+pub end_spec : {M : Type 1} → statement M
+end_spec =
     tie.close
     (tie.spec
     (λ c κs. search rules)

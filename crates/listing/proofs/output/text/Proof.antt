@@ -7,11 +7,11 @@ use Rattle.listing.proofs.output.text.Tie as tie
 
 returns : tie.Need-returns
 returns c =
-    let a = c.before.before.before.before.before.before.args in
-    c.before.before.prefix.ensures ∙ ap (printed (a.out.now, a.at)) (take-length a.words.now)
+    let a = c.args in
+    c.prefix.ensures ∙ ap (printed (a.out.now, a.at)) (take-length a.words.now)
 
-pub text-spec : {M : Type 1} → statement M
-text-spec =
+pub text_spec : {M : Type 1} → statement M
+text_spec =
     tie.close
     (tie.spec
     (λ c κs. search rules)

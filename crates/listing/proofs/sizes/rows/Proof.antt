@@ -6,28 +6,28 @@ use Rattle.listing.proofs.sizes.rows.Tie as tie
 few : (n d : ℕ) → n ≤ 20000 → d ≤ 16 → n * d ≤ 320000
 few n d h g = omega (arith, mul-le-mul_right d h)
 
-mul-result : tie.Need-overflow-mul-result
+mul-result : tie.Need-overflow_mul-result
 mul-result c =
-    let a = c.before.before.args in
+    let a = c.args in
     omega (arith, few a.n a.d (omega arith) (omega arith))
 
-mul-result-2 : tie.Need-overflow-mul-result-2
+mul-result-2 : tie.Need-overflow_mul-result-2
 mul-result-2 c =
-    let a = c.before.before.args in
+    let a = c.args in
     omega (arith, few a.n a.d (omega arith) (omega arith))
 
-add-result : tie.Need-overflow-add-result
+add-result : tie.Need-overflow_add-result
 add-result c =
-    let a = c.before.before.args in
+    let a = c.args in
     omega (arith, few a.n a.d (omega arith) (omega arith))
 
-returns-3 : tie.Need-returns-3
+returns-3 : tie.Need-returns
 returns-3 c =
-    let a = c.before.before.args in
+    let a = c.args in
     omega (arith, few a.n a.d (omega arith) (omega arith))
 
-pub rows-spec : {M : Type 1} → statement M
-rows-spec =
+pub rows_spec : {M : Type 1} → statement M
+rows_spec =
     tie.close
     (tie.spec
     (λ c. search rules)

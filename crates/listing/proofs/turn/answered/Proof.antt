@@ -4,20 +4,20 @@ use borrow.Author.Tests.{not-true, not-false}
 use Rattle.listing.proofs.turn.answered.Statement.{statement}
 use Rattle.listing.proofs.turn.answered.Tie as tie
 
-returns : tie.Need-returns
+returns : tie.Need-returns-then-not-line
 returns c =
-    let s = c.before.before.stopped.ensures in
-    let a = c.before.before.before.before.before.before.before.args in
-    let e : a.line.good ≡ false = not-true _ c.before.before.before.before.if1.true in
+    let s = c.stopped.ensures in
+    let a = c.args in
+    let e : a.line.good ≡ false = not-true _ c.if-not-line.true in
     rw e ((s.0.0, s.0.2), (s.0.1, s.1))
 
-returns-2 : tie.Need-returns-2
+returns-2 : tie.Need-returns
 returns-2 c =
-    let e : c.before.before.before.before.args.line.good ≡ true = not-false _ c.before.if1.false in
+    let e : c.args.line.good ≡ true = not-false _ c.if-not-line.false in
     rw e ((refl, refl), (c.after.ensures, refl))
 
-pub answered-spec : {M : Type 1} → statement M
-answered-spec =
+pub answered_spec : {M : Type 1} → statement M
+answered_spec =
     tie.close
     (tie.spec
     (λ c κs. search rules)

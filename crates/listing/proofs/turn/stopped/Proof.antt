@@ -4,14 +4,13 @@ use Rattle.listing.specs.Lines.{is_end}
 use Rattle.listing.proofs.turn.stopped.Statement.{statement}
 use Rattle.listing.proofs.turn.stopped.Tie as tie
 
-returns-2 : tie.Need-returns-2
+returns-2 : tie.Need-returns-else-is_end
 returns-2 c =
-    let i = c.before.before.before.before.before in
-    let e : is_end i.before.before.args.status ≡ false = sym i.is-end.ensures ∙ c.before.before.before.before.if1.false in
-    ((refl, refl, refl), rw e c.before.before.damaged.ensures)
+    let e : is_end c.args.status ≡ false = sym c.is_end.ensures ∙ c.if-is_end.false in
+    ((refl, refl, refl), rw e c.damaged.ensures)
 
-pub stopped-spec : {M : Type 1} → statement M
-stopped-spec =
+pub stopped_spec : {M : Type 1} → statement M
+stopped_spec =
     tie.close
     (tie.spec
     (λ c κs. search rules)

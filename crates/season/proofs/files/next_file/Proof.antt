@@ -9,69 +9,55 @@ use Rattle.season.proofs.NextFile as next
 use Rattle.season.proofs.files.next_file.Statement.{statement}
 use Rattle.season.proofs.files.next_file.Tie as tie
 
-abbrev start : tie.Else1 → tie.Start
+abbrev start : tie.Else-undecided → tie.Start
 start c = c.before.before.before
 
 -- the count is decided
-enough : (c : tie.Else1) → (ltb (length (start c).args.bytes.now - (start c).args.at) 3 && not (start c).args.last) ≡ false
-enough c = sym c.before.undecided.ensures ∙ c.if1.false
+enough : (c : tie.Else-undecided) → (ltb (length (start c).args.bytes.now - (start c).args.at) 3 && not (start c).args.last) ≡ false
+enough c = sym c.undecided.ensures ∙ c.if-undecided.false
 
-returns : tie.Need-returns
+returns : tie.Need-returns-then-undecided
 returns c =
-    let s = c.before.before.before in
-    next.undecided s.args.bytes.now s.args.at s.args.last s.requires (sym c.before.undecided.ensures ∙ c.if1.true)
+    next.undecided c.args.bytes.now c.args.at c.args.last c.requires (sym c.undecided.ensures ∙ c.if-undecided.true)
 
-returns-2 : tie.Need-returns-2
+returns-2 : tie.Need-returns-in_default
 returns-2 c =
-    let n = c.before.before in
-    let s = start n.before in
-    next.bad-count s.args.bytes.now s.args.at s.args.last s.pre (enough n.before)
-    (sym c.enum_told.given.1 ∙ n.number-at.ensures)
+    let s = start c.before.before in
+    next.bad_count s.args.bytes.now s.args.at s.args.last s.requires (enough c.before.before)
+    (sym c.in_default.is ∙ c.number_at.ensures)
 
-returns-3 : tie.Need-returns-3
+returns-3 : tie.Need-returns-then-value-gt60000
 returns-3 c =
-    let v = c.before.before in
-    let n = v.before.before in
-    let s = start n.before in
-    next.too_long s.args.bytes.now s.args.at s.args.last s.pre (enough n.before) _ _
-    (sym v.value.given.1 ∙ n.number-at.ensures) c.if2.true
+    let s = start c.before.before.before in
+    next.too_long s.args.bytes.now s.args.at s.args.last s.requires (enough c.before.before.before) _ _
+    (sym c.in-Number.is ∙ c.number_at.ensures) c.if-value-gt60000.true
 
-sub-if3 : tie.Need-overflow-sub-if3
+sub-if3 : tie.Need-overflow_sub-bytes-2
 sub-if3 c =
-    let v = c.before.before in
-    let n = v.before.before in
-    let s = start n.before in
-    next.within s.args.bytes.now s.args.at s.args.last s.pre (enough n.before) _ _
-    (sym v.value.given.1 ∙ n.number-at.ensures)
+    let s = start c.before.before.before in
+    next.within s.args.bytes.now s.args.at s.args.last s.requires (enough c.before.before.before) _ _
+    (sym c.in-Number.is ∙ c.number_at.ensures)
 
-returns-4 : tie.Need-returns-4
+returns-4 : tie.Need-returns-then-last
 returns-4 c =
-    let t = c.before in
-    let v = t.before.before.before in
-    let n = v.before.before in
-    let s = start n.before in
-    next.short s.args.bytes.now s.args.at s.args.last s.pre (enough n.before) _ _
-    (sym v.value.given.1 ∙ n.number-at.ensures) t.if3.true c.if4.true
+    let s = start c.before.before.before.before.before in
+    next.short s.args.bytes.now s.args.at s.args.last s.requires (enough c.before.before.before.before.before) _ _
+    (sym c.in-Number.is ∙ c.number_at.ensures) c.if-bytes-next.true c.if-last.true
 
-returns-5 : tie.Need-returns-5
+returns-5 : tie.Need-returns-then-bytes-next
 returns-5 c =
-    let t = c.before in
-    let v = t.before.before.before in
-    let n = v.before.before in
-    let s = start n.before in
-    next.unfinished s.args.bytes.now s.args.at s.args.last s.pre (enough n.before) _ _
-    (sym v.value.given.1 ∙ n.number-at.ensures) t.before.if2.false t.if3.true c.if4.false
+    let s = start c.before.before.before.before.before in
+    next.unfinished s.args.bytes.now s.args.at s.args.last s.requires (enough c.before.before.before.before.before) _ _
+    (sym c.in-Number.is ∙ c.number_at.ensures) c.if-value-gt60000.false c.if-bytes-next.true c.if-last.false
 
-returns-6 : tie.Need-returns-6
+returns-6 : tie.Need-returns
 returns-6 c =
-    let v = c.before.before.before in
-    let n = v.before.before in
-    let s = start n.before in
-    next.whole s.args.bytes.now s.args.at s.args.last s.pre (enough n.before) _ _
-    (sym v.value.given.1 ∙ n.number-at.ensures) c.before.if2.false c.if3.false
+    let s = start c.before.before.before.before in
+    next.whole s.args.bytes.now s.args.at s.args.last s.requires (enough c.before.before.before.before) _ _
+    (sym c.in-Number.is ∙ c.number_at.ensures) c.if-value-gt60000.false c.if-bytes-next.false
 
-pub next-file-spec : {M : Type 1} → statement M
-next-file-spec =
+pub next_file_spec : {M : Type 1} → statement M
+next_file_spec =
     tie.close
     (tie.spec
     (λ c. search rules)

@@ -12,20 +12,16 @@ use Rattle.season.proofs.lines.all_lines.Tie as tie
 returns : tie.Need-returns
 unfolding lines_of
 returns c =
-    let n = c.before.before in
-    let d = n.before.before.before.before in
-    let k = d.before.before.before.before in
-    let f = k.before.before.before.before in
-    let t = totals_in f.before.before.before.args.sums in (
-      omega (arith, f.first-lines.ensures.0, k.height-line.ensures.0, d.difference-line.ensures.0, n.number-line.ensures.0),
+    let t = totals_in c.args.sums in (
+      omega (arith, c.first_lines-fourth.ensures.0, c.height_line-fifth.ensures.0, c.difference_line-sixth.ensures.0, c.number_line.ensures.0),
       six_lines _ _ _ _ (line (decimal_of t.lanes)) (line (decimal_of t.segments)) (line (maybe_text t.lowest))
-          (line (maybe_text t.highest)) (line (whole_text t.sum)) (line (decimal_of t.turned_away)) f.first-lines.ensures.1
-          k.height-line.ensures.1 d.difference-line.ensures.1
-          n.number-line.ensures.1,
+          (line (maybe_text t.highest)) (line (whole_text t.sum)) (line (decimal_of t.turned_away)) c.first_lines-fourth.ensures.1
+          c.height_line-fifth.ensures.1 c.difference_line-sixth.ensures.1
+          c.number_line.ensures.1,
     )
 
-pub all-lines-spec : {M : Type 1} → statement M
-all-lines-spec =
+pub all_lines_spec : {M : Type 1} → statement M
+all_lines_spec =
     tie.close
     (tie.spec
     (λ c κs. search rules)

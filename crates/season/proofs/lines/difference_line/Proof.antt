@@ -8,12 +8,10 @@ use Rattle.season.proofs.lines.difference_line.Tie as tie
 
 returns : tie.Need-returns
 returns c =
-    let n = c.before.before in
-    let p = n.before.before.before.before in
-    let s = p.before.before.before.args in (
-      omega (arith, p.difference.ensures.0, n.newline.ensures.0),
-      both_there (take s.at s.out.now) _ _ _ _ p.difference.ensures.1 n.newline.ensures.1,
+    let s = c.args in (
+      omega (arith, c.difference-next.ensures.0, c.newline.ensures.0),
+      both_there (take s.at s.out.now) _ _ _ _ c.difference-next.ensures.1 c.newline.ensures.1,
     )
 
-pub difference-line-spec : {M : Type 1} → statement M
-difference-line-spec = tie.close (tie.spec (λ c κs. search rules) (λ c κs. search rules) (λ c. search rules) returns)
+pub difference_line_spec : {M : Type 1} → statement M
+difference_line_spec = tie.close (tie.spec (λ c κs. search rules) (λ c κs. search rules) (λ c. search rules) returns)

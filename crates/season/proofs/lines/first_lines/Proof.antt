@@ -7,13 +7,11 @@ use Rattle.season.proofs.lines.first_lines.Tie as tie
 
 returns : tie.Need-returns
 returns c =
-    let k = c.before.before in
-    let m = k.before.before.before.before in
-    let n = m.before.before.before.before in (
-      omega (arith, n.number-line.ensures.0, m.number-line2.ensures.0, k.height-line.ensures.0),
-      three_lines _ _ _ _ _ _ n.number-line.ensures.1 m.number-line2.ensures.1 k.height-line.ensures.1,
+    (
+      omega (arith, c.number_line-second.ensures.0, c.number_line-third.ensures.0, c.height_line.ensures.0),
+      three_lines _ _ _ _ _ _ c.number_line-second.ensures.1 c.number_line-third.ensures.1 c.height_line.ensures.1,
     )
 
-pub first-lines-spec : {M : Type 1} → statement M
-first-lines-spec =
+pub first_lines_spec : {M : Type 1} → statement M
+first_lines_spec =
     tie.close (tie.spec (λ c κs. search rules) (λ c κs. search rules) (λ c κs. search rules) (λ c. search rules) returns)

@@ -9,11 +9,11 @@ use Rattle.window.proofs.Filling.{copy_more}
 use Rattle.season.proofs.parts.move_front.Statement.{statement}
 use Rattle.season.proofs.parts.move_front.Tie as tie
 
-abbrev invariant-loop : tie.invariant-loop
+abbrev invariant-loop : tie.invariant-loop-i
 invariant-loop bytes₀ from end i₀ bytes i =
     (i ≤ end - from) × (length bytes ≡ length bytes₀) × (bytes ≡ take i (drop from bytes₀) ++ drop i bytes₀)
 
-abbrev decreases-loop : tie.decreases-loop
+abbrev decreases-loop : tie.decreases-loop-i
 decreases-loop bytes₀ from end i₀ bytes i = end - from - i
 
 -- a byte that is not moved yet
@@ -45,31 +45,29 @@ all d bytes from end i a b e h =
     ∙ take_at (take (end - from) (drop from d)) (drop (end - from) d) (end - from)
     (length-take-le (end - from) (drop from d) (omega (arith, n)))
 
-loop-holds : tie.Need-loop-init invariant-loop decreases-loop
+loop-holds : tie.Need-loop-i-init invariant-loop decreases-loop
 loop-holds c = (omega arith, refl, refl)
 
-loop-again : tie.Need-loop-preserved invariant-loop decreases-loop
+loop-again : tie.Need-loop-i-preserved invariant-loop decreases-loop
 loop-again c =
-    let i = c.before in
-    let l = i.before.loop in
-    let s = i.before.before in (
-      omega (arith, i.loop-test.true),
+    let l = c.loop-i in
+    (
+      omega (arith, c.loop-i-test.true),
       length-set l.bytes l.i _ ∙ l.invariant.1,
-      next s.args.bytes.now l.bytes s.args.from s.args.end l.i s.requires.0 s.requires.1 i.loop-test.true l.invariant.2,
+      next c.args.bytes.now l.bytes c.args.from c.args.end l.i c.requires.0 c.requires.1 c.loop-i-test.true l.invariant.2,
     )
 
-same_length : tie.Need-same-length invariant-loop decreases-loop
-same_length c = c.before.loop.invariant.1
+same_length : tie.Need-shape_of-bytes invariant-loop decreases-loop
+same_length c = c.loop-i.invariant.1
 
 returns : tie.Need-returns invariant-loop decreases-loop
 returns c =
-    let l = c.before.loop in
-    let s = c.before.before in
-    all s.args.bytes.now l.bytes s.args.from s.args.end l.i s.requires.0 s.requires.1
-    (omega (arith, l.invariant.0, c.loop-test.false)) l.invariant.2
+    let l = c.loop-i in
+    all c.args.bytes.now l.bytes c.args.from c.args.end l.i c.requires.0 c.requires.1
+    (omega (arith, l.invariant.0, c.loop-i-test.false)) l.invariant.2
 
-pub move-front-spec : {M : Type 1} → statement M
-move-front-spec =
+pub move_front_spec : {M : Type 1} → statement M
+move_front_spec =
     tie.close
     (tie.spec
     invariant-loop

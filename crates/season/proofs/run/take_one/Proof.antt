@@ -17,90 +17,81 @@ use Rattle.season.proofs.Running.{clash, limit_reached, run_stops, run_waits, ru
 use Rattle.season.proofs.run.take_one.Statement.{statement}
 use Rattle.season.proofs.run.take_one.Tie as tie
 
-abbrev start : tie.Else1 → tie.Start
+abbrev start : tie.Else-files-ge65535 → tie.Start
 start c = c.before.before.before.before.before.before.before.before
 
 -- what stands there
-found : (c : tie.After-next-file) (n : Next) → c.next-file.result ≡ n
+found : (c : tie.After-next_file-next) (n : Next) → c.next_file-next.result ≡ n
     → NextIn (start c.before).args.bytes.now (start c.before).args.at (start c.before).args.last n
 found c n e =
-    let a = (start c.before).args in subst (NextIn a.bytes.now a.at a.last) e c.next-file.ensures
+    let a = (start c.before).args in subst (NextIn a.bytes.now a.at a.last) e c.next_file-next.ensures
 
 -- a file has few numbers
 few : (l : List ℕ) (from to n : ℕ) → to ≤ from + 60000 → 7500 ≤ n → length (window from to l) / 8 ≤ n
 few l from to n h g = omega (arith, length-take (to - from) (drop from l), h, g)
 
-returns : tie.Need-returns
+returns : tie.Need-returns-then-files-ge65535
 returns c =
-    let s = c.before.before.before.before.before.before.before.before in
-    let a = s.args in (
-      limit_reached a.bytes.now a.at a.last a.before s.requires.0.0 s.requires.0.1 c.if1.true,
+    let a = c.args in (
+      limit_reached a.bytes.now a.at a.last a.before c.requires.0.0 c.requires.0.1 c.if-files-ge65535.true,
       (omega arith, λ e. absurd (clash e)),
     )
 
-returns-2 : tie.Need-returns-2
+returns-2 : tie.Need-returns-in-Bad
 returns-2 c =
-    let n = c.before.before in
-    let s = start n.before in
+    let s = start c.before.before in
     let a = s.args in (
-      run_stops a.bytes.now a.at a.last a.before s.pre.0.0 s.pre.0.1 (found n Bad c.enum_told.given.1),
+      run_stops a.bytes.now a.at a.last a.before s.requires.0.0 s.requires.0.1 (found c.before Bad c.in-Bad.is),
       (omega arith, λ e. absurd (clash e)),
     )
 
-returns-3 : tie.Need-returns-3
+returns-3 : tie.Need-returns-in-More
 returns-3 c =
-    let n = c.before.before in
-    let s = start n.before in
+    let s = start c.before.before in
     let a = s.args in
-    let f = found n More c.enum-told2.given.1 in
-    (run_waits a.bytes.now a.at a.last a.before s.pre.0.0 s.pre.0.1 f, (omega arith, λ e g. f))
+    let f = found c.before More c.in-More.is in
+    (run_waits a.bytes.now a.at a.last a.before s.requires.0.0 s.requires.0.1 f, (omega arith, λ e g. f))
 
-sub-in-file : tie.Need-overflow-sub-in-file
-sub-in-file c = (found c.before.before.before _ c.before.next.given.1).2
+sub-in-file : tie.Need-slice_bounds-in_file-count
+sub-in-file c = (found c.before _ c.in-File.is).2
 
-part-in-file-start : tie.Need-slice-bounds-in-file-start
-part-in-file-start c = (found c.before.before.before _ c.before.next.given.1).2
+part-in-file-start : tie.Need-slice_bounds-in_file-start
+part-in-file-start c = (found c.before _ c.in-File.is).2
 
-part-in-file-end : tie.Need-slice-bounds-in-file-end
-part-in-file-end c = (found c.before.before.before _ c.before.next.given.1).1
+part-in-file-end : tie.Need-slice_bounds-in_file-end
+part-in-file-end c = (found c.before _ c.in-File.is).1
 
-in-file-requires : tie.Need-in-file-requires
+in-file-requires : tie.Need-in_file-one-requires
 in-file-requires c κs =
-    let v = c.before.before.before.before.before.before in
-    let n = v.before.before in
-    let s = start n.before in
+    let s = start c.before.before.before.before.before.before.before in
     let l = s.args.bytes.now in
-    let h = (found n _ v.next.given.1).3 in
-    let p = s.pre.1.0 in
-    ((few l _ _ _ h p.0, few l _ _ _ h p.1, few l _ _ _ h p.2, few l _ _ _ h p.3), s.pre.1.1)
+    let h = (found c.before.before.before.before.before.before _ c.in-File.is).3 in
+    let p = s.requires.1.0 in
+    ((few l _ _ _ h p.0, few l _ _ _ h p.1, few l _ _ _ h p.2, few l _ _ _ h p.3), s.requires.1.1)
 
-merged-requires : tie.Need-merged-requires
+merged-requires : tie.Need-merged-sums-requires
 merged-requires c κs =
-    let i = c.before.before.before.before.before.before.before.before in
-    let s = start i.before.before.before.before.before.before.before.before.before.before in (
-      kept_small _ _ s.args.before s.pre.0.1.0 (omega (arith, s.pre.0.1.0)) s.pre.0.1.1,
-      kept_small 1 20000 i.in-file.result (omega arith) (omega arith) i.in-file.ensures.1,
+    let s = start c.before.before.before.before.before.before.before.before.before.before.before.before.before.before.before.before in (
+      kept_small _ _ s.args.before s.requires.0.1.0 (omega (arith, s.requires.0.1.0)) s.requires.0.1.1,
+      kept_small 1 20000 c.in_file-one.result (omega arith) (omega arith) c.in_file-one.ensures.1,
     )
 
-returns-4 : tie.Need-returns-4
+returns-4 : tie.Need-returns-in-File
 returns-4 c =
-    let i = c.before.before.before.before.before.before.before.before.before in
-    let v = i.before.before.before.before.before.before.before in
-    let n = v.before.before in
-    let s = start n.before in
+    let s = start c.before.before.before.before.before.before.before.before.before.before.before.before.before.before.before.before.before in
     let a = s.args in
-    let f = found n _ v.next.given.1 in (
+    let f = found c.before.before.before.before.before.before.before.before.before.before.before.before.before.before.before.before _ c.in-File.is in (
       subst (λ (x : Sums). TakenIn a.bytes.now a.at a.last a.before
-          (record { stopped = false; at = v.next.given.0.1.0; sums = x }))
-          (sym c.merged.ensures)
-          (run_takes_in a.bytes.now a.at a.last a.before s.pre.0.0 s.pre.0.1 _ _ i.in-file.result
-          n.before.if1.false f
-          i.in-file.ensures.0 i.in-file.ensures.1),
+          (record { stopped = false; at = c.in-File.to; sums = x }))
+          (sym c.merged-sums.ensures)
+          (run_takes_in a.bytes.now a.at a.last a.before s.requires.0.0 s.requires.0.1 _ _ c.in_file-one.result
+          c.if-files-ge65535.false f
+          c.in_file-one.ensures.0 c.in_file-one.ensures.1),
       (omega (arith, f.0), λ _ e. absurd (omega (arith, f.0, e))),
     )
 
-pub take-one-spec : {M : Type 1} → statement M
-take-one-spec =
+pub take_one_spec : {M : Type 1} → statement M
+take_one_spec =
     tie.close
     (tie.spec
     (λ c. search rules)
