@@ -38,7 +38,7 @@ def own_crates():
 
 
 def is_walk(p):
-    return os.path.basename(p) in ("Proof.antt", "Answers.antt", "Invariants.antt")
+    return os.path.basename(p) in ("Proof.antt", "Answers.antt", "Invariants.antt") and os.path.basename(os.path.dirname(p)) != "proofs"
 
 
 def bare(text):

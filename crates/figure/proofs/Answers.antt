@@ -103,10 +103,10 @@ bulge depth = certify_of (curve 1 1)
     (slices (+0 ∷ one ∷ []) (+0 ∷ +0 ∷ +0 ∷ +0 ∷ float 0x4028_0000_0000_0000 ∷ float 0xc028_0000_0000_0000 ∷ one ∷ []) [] [])
     (+0 ∷ +0 ∷ []) 2 Even [] 0 depth
 
-pub whole-bulge : bulge 0 ≡ outcome 0 (figure (float 0x4003_3333_3333_3343))
+pub whole_bulge : bulge 0 ≡ outcome 0 (figure (float 0x4003_3333_3333_3343))
 unfolding checks figures
-whole-bulge = refl
+whole_bulge = refl
 
-pub halved-bulge : bulge 1 ≡ outcome 0 (figure (float 0x3ff3_3333_3333_33c0))
+pub halved_bulge : bulge 1 ≡ outcome 0 (figure (float 0x3ff3_3333_3333_33c0))
 unfolding checks figures
-halved-bulge = refl
+halved_bulge = refl

@@ -24,9 +24,9 @@ abbrev pub told : List ℕ → Answer Counts
 told l = and_then (job_of l) (λ j. done j.counts)
 
 module _ (l : List ℕ) where
-  pub refused-lane : (n : ℕ) → refused n ≡ told l → lane_of l ≡ refused n
+  pub refused_lane : (n : ℕ) → refused n ≡ told l → lane_of l ≡ refused n
   unfolding and_then
-  refused-lane n e = go (job_of l) e
+  refused_lane n e = go (job_of l) e
     where
       go : (o : Answer Job) → refused n ≡ and_then o (λ j. done j.counts) → and_then o (λ j. build_of (request_of j)) ≡ refused n
       go (done j) f = absurd (refused_done f)
@@ -42,10 +42,10 @@ module _ (l : List ℕ) where
       go (refused n) f e = absurd (refused_done (sym e))
       go (exhausted x) f e = absurd (exhausted_done (sym e))
 
-  pub read-lane : (c : Counts) (cells cells' : List Float) → done c ≡ told l → cells' ≡ cells_after (job_of l) cells
+  pub read_lane : (c : Counts) (cells cells' : List Float) → done c ≡ told l → cells' ≡ cells_after (job_of l) cells
       → build_of (request_in c cells') ≡ lane_of l
   unfolding and_then cells_after
-  read-lane c cells cells' e h = go (job_of l) refl e h
+  read_lane c cells cells' e h = go (job_of l) refl e h
     where
       go : (o : Answer Job) → job_of l ≡ o → done c ≡ and_then o (λ j. done j.counts) → cells' ≡ cells_after o cells
           → build_of (request_in c cells') ≡ and_then o (λ j. build_of (request_of j))
@@ -58,9 +58,9 @@ module _ (l : List ℕ) where
       go (exhausted x) f e h = absurd (exhausted_done (sym e))
 
   -- the text is that of every input that begins so
-  pub every-input : (t : List ℕ) → t ≡ printed_of (lane_of l)
+  pub every_input : (t : List ℕ) → t ≡ printed_of (lane_of l)
       → (t ≡ printed_of (lane_of l)) × ((input : List ℕ) → take 1621 input ≡ l → t ≡ printed_of (lane_of input))
-  every-input t e = (
+  every_input t e = (
     e,
     λ input f.
         e ∙ ap (λ (b : List ℕ). printed_of (lane_of b)) (sym f)
@@ -68,8 +68,8 @@ module _ (l : List ℕ) where
   )
 
 -- the errors of at most two axes
-pub two-errors : (d : ℕ) (l : List Float) → d ≤ 2 → length (take (d - 0) l) ≤ 2
-two-errors d l h = rw (length-take (d - 0) l) (omega arith)
+pub two_errors : (d : ℕ) (l : List Float) → d ≤ 2 → length (take (d - 0) l) ≤ 2
+two_errors d l h = rw (length-take (d - 0) l) (omega arith)
 
-pub same-errors : (d : ℕ) (l : List Float) → take (d - 0) l ≡ take d l
-same-errors d l = let e : d - 0 ≡ d = omega arith in rw e
+pub same_errors : (d : ℕ) (l : List Float) → take (d - 0) l ≡ take d l
+same_errors d l = let e : d - 0 ≡ d = omega arith in rw e

@@ -61,9 +61,9 @@ module _ (c : Curve) (s : Cells) (lent : List ℕ) where
 
 -- ---- reading
 module _ (l : List ℕ) (lent : Cells) where
-  pub not-read : read_whole file_form l ≡ bad → read_outcome 27 (no_curve Error) lent ≡ read_of l lent
+  pub not_read : read_whole file_form l ≡ bad → read_outcome 27 (no_curve Error) lent ≡ read_of l lent
   unfolding read_as
-  not-read e = rw e
+  not_read e = rw e
 
   module _ (f : FoundHead) (x : FileAt l f) where
     read_in_law : read_into (curve_at l f) (cells_at l f) lent ≡ read_of l lent
@@ -71,14 +71,14 @@ module _ (l : List ℕ) (lent : Cells) where
     read_in_law =
         (λ i. read_into (sym x.curve i) (sym x.cells i) lent) ∙ ap (λ (o : Read Contents). read_as o lent) (sym x.read)
 
-    pub read-not-formed : well_formed (curve_at l f) (slices_of (cells_at l f)) ≡ false → read_outcome 24 (no_curve Error) lent ≡ read_of l lent
+    pub read_not_formed : well_formed (curve_at l f) (slices_of (cells_at l f)) ≡ false → read_outcome 24 (no_curve Error) lent ≡ read_of l lent
     unfolding read_into
-    read-not-formed w = rw w at read_in_law
+    read_not_formed w = rw w at read_in_law
 
     module _ (w : well_formed (curve_at l f) (slices_of (cells_at l f)) ≡ true) where
-      pub read-too-short : too_short (cells_at l f) lent ≡ true → read_outcome 19 (no_curve Error) lent ≡ read_of l lent
+      pub read_too_short : too_short (cells_at l f) lent ≡ true → read_outcome 19 (no_curve Error) lent ≡ read_of l lent
       unfolding read_into
-      read-too-short s = rw (w, s) at read_in_law
+      read_too_short s = rw (w, s) at read_in_law
 
       pub read_done : too_short (cells_at l f) lent ≡ false
           → read_outcome 0 (curve_at l f) (onto_cells (cells_at l f) lent) ≡ read_of l lent

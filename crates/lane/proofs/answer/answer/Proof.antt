@@ -9,7 +9,7 @@ use Rattle.job.specs.declared.Counts.{Counts}
 use Rattle.job.specs.Reading.{told_by}
 use Rattle.lane.specs.Printed.{printed_of}
 use Rattle.lane.specs.Room.{Small}
-use Rattle.lane.proofs.Answers.{told, refused-lane, small, read-lane, every-input, two-errors, same-errors}
+use Rattle.lane.proofs.Answers.{told, refused_lane, small, read_lane, every_input, two_errors, same_errors}
 use Rattle.lane.proofs.answer.answer.Statement.{statement}
 use Rattle.lane.proofs.answer.answer.Tie as tie
 
@@ -26,8 +26,8 @@ abbrev begun : tie.After-build-told → tie.In-Read
 begun c = c.before.before.before.before.before.before.before
 
 -- where its answer is told
-abbrev built : tie.After-answered-arg-1 → tie.After-build-told
-built c = c.before.before.before.before.before.before.before.before.before.before.before.before.before
+abbrev built : tie.After-slice_known-in-Read-6-1 → tie.After-build-told
+built c = c.before.before.before.before.before.before.before.before.before.before.before.before
 
 build-requires : tie.Need-build-told-requires
 build-requires c κs =
@@ -51,23 +51,23 @@ part-answered-end c =
 
 answered-requires : tie.Need-answered-requires
 answered-requires c κs =
-    let k = begun (built c.before) in
-    (omega (arith, c.requires), two-errors k.in-Read.counts.d _ (limits k).0)
+    let k = begun (built c.before.before) in
+    (omega (arith, c.requires), two_errors k.in-Read.counts.d _ (limits k).0)
 
 returns : tie.Need-returns-in-Refused
 returns c =
     let b = c.args.bytes.now in
-    let e = refused-lane b _ (sym (ap told_by c.in-Refused.is) ∙ c.read-reading.ensures.0) in
-    (omega (arith, c.refused.ensures.0, c.requires), every-input b _ (c.refused.ensures.1 ∙ ap printed_of (sym e)))
+    let e = refused_lane b _ (sym (ap told_by c.in-Refused.is) ∙ c.read-reading.ensures.0) in
+    (omega (arith, c.refused.ensures.0, c.requires), every_input b _ (c.refused.ensures.1 ∙ ap printed_of (sym e)))
 
 returns-2 : tie.Need-returns-in-Read
 returns-2 c =
-    let k = begun (built c.before.before.before.before) in
+    let k = begun (built c.before.before.before.before.before) in
     let b = c.args.bytes.now in
     let n = k.in-Read.counts in
-    let e = read-lane b n c.args.cells.now _ (told_so k) c.read-reading.ensures.1 in
-    let text = c.answered.ensures.1 _ c.build-told.ensures.0 (λ x h. same-errors n.d _ ∙ c.build-told.ensures.1 x h) in
-    (omega (arith, c.answered.ensures.0, c.requires), every-input b _ (text ∙ ap printed_of e))
+    let e = read_lane b n c.args.cells.now _ (told_so k) c.read-reading.ensures.1 in
+    let text = c.answered.ensures.1 _ c.build-told.ensures.0 (λ x h. same_errors n.d _ ∙ c.build-told.ensures.1 x h) in
+    (omega (arith, c.answered.ensures.0, c.requires), every_input b _ (text ∙ ap printed_of e))
 
 pub answer_spec : {M : Type 1} → statement M
 answer_spec =

@@ -15,7 +15,7 @@ use Rattle.lane_file.specs.Curves.{Cells, cells, slices_of}
 use Rattle.lane_file.specs.Outcome.{ReadOutcome, read_outcome, read_number, ReadPromised}
 use Rattle.lane_file.specs.Reading.{cells_at, curve_at, FileAt}
 use Rattle.lane_file.proofs.Taking.{short_is}
-use Rattle.lane_file.proofs.Answers.{not-read, read-not-formed, read-too-short, read_done, taken}
+use Rattle.lane_file.proofs.Answers.{not_read, read_not_formed, read_too_short, read_done, taken}
 use Rattle.lane_file.proofs.entry.read.Statement.{statement}
 use Rattle.lane_file.proofs.entry.read.Tie as tie
 
@@ -58,7 +58,7 @@ returns c =
     let a = c.args in
     let lent = cells a.breaks.now a.coefficients.now a.other_breaks.now a.other_coefficients.now in
     refusal 27 _ _ _ lent _ _ refl (omega arith) c.refused.ensures.0 c.refused.ensures.1
-    (not-read a.file.now lent (c.whole_head-head.ensures.0 (not-true _ c.if-not-head.true)))
+    (not_read a.file.now lent (c.whole_head-head.ensures.0 (not-true _ c.if-not-head.true)))
 
 formed-requires : tie.Need-formed-requires
 formed-requires c κs = reads c
@@ -66,7 +66,7 @@ formed-requires c κs = reads c
 returns-2 : tie.Need-returns-then-not-formed
 returns-2 c =
     refusal 24 _ _ _ (lent c.before.before.before) _ _ refl (omega arith) c.refused-then-not-formed.ensures.0 c.refused-then-not-formed.ensures.1
-    (read-not-formed (file c.before.before.before) (lent c.before.before.before) (head c.before.before.before) (reads c.before.before.before) (sym c.formed.ensures ∙ not-true _ c.if-not-formed.true-raw))
+    (read_not_formed (file c.before.before.before) (lent c.before.before.before) (head c.before.before.before) (reads c.before.before.before) (sym c.formed.ensures ∙ not-true _ c.if-not-formed.true-raw))
 
 too-short-requires : tie.Need-too_short-short-requires
 too-short-requires c κs = reads c.before.before
@@ -74,7 +74,7 @@ too-short-requires c κs = reads c.before.before
 returns-3 : tie.Need-returns-then-short
 returns-3 c =
     refusal 19 _ _ _ (lent c.before.before.before.before.before) _ _ refl (omega arith) c.refused-then-short.ensures.0 c.refused-then-short.ensures.1
-    (read-too-short (file c.before.before.before.before.before) (lent c.before.before.before.before.before) (head c.before.before.before.before.before) (reads c.before.before.before.before.before) (formed c.before.before.before)
+    (read_too_short (file c.before.before.before.before.before) (lent c.before.before.before.before.before) (head c.before.before.before.before.before) (reads c.before.before.before.before.before) (formed c.before.before.before)
     (short_is (file c.before.before.before.before.before) (head c.before.before.before.before.before) (lent c.before.before.before.before.before) ∙ sym c.too_short-short.ensures ∙ c.if-short.true))
 
 read-sets-requires : tie.Need-read_sets-requires

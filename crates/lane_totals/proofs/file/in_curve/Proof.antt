@@ -5,7 +5,7 @@ use Rattle.lane_file.specs.Curves.{Cells, cells, slices_of}
 use Rattle.lane_file.specs.Outcome.{used_cells}
 use Rattle.lane_file.proofs.FormedCurves.{Small, formed_small}
 use Rattle.heights.proofs.Answered.{selected_sized, others_sized}
-use Rattle.lane_totals.proofs.Answers.{in-selected, in-others, set-lent, set-cut}
+use Rattle.lane_totals.proofs.Answers.{in_selected, in_others, set_lent, set_cut}
 use Rattle.lane_totals.proofs.file.in_curve.Statement.{statement}
 use Rattle.lane_totals.proofs.file.in_curve.Tie as tie
 
@@ -34,7 +34,7 @@ of-set-requires c κs =
     let a = s.args in
     let h = selected_sized a.curve (slices_of (used s)) 0 s.requires.0 (form s).d_low c.axis_place-at.result c.axis_place-at.ensures
     c.if-at-k.true in (
-      set-lent a.curve.segments a.curve.k c.axis_place-at.result a.breaks.now a.coefficients.now h (small s).set,
+      set_lent a.curve.segments a.curve.k c.axis_place-at.result a.breaks.now a.coefficients.now h (small s).set,
       s.requires.1,
     )
 
@@ -44,9 +44,9 @@ returns c =
     let a = s.args in
     let h = selected_sized a.curve (slices_of (used s)) 0 s.requires.0 (form s).d_low c.axis_place-at.result c.axis_place-at.ensures
     c.if-at-k.true in (
-      in-selected a.curve (slices_of (used s)) s.requires.0 (form s).d_low c.axis_place-at.result c.axis_place-at.ensures _
+      in_selected a.curve (slices_of (used s)) s.requires.0 (form s).d_low c.axis_place-at.result c.axis_place-at.ensures _
           c.if-at-k.true
-          (set-cut a.curve.segments a.curve.k c.axis_place-at.result a.breaks.now a.coefficients.now h (small s).set _
+          (set_cut a.curve.segments a.curve.k c.axis_place-at.result a.breaks.now a.coefficients.now h (small s).set _
           c.of_set.ensures.0),
       c.of_set.ensures.1,
     )
@@ -60,7 +60,7 @@ of-set-requires-2 c κs =
     let a = s.args in
     let h = others_sized a.curve (slices_of (used s)) 0 s.requires.0 (form s).d_low c.axis_place-at.result c.axis_place-at.ensures
     c.if-at-k.false in
-    (set-lent _ _ _ a.other_breaks.now a.other_coefficients.now h (small s).others, s.requires.1)
+    (set_lent _ _ _ a.other_breaks.now a.other_coefficients.now h (small s).others, s.requires.1)
 
 returns-2 : tie.Need-returns
 returns-2 c =
@@ -68,8 +68,8 @@ returns-2 c =
     let a = s.args in
     let h = others_sized a.curve (slices_of (used s)) 0 s.requires.0 (form s).d_low c.axis_place-at.result c.axis_place-at.ensures
     c.if-at-k.false in (
-      in-others a.curve (slices_of (used s)) s.requires.0 (form s).d_low c.axis_place-at.result c.axis_place-at.ensures _ c.if-at-k.false
-          (set-cut _ _ _ a.other_breaks.now a.other_coefficients.now h (small s).others _ c.of_set-2.ensures.0),
+      in_others a.curve (slices_of (used s)) s.requires.0 (form s).d_low c.axis_place-at.result c.axis_place-at.ensures _ c.if-at-k.false
+          (set_cut _ _ _ a.other_breaks.now a.other_coefficients.now h (small s).others _ c.of_set-2.ensures.0),
       c.of_set-2.ensures.1,
     )
 

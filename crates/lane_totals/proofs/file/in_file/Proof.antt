@@ -9,7 +9,7 @@ use Rattle.lane_file.specs.Outcome.{ReadOutcome, read_number, read_of}
 use Rattle.lane_file.proofs.EnoughRoom.{never_short_slices}
 use Rattle.lane_file.proofs.Whole.{bytes_of}
 use Rattle.lane_totals.proofs.Keeping.{kept_wider}
-use Rattle.lane_totals.proofs.Answers.{file-away, file-read}
+use Rattle.lane_totals.proofs.Answers.{file_away, file_read}
 use Rattle.lane_totals.proofs.file.in_file.Statement.{statement}
 use Rattle.lane_totals.proofs.file.in_file.Tie as tie
 
@@ -40,7 +40,7 @@ returns : tie.Need-returns-then-read_number-ne0
 returns c =
     (
       c.one_away.ensures.0
-          ∙ file-away (file c.before.before.before.before.before.before.before.before.before.before.before) (lent c.before.before.before.before.before.before.before.before.before.before.before) (λ z. c.if-read_number-ne0.true (c.read_number.ensures ∙ number c.before.before.before.before.before.before.before.before.before.before.before ∙ z)) (never-short c.before.before.before.before.before.before.before.before.before.before.before),
+          ∙ file_away (file c.before.before.before.before.before.before.before.before.before.before.before) (lent c.before.before.before.before.before.before.before.before.before.before.before) (λ z. c.if-read_number-ne0.true (c.read_number.ensures ∙ number c.before.before.before.before.before.before.before.before.before.before.before ∙ z)) (never-short c.before.before.before.before.before.before.before.before.before.before.before),
       kept_wider 1 0 20000 _ (omega arith) c.one_away.ensures.1,
     )
 
@@ -55,7 +55,7 @@ in-curve-requires c κs =
 
 returns-2 : tie.Need-returns
 returns-2 c =
-    (c.in_curve.ensures.0 ∙ file-read (file c.before.before.before.before.before.before.before.before.before.before.before.before) (lent c.before.before.before.before.before.before.before.before.before.before.before.before) _ c.read-read.ensures.0 (done c.before.before), c.in_curve.ensures.1)
+    (c.in_curve.ensures.0 ∙ file_read (file c.before.before.before.before.before.before.before.before.before.before.before.before) (lent c.before.before.before.before.before.before.before.before.before.before.before.before) _ c.read-read.ensures.0 (done c.before.before), c.in_curve.ensures.1)
 
 pub in_file_spec : {M : Type 1} → statement M
 in_file_spec =
