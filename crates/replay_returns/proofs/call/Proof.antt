@@ -7,14 +7,11 @@ use Rattle.replay_returns.proofs.call.Tie as tie
 
 returns : tie.Need-returns
 returns c =
-    let t = c.before.before.before.before.before.before.before.before.before.before in
-    let v = t.before.before.before.before.before.before.before.before.before.before.before in
-    let m = v.before.before.before.before.before.before.before.before.before.before.before.before.before in
-    returned_told (return_of _ _) _ _ m.mark-all.ensures _ _ _ _ v.return-lane.ensures.0 t.before.before.number.ensures
-    t.refusal.ensures c.before.before.cells.ensures
+    returned_told (return_of _ _) _ _ c.mark_all.ensures _ _ _ _ c.return_lane-answer.ensures.0 c.number.ensures
+    c.refusal-next.ensures c.cells.ensures
 
-pub call-spec : {M : Type 1} → statement M
-call-spec =
+pub call_spec : {M : Type 1} → statement M
+call_spec =
     tie.close
     (tie.spec
     (λ c κs. search rules)

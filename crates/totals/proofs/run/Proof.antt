@@ -13,7 +13,7 @@ use Rattle.totals.specs.Input.{Course}
 use Rattle.totals.proofs.run.Statement.{statement}
 use Rattle.totals.proofs.run.Tie as tie
 
-abbrev invariant-loop : tie.invariant-loop
+abbrev invariant-loop : tie.invariant-loop-out
 invariant-loop buffer₀ out₀ weights breaks₀ coefficients₀ other-breaks₀ other-coefficients₀ all₀ filled₀ buffer out breaks coefficients
     other_breaks
     other_coefficients all filled =
@@ -21,12 +21,12 @@ invariant-loop buffer₀ out₀ weights breaks₀ coefficients₀ other-breaks�
     × (length coefficients ≡ length coefficients₀) × (length other_breaks ≡ length other-breaks₀)
     × (length other_coefficients ≡ length other-coefficients₀) × (filled ≤ 60002) × Running all × Course buffer filled all
 
-abbrev decreases-loop : tie.decreases-loop
+abbrev decreases-loop : tie.decreases-loop-out
 decreases-loop buffer₀ out₀ weights breaks₀ coefficients₀ other-breaks₀ other-coefficients₀ all₀ filled₀ buffer out breaks coefficients other_breaks
     other_coefficients all filled =
     65535 - files_in all
 
-loop-holds : tie.Need-loop-init invariant-loop decreases-loop
+loop-holds : tie.Need-loop-out-init invariant-loop decreases-loop
 loop-holds c = (
   refl,
   refl,
@@ -35,14 +35,14 @@ loop-holds c = (
   refl,
   refl,
   omega arith,
-  running_none c.none.result c.none.ensures.1,
-  record { seen = []; reached = reached_none c.none.result c.none.ensures.0 c.none.ensures.1 },
+  running_none c.none-all.result c.none-all.ensures.1,
+  record { seen = []; reached = reached_none c.none-all.result c.none-all.ensures.0 c.none-all.ensures.1 },
 )
 
-take-turn-requires : tie.Need-take-turn-requires invariant-loop decreases-loop
+take-turn-requires : tie.Need-take_turn-turn-requires invariant-loop decreases-loop
 take-turn-requires c κs =
-    let l = c.before.before.before.before.before.loop.invariant in
-    let p = c.before.before.before.before.before.before.before.before.before.before.before.before.before.before.requires in (
+    let l = c.loop-out.invariant in
+    let p = c.requires in (
       (l.0 ∙ p.0.0, l.6, l.7),
       (
         (
@@ -61,36 +61,32 @@ take-turn-requires c κs =
 
 tell-requires : tie.Need-tell-requires invariant-loop decreases-loop
 tell-requires c κs =
-    let t = c.before.before.before.before.before.before.before.before.before.before.before.before in
-    let l = t.before.before.before.before.before.before.loop.invariant in
-    let s = t.before.before.before.before.before.before.before.before.before.before.before.before.before.before.before in
-    let m = t.take-turn.ensures.0 l.8.seen l.8.reached in (
-      omega (arith, l.1, s.requires.0.1),
-      t.take-turn.ensures.1.0,
-      record { input = l.8.seen ++ m.part; run = m.ended c.before.if1.true },
+    let l = c.loop-out.invariant in
+    let m = c.take_turn-turn.ensures.0 l.8.seen l.8.reached in (
+      omega (arith, l.1, c.requires.0.1),
+      c.take_turn-turn.ensures.1.0,
+      record { input = l.8.seen ++ m.part; run = m.ended c.if-turn.true },
     )
 
-loop-less : tie.Need-loop-smaller invariant-loop decreases-loop
+loop-less : tie.Need-loop-out-smaller invariant-loop decreases-loop
 loop-less c =
-    let t = c.before.before.before.before.before.before.before.before.before.before.before.before in
-    let g = t.take-turn.ensures.1.1 c.before.if1.false in
-    let k = t.take-turn.ensures.1.0 g.0 in omega (arith, g.2, k.0)
+    let g = c.take_turn-turn.ensures.1.1 c.if-turn.false in
+    let k = c.take_turn-turn.ensures.1.0 g.0 in omega (arith, g.2, k.0)
 
-loop-again : tie.Need-loop-preserved invariant-loop decreases-loop
+loop-again : tie.Need-loop-out-preserved invariant-loop decreases-loop
 loop-again c =
-    let t = c.before.before.before.before.before.before.before.before.before.before.before.before in
-    let l = t.before.before.before.before.before.before.loop.invariant in
-    let e = c.before.if1.false in
-    let g = t.take-turn.ensures.1.1 e in
-    let m = t.take-turn.ensures.0 l.8.seen l.8.reached in (
-      c.before.before.before.before.before.before.before.before.before.before.before.buffer.given ∙ l.0,
+    let l = c.loop-out.invariant in
+    let e = c.if-turn.false in
+    let g = c.take_turn-turn.ensures.1.1 e in
+    let m = c.take_turn-turn.ensures.0 l.8.seen l.8.reached in (
+      c.buffer-1.given ∙ l.0,
       l.1,
-      c.before.before.before.before.before.before.before.before.before.breaks.given ∙ l.2,
-      c.before.before.before.before.before.before.before.coefficients.given ∙ l.3,
-      c.before.before.before.before.before.other_breaks.given ∙ l.4,
-      c.before.before.before.other_coefficients.given ∙ l.5,
+      c.breaks-1.given ∙ l.2,
+      c.coefficients-1.given ∙ l.3,
+      c.other_breaks-1.given ∙ l.4,
+      c.other_coefficients-1.given ∙ l.5,
       g.1,
-      t.take-turn.ensures.1.0 g.0,
+      c.take_turn-turn.ensures.1.0 g.0,
       record { seen = l.8.seen ++ m.part; reached = m.goes e },
     )
 
@@ -104,12 +100,12 @@ run_spec =
     loop-holds
     take-turn-requires
     tell-requires
-    (λ c. c.before.before.before.before.before.before.before.before.before.before.before.before.before.before.buffer.given ∙ c.before.before.before.before.before.before.before.before.before.before.before.before.before.before.before.before.before.before.before.before.before.loop.invariant.0)
-    (λ c. c.before.out.given ∙ c.before.before.before.before.before.before.before.before.before.before.before.before.before.before.before.before.before.before.before.before.before.loop.invariant.1)
-    (λ c. c.before.before.before.before.before.before.before.before.before.before.before.before.breaks.given ∙ c.before.before.before.before.before.before.before.before.before.before.before.before.before.before.before.before.before.before.before.before.before.loop.invariant.2)
-    (λ c. c.before.before.before.before.before.before.before.before.before.before.coefficients.given ∙ c.before.before.before.before.before.before.before.before.before.before.before.before.before.before.before.before.before.before.before.before.before.loop.invariant.3)
-    (λ c. c.before.before.before.before.before.before.before.before.other_breaks.given ∙ c.before.before.before.before.before.before.before.before.before.before.before.before.before.before.before.before.before.before.before.before.before.loop.invariant.4)
-    (λ c. c.before.before.before.before.before.before.other_coefficients.given ∙ c.before.before.before.before.before.before.before.before.before.before.before.before.before.before.before.before.before.before.before.before.before.loop.invariant.5)
+    (λ c. c.buffer-1.given ∙ c.loop-out.invariant.0)
+    (λ c. c.out-1.given ∙ c.loop-out.invariant.1)
+    (λ c. c.breaks-1.given ∙ c.loop-out.invariant.2)
+    (λ c. c.coefficients-1.given ∙ c.loop-out.invariant.3)
+    (λ c. c.other_breaks-1.given ∙ c.loop-out.invariant.4)
+    (λ c. c.other_coefficients-1.given ∙ c.loop-out.invariant.5)
     (λ c. tt)
     loop-less
     loop-again)

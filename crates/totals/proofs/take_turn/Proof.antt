@@ -24,26 +24,23 @@ behind b v rest filled count h g =
     ∙ ap (take (filled + count)) (sym (append_assoc (take filled b) (take count v) (drop count v ++ rest)))
     ∙ take_at (take filled b ++ take count v) (drop count v ++ rest) (filled + count) n)
 
-take-part-requires : tie.Need-take-part-requires
-take-part-requires c κs = let s = c.before.before.before.before.before.before.before.before.before.before.before.before.before.before.before in ((search rules, s.pre.0.2), s.pre.1)
+take-part-requires : tie.Need-take_part-requires
+take-part-requires c κs = ((search rules, c.requires.0.2), c.requires.1)
 
 returns : tie.Need-returns
 returns c =
-    let t = c.before.before.before.before.before.before.before.before.before.before in
-    let f = t.before.before.before.before.before.before.before.before in
-    let s = f.before.before.before.before.before.before.before.before in
-    let a = s.args in
-    let k = t.take_part.ensures.1 in
-    let end = a.filled + f.read-full.result in
-    let v = f.read-full.new.1.0 in
-    let part = take f.read-full.result v in (
+    let a = c.args in
+    let k = c.take_part.ensures.1 in
+    let end = a.filled + c.read_full-count.result in
+    let v = c.read_full-count.new.buf in
+    let part = take c.read_full-count.result v in (
       λ seen q.
           let r : Reached (seen ++ part) (take a.filled a.buffer.now ++ part) a.before =
           reached_more seen (take a.filled a.buffer.now) part a.before q in
-          let m = t.take_part.ensures.0 (seen ++ part)
+          let m = c.take_part.ensures.0 (seen ++ part)
           (subst (λ (l : List ℕ). Reached (seen ++ part) l a.before)
-          (behind a.buffer.now v _ a.filled f.read-full.result (omega (arith, s.requires.0.0, s.requires.0.1))
-          f.read-full.ensures.0) r) in
+          (behind a.buffer.now v _ a.filled c.read_full-count.result (omega (arith, c.requires.0.0, c.requires.0.1))
+          c.read_full-count.ensures.0) r) in
           record {
             part = part;
             ended = λ z. ap run_of (sym (append-nil (seen ++ part))) ∙ m.ended z [] (λ _. refl);
@@ -52,8 +49,8 @@ returns c =
       (k.kept, λ z. (k.stops z, k.few z, k.more z (omega (arith, ltb-false end 65536 (k.not_last z))))),
     )
 
-pub take-turn-spec : {M : Type 1} → statement M
-take-turn-spec =
+pub take_turn_spec : {M : Type 1} → statement M
+take_turn_spec =
     tie.close
     (tie.spec
     (λ c. search rules)

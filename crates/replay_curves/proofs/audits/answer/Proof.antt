@@ -5,9 +5,9 @@ use Rattle.listing.proofs.Lines.{told}
 use Rattle.replay_curves.proofs.audits.answer.Statement.{statement}
 use Rattle.replay_curves.proofs.audits.answer.Tie as tie
 
-audit-requires : tie.Need-audit-requires
+audit-requires : tie.Need-audit-r-requires
 audit-requires c κs =
-    let p = c.before.before.before.before.before.before.before.before.before.layout.ensures.0 in (
+    let p = c.layout-p.ensures.0 in (
       record {
         few = p.few;
         some = p.some;
@@ -23,8 +23,8 @@ audit-requires c κs =
       omega arith,
     )
 
-pub answer-spec : {M : Type 1} → statement M
-answer-spec =
+pub answer_spec : {M : Type 1} → statement M
+answer_spec =
     tie.close
     (tie.spec
     (λ c κs. omega arith)
@@ -48,4 +48,4 @@ answer-spec =
     (λ c κs. search rules)
     (λ c. search rules)
     (λ c. search rules)
-    (λ c. told c.before.before.line.ensures))
+    (λ c. told c.line.ensures))

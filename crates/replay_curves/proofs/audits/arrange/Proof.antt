@@ -5,11 +5,11 @@ use lib.ListN.{length-take}
 use Rattle.replay_curves.proofs.audits.arrange.Statement.{statement}
 use Rattle.replay_curves.proofs.audits.arrange.Tie as tie
 
-slice-aggregate-copy : tie.Need-slice-aggregate-copy
+slice-aggregate-copy : tie.Need-slice_bounds-copy-end-3
 slice-aggregate-copy c = simp length-take (omega arith)
 
-pub arrange-spec : {M : Type 1} → statement M
-arrange-spec =
+pub arrange_spec : {M : Type 1} → statement M
+arrange_spec =
     tie.close
     (tie.spec
     (λ c. search rules)

@@ -21,25 +21,25 @@ small c =
       curve = product c.args.m c.args.d (omega arith) (omega arith);
     }
 
-mul-bounds : tie.Need-overflow-mul-bounds
+mul-bounds : tie.Need-overflow_mul-bounds
 mul-bounds c = let h = small c in omega arith
 
-add-bounds : tie.Need-overflow-add-bounds
+add-bounds : tie.Need-overflow_add-bounds
 add-bounds c = let h = small c in omega arith
 
-mul-witness : tie.Need-overflow-mul-witness
+mul-witness : tie.Need-overflow_mul-witness
 mul-witness c = let h = small c in omega arith
 
-add-witness : tie.Need-overflow-add-witness
+add-witness : tie.Need-overflow_add-witness
 add-witness c = let h = small c in omega arith
 
-add-breaks : tie.Need-overflow-add-breaks
+add-breaks : tie.Need-overflow_add-breaks
 add-breaks c = let h = small c in omega arith
 
-add-t8 : tie.Need-overflow-add-t8
+add-t8 : tie.Need-overflow_add-result
 add-t8 c = let h = small c in omega arith
 
-add-t7 : tie.Need-overflow-add-t7
+add-t7 : tie.Need-overflow_add-result-2
 add-t7 c = let h = small c in omega arith
 
 returns : tie.Need-returns
@@ -63,8 +63,8 @@ returns c =
       omega arith,
     )
 
-pub layout-spec : {M : Type 1} → statement M
-layout-spec =
+pub layout_spec : {M : Type 1} → statement M
+layout_spec =
     tie.close
     (tie.spec
     mul-bounds

@@ -5,16 +5,16 @@ use Rattle.listing.proofs.Lines.{told}
 use Rattle.replay_curves.proofs.queries.evaluate.Statement.{statement}
 use Rattle.replay_curves.proofs.queries.evaluate.Tie as tie
 
-same_length : tie.Need-same-length
+same_length : tie.Need-shape_of-out
 same_length c = omega (
   arith,
-  c.before.before.end.auto,
-  c.before.before.before.before.before.before.queries.auto,
-  c.before.before.before.before.before.before.before.before.before.before.before.before.before.before.before.text.auto,
+  c.end.auto,
+  c.queries-next.auto,
+  c.text-next.auto,
 )
 
-pub evaluate-spec : {M : Type 1} → statement M
-evaluate-spec =
+pub evaluate_spec : {M : Type 1} → statement M
+evaluate_spec =
     tie.close
     (tie.spec
     (λ c. search rules)
@@ -28,7 +28,6 @@ evaluate-spec =
     (λ c κs. search rules)
     (λ c. search rules)
     (λ c κs. search rules)
-    (λ c. search rules)
     (λ c. search rules)
     (λ c. search rules)
     (λ c κs. search rules)
@@ -55,4 +54,4 @@ evaluate-spec =
     (λ c κs. search rules)
     (λ c κs. search rules)
     same_length
-    (λ c. told c.before.before.end.ensures.1))
+    (λ c. told c.end.ensures.1))

@@ -6,7 +6,7 @@ use Rattle.listing.proofs.Lines.{told}
 use Rattle.replay_leaves.proofs.cases.clear.Statement.{statement}
 use Rattle.replay_leaves.proofs.cases.clear.Tie as tie
 
-slice-aggregate-clear : tie.Need-slice-aggregate-clear
+slice-aggregate-clear : tie.Need-slice_bounds-clear-end-2
 slice-aggregate-clear c = simp length-take (omega arith)
 
 pub clear_spec : {M : Type 1} → statement M
@@ -19,10 +19,9 @@ clear_spec =
     (λ c. search rules)
     slice-aggregate-clear
     (λ c κs. search rules)
-    (λ c. search rules)
     (λ c κs. search rules)
     (λ c κs. search rules)
     (λ c κs. search rules)
     (λ c. search rules)
     (λ c. search rules)
-    (λ c. told c.before.before.end.ensures.1))
+    (λ c. told c.end.ensures.1))

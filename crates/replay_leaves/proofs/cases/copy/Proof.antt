@@ -6,7 +6,7 @@ use Rattle.listing.proofs.Lines.{told}
 use Rattle.replay_leaves.proofs.cases.copy.Statement.{statement}
 use Rattle.replay_leaves.proofs.cases.copy.Tie as tie
 
-slice-aggregate-copy : tie.Need-slice-aggregate-copy
+slice-aggregate-copy : tie.Need-slice_bounds-copy-end
 slice-aggregate-copy c = simp length-take (omega arith)
 
 pub copy_spec : {M : Type 1} → statement M
@@ -26,10 +26,9 @@ copy_spec =
     (λ c. search rules)
     (λ c. search rules)
     (λ c κs. search rules)
-    (λ c. search rules)
     (λ c κs. search rules)
     (λ c κs. search rules)
     (λ c κs. search rules)
     (λ c. search rules)
     (λ c. search rules)
-    (λ c. told c.before.before.end.ensures.1))
+    (λ c. told c.end.ensures.1))

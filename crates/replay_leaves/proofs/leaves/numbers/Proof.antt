@@ -6,14 +6,14 @@ use lib.ListN.{length}
 use Rattle.replay_leaves.proofs.leaves.numbers.Statement.{statement}
 use Rattle.replay_leaves.proofs.leaves.numbers.Tie as tie
 
-abbrev invariant-loop : tie.invariant-loop
+abbrev invariant-loop : tie.invariant-loop-i
 invariant-loop kind cells out₀ at next₀ i₀ out next i = length out ≡ length out₀
 
-abbrev decreases-loop : tie.decreases-loop
+abbrev decreases-loop : tie.decreases-loop-i
 decreases-loop kind cells out₀ at next₀ i₀ out next i = length cells - i
 
-pub numbers-spec : {M : Type 1} → statement M
-numbers-spec =
+pub numbers_spec : {M : Type 1} → statement M
+numbers_spec =
     tie.close
     (tie.spec
     invariant-loop
@@ -29,4 +29,4 @@ numbers-spec =
     (λ c. omega arith)
     (λ c κs. omega arith)
     (λ c. omega arith)
-    (λ c. c.before.before.end.ensures.1))
+    (λ c. c.end.ensures.1))

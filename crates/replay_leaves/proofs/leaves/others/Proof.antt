@@ -8,14 +8,14 @@ use Rattle.listing.proofs.Lines.{told}
 use Rattle.replay_leaves.proofs.leaves.others.Statement.{statement}
 use Rattle.replay_leaves.proofs.leaves.others.Tie as tie
 
-abbrev invariant-loop : tie.invariant-loop
+abbrev invariant-loop : tie.invariant-loop-i
 invariant-loop cells out₀ at kind exponent next₀ i₀ out next i = length out ≡ length out₀
 
-abbrev decreases-loop : tie.decreases-loop
+abbrev decreases-loop : tie.decreases-loop-i
 decreases-loop cells out₀ at kind exponent next₀ i₀ out next i = length cells - i
 
-pub others-spec : {M : Type 1} → statement M
-others-spec =
+pub others_spec : {M : Type 1} → statement M
+others_spec =
     tie.close
     (tie.spec
     invariant-loop
@@ -34,4 +34,4 @@ others-spec =
     (λ c. omega arith)
     (λ c κs. omega arith)
     (λ c. omega arith)
-    (λ c. told c.before.before.end.ensures.1))
+    (λ c. told c.end.ensures.1))

@@ -6,14 +6,14 @@ use lib.ListN.{length}
 use Rattle.replay_leaves.proofs.leaves.pairs.Statement.{statement}
 use Rattle.replay_leaves.proofs.leaves.pairs.Tie as tie
 
-abbrev invariant-loop : tie.invariant-loop
+abbrev invariant-loop : tie.invariant-loop-i
 invariant-loop kind cells out₀ at next₀ i₀ out next i = (1 ≤ i) × (length out ≡ length out₀)
 
-abbrev decreases-loop : tie.decreases-loop
+abbrev decreases-loop : tie.decreases-loop-i
 decreases-loop kind cells out₀ at next₀ i₀ out next i = length cells - i
 
-pub pairs-spec : {M : Type 1} → statement M
-pairs-spec =
+pub pairs_spec : {M : Type 1} → statement M
+pairs_spec =
     tie.close
     (tie.spec
     invariant-loop
@@ -31,4 +31,4 @@ pairs-spec =
     (λ c. omega arith)
     (λ c κs. omega arith)
     (λ c. omega arith)
-    (λ c. c.before.before.end.ensures.1))
+    (λ c. c.end.ensures.1))

@@ -7,41 +7,39 @@ use Rattle.replay_queries.proofs.calls.all.Statement.{statement}
 use Rattle.replay_queries.proofs.calls.all.Tie as tie
 
 -- the slices were lent twice, and are as long as before
-abbrev called : tie.After-slice-known16 → tie.After-evaluate-all
-called c = c.before.before.before.before.before.before.before.before.before.before.before.before.before.before.before.before.before.before.before.before.before.before.before.before.before.before.before
+abbrev called : tie.After-slice_known-16-1 → tie.After-evaluate_all-answers
+called c = c.before.before.before.before.before.before.before.before.before.before.before.before.before.before.before.before.before.before.before.before.before.before.before
 
-same_length : tie.Need-same-length
+same_length : tie.Need-shape_of-q
 same_length c = omega (
   arith,
-  (called c).evaluate-all.auto,
-  (called c).before.before.before.before.before.before.before.before.before.before.before.before.before.mark-all.auto,
+  (called c).evaluate_all-answers.auto,
+  (called c).mark_all.auto,
 )
 
-same-length-2 : tie.Need-same-length-2
+same-length-2 : tie.Need-shape_of-dq
 same-length-2 c = omega (
   arith,
-  (called c).evaluate-all.auto,
-  (called c).before.before.before.before.before.before.before.before.before.before.before.before.before.mark-all.auto,
+  (called c).evaluate_all-answers.auto,
+  (called c).mark_all.auto,
 )
 
-same-length-3 : tie.Need-same-length-3
+same-length-3 : tie.Need-shape_of-ddq
 same-length-3 c = omega (
   arith,
-  (called c).evaluate-all.auto,
-  (called c).before.before.before.before.before.before.before.before.before.before.before.before.before.mark-all.auto,
+  (called c).evaluate_all-answers.auto,
+  (called c).mark_all.auto,
 )
 
 returns : tie.Need-returns
 returns c =
     let v = called c in
-    let l = c.before.before.before.before.before.before.before.before.before.before in
-    let t = l.before.before.before.before.before.before in
-    all_told (evaluate_all_of _ _ _ _) _ _ v.before.before.before.before.before.before.before.before.before.before.before.before.before.mark-all.ensures _ _ _ _ _ v.evaluate-all.ensures _
-    t.before.before.number-of-all.ensures l.before.before.before.number-of-all2.ensures l.before.before.refused-at.ensures
-    t.refusal.ensures l.place.ensures c.before.before.cells.ensures
+    all_told (evaluate_all_of _ _ _ _) _ _ v.mark_all.ensures _ _ _ _ _ v.evaluate_all-answers.ensures _
+    c.number_of_all.ensures c.number_of_all-2.ensures c.refused_at.ensures
+    c.refusal-next.ensures c.place-next.ensures c.cells.ensures
 
-pub all-spec : {M : Type 1} → statement M
-all-spec =
+pub all_spec : {M : Type 1} → statement M
+all_spec =
     tie.close
     (tie.spec
     (λ c κs. search rules)

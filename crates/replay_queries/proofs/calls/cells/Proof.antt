@@ -6,14 +6,10 @@ use Rattle.replay_queries.proofs.calls.cells.Tie as tie
 
 returns : tie.Need-returns
 returns c =
-    let k = c.before.before in
-    let h = k.before.before.before.before in
-    let f = h.before.before.before.before in
-    let e = f.before.before.before.before in
-    four_slices _ _ _ _ _ _ _ _ e.cells.ensures f.cells2.ensures h.cells3.ensures k.cells4.ensures
+    four_slices _ _ _ _ _ _ _ _ c.cells-next.ensures c.cells-next-2.ensures c.cells-next-3.ensures c.cells.ensures
 
-pub cells-spec : {M : Type 1} → statement M
-cells-spec =
+pub cells_spec : {M : Type 1} → statement M
+cells_spec =
     tie.close
     (tie.spec
     (λ c κs. search rules)

@@ -11,22 +11,22 @@ use Rattle.window.proofs.Filling.{fill_more}
 use Rattle.replay_queries.proofs.calls.mark.Statement.{statement}
 use Rattle.replay_queries.proofs.calls.mark.Tie as tie
 
-abbrev invariant-loop : tie.invariant-loop
+abbrev invariant-loop : tie.invariant-loop-i
 invariant-loop s₀ i₀ s i = (i ≤ length s₀) × ((s ≡ marks i ++ drop i s₀) × (length s ≡ length s₀))
 
-abbrev decreases-loop : tie.decreases-loop
+abbrev decreases-loop : tie.decreases-loop-i
 decreases-loop s₀ i₀ s i = length s₀ - i
 
-loop-again : tie.Need-loop-preserved invariant-loop decreases-loop
+loop-again : tie.Need-loop-i-preserved invariant-loop decreases-loop
 loop-again c =
-    let l = c.before.loop in
-    let s₀ = c.before.before.args.s.now in
+    let l = c.loop-i in
+    let s₀ = c.args.s.now in
     (omega arith, (rw l.invariant.1.0 (fill_more _ s₀ l.i (omega arith)), simp length-set (search rules)))
 
 returns : tie.Need-returns invariant-loop decreases-loop
 returns c =
-    let l = c.before.loop in
-    let s₀ = c.before.before.args.s.now in
+    let l = c.loop-i in
+    let s₀ = c.args.s.now in
     let e : l.i ≡ length s₀ = omega arith in
     l.invariant.1.0 ∙ rw (e, drop-length) (append-nil _)
 

@@ -7,32 +7,31 @@ use Rattle.replay_queries.proofs.calls.single.Statement.{statement}
 use Rattle.replay_queries.proofs.calls.single.Tie as tie
 
 -- the slices were lent twice, and are as long as before
-abbrev called : tie.After-slice-known15 → tie.After-evaluate
-called c = c.before.before.before.before.before.before.before.before.before.before.before.before.before.before.before.before.before.before.before.before.before
+abbrev called : tie.After-slice_known-15-1 → tie.After-evaluate-answer
+called c = c.before.before.before.before.before.before.before.before.before.before.before.before.before.before.before.before.before
 
-same_length : tie.Need-same-length
+same_length : tie.Need-shape_of-q
 same_length c = omega (
   arith,
-  (called c).evaluate.auto,
-  (called c).before.before.before.before.before.before.before.before.before.before.before.before.before.mark-all.auto,
+  (called c).evaluate-answer.auto,
+  (called c).mark_all.auto,
 )
 
-same-length-2 : tie.Need-same-length-2
+same-length-2 : tie.Need-shape_of-dq
 same-length-2 c = omega (
   arith,
-  (called c).evaluate.auto,
-  (called c).before.before.before.before.before.before.before.before.before.before.before.before.before.mark-all.auto,
+  (called c).evaluate-answer.auto,
+  (called c).mark_all.auto,
 )
 
 returns : tie.Need-returns
 returns c =
     let v = called c in
-    let t = c.before.before.before.before.before.before.before.before.before.before in
-    single_told (evaluate_of _ _ _ _) _ _ v.before.before.before.before.before.before.before.before.before.before.before.before.before.mark-all.ensures _ _ _ _ _ v.evaluate.ensures t.before.before.number.ensures
-    t.refusal.ensures c.before.before.cells.ensures
+    single_told (evaluate_of _ _ _ _) _ _ v.mark_all.ensures _ _ _ _ _ v.evaluate-answer.ensures c.number.ensures
+    c.refusal-next.ensures c.cells.ensures
 
-pub single-spec : {M : Type 1} → statement M
-single-spec =
+pub single_spec : {M : Type 1} → statement M
+single_spec =
     tie.close
     (tie.spec
     (λ c κs. search rules)

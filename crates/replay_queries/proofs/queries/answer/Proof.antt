@@ -4,20 +4,20 @@ use Rattle.listing.proofs.Lines.{told}
 use Rattle.replay_queries.proofs.queries.answer.Statement.{statement}
 use Rattle.replay_queries.proofs.queries.answer.Tie as tie
 
-ask-requires : tie.Need-ask-requires
+ask-requires : tie.Need-ask-next-requires
 ask-requires c κs =
-    let l = c.before.before.before.before.before.before.before.before.before.before.before.before.before in (
-      l.before.before.before.before.before.before.before.before.counted-slices.ensures,
+    (
+      c.counted_slices-p.ensures,
       (
-        l.before.before.before.length-of.ensures,
-        l.before.before.length-of2.ensures,
-        l.before.length-of3.ensures,
-        l.length-of4.ensures,
+        c.length_of.ensures,
+        c.length_of-2.ensures,
+        c.length_of-3.ensures,
+        c.length_of-4.ensures,
       ),
     )
 
-pub answer-spec : {M : Type 1} → statement M
-answer-spec =
+pub answer_spec : {M : Type 1} → statement M
+answer_spec =
     tie.close
     (tie.spec
     (λ c κs. search rules)
@@ -48,4 +48,4 @@ answer-spec =
     (λ c. search rules)
     (λ c. search rules)
     (λ c. search rules)
-    (λ c. told c.before.before.end.ensures.1))
+    (λ c. told c.end.ensures.1))

@@ -14,7 +14,7 @@ use Rattle.replay_queries.proofs.Telling.{no_turns, turns_next, turns_end, same_
 use Rattle.replay_queries.proofs.turns.in_turn.Statement.{statement}
 use Rattle.replay_queries.proofs.turns.in_turn.Tie as tie
 
-abbrev invariant-loop : tie.invariant-loop
+abbrev invariant-loop : tie.invariant-loop-i
 invariant-loop curve breaks coefficients other_breaks other_coefficients xs orders q₀ dq₀ ddq₀ dddq₀ out₀ at kept₀ i₀ q dq ddq dddq out
     kept i =
     (i ≤ length xs)
@@ -24,38 +24,35 @@ invariant-loop curve breaks coefficients other_breaks other_coefficients xs orde
     × (length q ≡ length q₀) × (length dq ≡ length dq₀) × (length ddq ≡ length ddq₀) × (length dddq ≡ length dddq₀)
     × (length out ≡ length out₀)
 
-abbrev decreases-loop : tie.decreases-loop
+abbrev decreases-loop : tie.decreases-loop-i
 decreases-loop curve breaks coefficients other_breaks other_coefficients xs orders q₀ dq₀ ddq₀ dddq₀ out₀ at kept₀ i₀ q dq ddq dddq out kept
     i = length xs - i
 
-loop-holds : tie.Need-loop-init invariant-loop decreases-loop
+loop-holds : tie.Need-loop-i-init invariant-loop decreases-loop
 loop-holds c = (omega arith, no_turns _ _, refl, refl, refl, refl, refl)
 
-add-i : tie.Need-overflow-add-i invariant-loop decreases-loop
+add-i : tie.Need-overflow_add-i invariant-loop decreases-loop
 add-i c =
-    let t = c.before.before.before.before.before.before.before.before.before.before.before.before.before.before.before.before.before.before in
-    omega (arith, t.loop-test.true, t.before.before.before.before.before.before.before.before.before.before.before.before.well-formed)
+    omega (arith, c.loop-i-test.true, c.well_formed)
 
-loop-again : tie.Need-loop-preserved invariant-loop decreases-loop
+loop-again : tie.Need-loop-i-preserved invariant-loop decreases-loop
 loop-again c =
-    let n = c.before.before.before.before.before.before.before.before.before.before in
-    let l = n.before.before.before.before.before.before.before.before.before in
-    let v = l.loop.invariant in (
+    let v = c.loop-i.invariant in (
       omega (arith, v.0),
-      turns_next _ _ _ l.loop.i v.1
-          (same_asked (evaluate_of _ _ _) _ n.before.before.before.before.before.before.byte_of.ensures v.2 v.3 v.4 v.5 n.next.ensures),
-      omega (arith, n.next.auto, v.2),
-      omega (arith, n.next.auto, v.3),
-      omega (arith, n.next.auto, v.4),
-      omega (arith, n.next.auto, v.5),
-      omega (arith, n.next.auto, v.6),
+      turns_next _ _ _ c.loop-i.i v.1
+          (same_asked (evaluate_of _ _ _) _ c.byte_of.ensures v.2 v.3 v.4 v.5 c.next-kept.ensures),
+      omega (arith, c.next-kept.auto, v.2),
+      omega (arith, c.next-kept.auto, v.3),
+      omega (arith, c.next-kept.auto, v.4),
+      omega (arith, c.next-kept.auto, v.5),
+      omega (arith, c.next-kept.auto, v.6),
     )
 
 returns : tie.Need-returns invariant-loop decreases-loop
-returns c = turns_end _ _ (omega (arith, c.before.loop.invariant.0)) c.before.loop.invariant.1
+returns c = turns_end _ _ (omega (arith, c.loop-i.invariant.0)) c.loop-i.invariant.1
 
-pub in-turn-spec : {M : Type 1} → statement M
-in-turn-spec =
+pub in_turn_spec : {M : Type 1} → statement M
+in_turn_spec =
     tie.close
     (tie.spec
     invariant-loop
@@ -68,9 +65,9 @@ in-turn-spec =
     add-i
     (λ c. omega arith)
     loop-again
-    (λ c. omega (arith, c.before.loop.invariant.2))
-    (λ c. omega (arith, c.before.loop.invariant.3))
-    (λ c. omega (arith, c.before.loop.invariant.4))
-    (λ c. omega (arith, c.before.loop.invariant.5))
-    (λ c. omega (arith, c.before.loop.invariant.6))
+    (λ c. omega (arith, c.loop-i.invariant.2))
+    (λ c. omega (arith, c.loop-i.invariant.3))
+    (λ c. omega (arith, c.loop-i.invariant.4))
+    (λ c. omega (arith, c.loop-i.invariant.5))
+    (λ c. omega (arith, c.loop-i.invariant.6))
     returns)

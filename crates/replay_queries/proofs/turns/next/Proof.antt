@@ -7,32 +7,31 @@ use Rattle.replay_queries.proofs.turns.next.Statement.{statement}
 use Rattle.replay_queries.proofs.turns.next.Tie as tie
 
 -- the slices were lent twice, and are as long as before
-abbrev called : tie.After-slice-known15 → tie.After-ask-from
-called c = c.before.before.before.before.before.before.before.before.before.before.before.before.before.before.before.before.before.before.before.before.before
+abbrev called : tie.After-slice_known-15-1 → tie.After-ask_from-found
+called c = c.before.before.before.before.before.before.before.before.before.before.before.before.before.before.before.before.before
 
-abbrev marked : tie.After-slice-known15 → tie.After-mark-all
+abbrev marked : tie.After-slice_known-15-1 → tie.After-mark_all
 marked c = (called c).before.before.before.before.before.before.before.before.before.before.before.before.before
 
-same_length : tie.Need-same-length
-same_length c = omega (arith, (called c).ask-from.auto, (marked c).mark-all.auto)
+same_length : tie.Need-shape_of-q
+same_length c = omega (arith, (called c).ask_from-found.auto, (marked c).mark_all.auto)
 
-same-length-2 : tie.Need-same-length-2
-same-length-2 c = omega (arith, (called c).ask-from.auto, (marked c).mark-all.auto)
+same-length-2 : tie.Need-shape_of-dq
+same-length-2 c = omega (arith, (called c).ask_from-found.auto, (marked c).mark_all.auto)
 
-same-length-3 : tie.Need-same-length-3
-same-length-3 c = omega (arith, (called c).ask-from.auto, (marked c).mark-all.auto)
+same-length-3 : tie.Need-shape_of-ddq
+same-length-3 c = omega (arith, (called c).ask_from-found.auto, (marked c).mark_all.auto)
 
-same-length-4 : tie.Need-same-length-4
-same-length-4 c = omega (arith, (called c).ask-from.auto, (marked c).mark-all.auto)
+same-length-4 : tie.Need-shape_of-dddq
+same-length-4 c = omega (arith, (called c).ask_from-found.auto, (marked c).mark_all.auto)
 
 returns : tie.Need-returns
 returns c =
-    let t = c.before.before.before.before.before.before.before.before.before.before in
-    single_told (evaluate_of _ _ _ _) _ _ (marked c).mark-all.ensures _ _ _ _ _ (called c).ask-from.ensures.0
-    t.before.before.number.ensures t.refusal.ensures c.before.before.cells.ensures
+    single_told (evaluate_of _ _ _ _) _ _ (marked c).mark_all.ensures _ _ _ _ _ (called c).ask_from-found.ensures.0
+    c.number.ensures c.refusal-at.ensures c.cells.ensures
 
-pub next-spec : {M : Type 1} → statement M
-next-spec =
+pub next_spec : {M : Type 1} → statement M
+next_spec =
     tie.close
     (tie.spec
     (λ c κs. search rules)

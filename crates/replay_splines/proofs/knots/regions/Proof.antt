@@ -6,11 +6,11 @@ use Rattle.listing.proofs.Lines.{told}
 use Rattle.replay_splines.proofs.knots.regions.Statement.{statement}
 use Rattle.replay_splines.proofs.knots.regions.Tie as tie
 
-slice-aggregate-t : tie.Need-slice-aggregate-t
+slice-aggregate-t : tie.Need-slice_bounds-t-end
 slice-aggregate-t c = simp length-take (omega arith)
 
-pub regions-spec : {M : Type 1} → statement M
-regions-spec =
+pub regions_spec : {M : Type 1} → statement M
+regions_spec =
     tie.close
     (tie.spec
     (λ c. search rules)
@@ -27,11 +27,10 @@ regions-spec =
     (λ c. search rules)
     (λ c. search rules)
     (λ c. search rules)
-    (λ c. search rules)
     (λ c κs. search rules)
     (λ c κs. search rules)
     (λ c κs. search rules)
     (λ c κs. search rules)
     (λ c κs. search rules)
     (λ c. search rules)
-    (λ c. told c.before.before.end.ensures.1))
+    (λ c. told c.end.ensures.1))

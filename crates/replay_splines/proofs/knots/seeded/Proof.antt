@@ -4,8 +4,8 @@ use Rattle.listing.proofs.Lines.{told}
 use Rattle.replay_splines.proofs.knots.seeded.Statement.{statement}
 use Rattle.replay_splines.proofs.knots.seeded.Tie as tie
 
-pub seeded-spec : {M : Type 1} → statement M
-seeded-spec =
+pub seeded_spec : {M : Type 1} → statement M
+seeded_spec =
     tie.close
     (tie.spec
     (λ c. search rules)
@@ -24,7 +24,6 @@ seeded-spec =
     (λ c. search rules)
     (λ c κs. search rules)
     (λ c κs. search rules)
-    (λ c. search rules)
     (λ c κs. search rules)
     (λ c κs. search rules)
     (λ c. search rules)
@@ -35,4 +34,4 @@ seeded-spec =
     (λ c κs. search rules)
     (λ c. search rules)
     (λ c. search rules)
-    (λ c. told c.before.before.end.ensures.1))
+    (λ c. told c.end.ensures.1))

@@ -6,11 +6,11 @@ use Rattle.listing.proofs.Lines.{told}
 use Rattle.replay_splines.proofs.splines.basis.Statement.{statement}
 use Rattle.replay_splines.proofs.splines.basis.Tie as tie
 
-slice-aggregate-t : tie.Need-slice-aggregate-t
+slice-aggregate-t : tie.Need-slice_bounds-t-end
 slice-aggregate-t c = simp length-take (omega arith)
 
-pub basis-spec : {M : Type 1} → statement M
-basis-spec =
+pub basis_spec : {M : Type 1} → statement M
+basis_spec =
     tie.close
     (tie.spec
     (λ c. search rules)
@@ -31,9 +31,8 @@ basis-spec =
     (λ c κs. search rules)
     (λ c. search rules)
     (λ c. search rules)
-    (λ c. search rules)
     (λ c κs. search rules)
     (λ c κs. search rules)
     (λ c κs. search rules)
     (λ c. search rules)
-    (λ c. told c.before.before.end.ensures.1))
+    (λ c. told c.end.ensures.1))

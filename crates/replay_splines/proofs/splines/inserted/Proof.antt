@@ -4,8 +4,8 @@ use Rattle.listing.proofs.Lines.{told}
 use Rattle.replay_splines.proofs.splines.inserted.Statement.{statement}
 use Rattle.replay_splines.proofs.splines.inserted.Tie as tie
 
-pub inserted-spec : {M : Type 1} → statement M
-inserted-spec =
+pub inserted_spec : {M : Type 1} → statement M
+inserted_spec =
     tie.close
     (tie.spec
     (λ c κs. search rules)
@@ -21,10 +21,9 @@ inserted-spec =
     (λ c κs. search rules)
     (λ c. search rules)
     (λ c κs. search rules)
-    (λ c. search rules)
     (λ c κs. search rules)
     (λ c κs. search rules)
     (λ c κs. search rules)
     (λ c. search rules)
     (λ c. search rules)
-    (λ c. told c.before.before.end.ensures.1))
+    (λ c. told c.end.ensures.1))

@@ -4,8 +4,8 @@ use Rattle.listing.proofs.Lines.{told}
 use Rattle.replay_splines.proofs.splines.point.Statement.{statement}
 use Rattle.replay_splines.proofs.splines.point.Tie as tie
 
-pub point-spec : {M : Type 1} → statement M
-point-spec =
+pub point_spec : {M : Type 1} → statement M
+point_spec =
     tie.close
     (tie.spec
     (λ c. search rules)
@@ -19,19 +19,17 @@ point-spec =
     (λ c. search rules)
     (λ c. search rules)
     (λ c κs. search rules)
-    (λ c. search rules)
     (λ c κs. search rules)
     (λ c κs. search rules)
     (λ c κs. search rules)
     (λ c. search rules)
-    (λ c. told c.before.before.end.ensures.1)
+    (λ c. told c.end.ensures.1)
     (λ c. search rules)
     (λ c. search rules)
     (λ c. search rules)
     (λ c κs. search rules)
-    (λ c. search rules)
     (λ c κs. search rules)
     (λ c κs. search rules)
     (λ c κs. search rules)
     (λ c. search rules)
-    (λ c. told c.before.before.end2.ensures.1))
+    (λ c. told c.end-2.ensures.1))

@@ -4,8 +4,8 @@ use Rattle.listing.proofs.Lines.{told}
 use Rattle.replay_splines.proofs.splines.powers.Statement.{statement}
 use Rattle.replay_splines.proofs.splines.powers.Tie as tie
 
-pub powers-spec : {M : Type 1} → statement M
-powers-spec =
+pub powers_spec : {M : Type 1} → statement M
+powers_spec =
     tie.close
     (tie.spec
     (λ c κs. search rules)
@@ -16,9 +16,8 @@ powers-spec =
     (λ c κs. search rules)
     (λ c. search rules)
     (λ c κs. search rules)
-    (λ c. search rules)
     (λ c κs. search rules)
     (λ c κs. search rules)
     (λ c κs. search rules)
     (λ c. search rules)
-    (λ c. told c.before.before.end.ensures.1))
+    (λ c. told c.end.ensures.1))

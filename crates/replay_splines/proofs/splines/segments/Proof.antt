@@ -4,8 +4,8 @@ use Rattle.listing.proofs.Lines.{told}
 use Rattle.replay_splines.proofs.splines.segments.Statement.{statement}
 use Rattle.replay_splines.proofs.splines.segments.Tie as tie
 
-pub segments-spec : {M : Type 1} → statement M
-segments-spec =
+pub segments_spec : {M : Type 1} → statement M
+segments_spec =
     tie.close
     (tie.spec
     (λ c κs. search rules)
@@ -29,7 +29,6 @@ segments-spec =
     (λ c κs. search rules)
     (λ c. search rules)
     (λ c. search rules)
-    (λ c. search rules)
     (λ c κs. search rules)
     (λ c κs. search rules)
     (λ c. search rules)
@@ -47,4 +46,4 @@ segments-spec =
     (λ c κs. search rules)
     (λ c. search rules)
     (λ c. search rules)
-    (λ c. told c.before.before.end.ensures.1))
+    (λ c. told c.end.ensures.1))

@@ -4,8 +4,8 @@ use Rattle.listing.proofs.Lines.{told}
 use Rattle.replay_splines.proofs.splines.values.Statement.{statement}
 use Rattle.replay_splines.proofs.splines.values.Tie as tie
 
-pub values-spec : {M : Type 1} → statement M
-values-spec =
+pub values_spec : {M : Type 1} → statement M
+values_spec =
     tie.close
     (tie.spec
     (λ c κs. search rules)
@@ -16,10 +16,9 @@ values-spec =
     (λ c κs. search rules)
     (λ c. search rules)
     (λ c κs. search rules)
-    (λ c. search rules)
     (λ c κs. search rules)
     (λ c κs. search rules)
     (λ c κs. search rules)
     (λ c κs. search rules)
     (λ c. search rules)
-    (λ c. told c.before.before.end.ensures.1))
+    (λ c. told c.end.ensures.1))

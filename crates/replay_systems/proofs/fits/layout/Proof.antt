@@ -21,19 +21,19 @@ small c =
       right = product (c.args.z - c.args.a) c.args.d (omega arith) (omega arith);
     }
 
-mul-parameters : tie.Need-overflow-mul-parameters
+mul-parameters : tie.Need-overflow_mul-parameters
 mul-parameters c = let h = small c in omega arith
 
-add-parameters : tie.Need-overflow-add-parameters
+add-parameters : tie.Need-overflow_add-parameters
 add-parameters c = let h = small c in omega arith
 
-add-points : tie.Need-overflow-add-points
+add-points : tie.Need-overflow_add-points
 add-points c = let h = small c in omega arith
 
-mul-t9 : tie.Need-overflow-mul-t9
+mul-t9 : tie.Need-overflow_mul-result
 mul-t9 c = let h = small c in omega arith
 
-add-t10 : tie.Need-overflow-add-t10
+add-t10 : tie.Need-overflow_add-result
 add-t10 c = let h = small c in omega arith
 
 returns : tie.Need-returns
@@ -61,7 +61,7 @@ returns c =
       omega arith,
     )
 
-pub layout-spec : {M : Type 1} → statement M
-layout-spec =
+pub layout_spec : {M : Type 1} → statement M
+layout_spec =
     tie.close
     (tie.spec (λ c. search rules) mul-parameters add-parameters add-points mul-t9 add-t10 returns)

@@ -10,21 +10,21 @@ use Rattle.normal.specs.declared.Row.{Row}
 use Rattle.replay_systems.proofs.systems.add_row.Statement.{statement}
 use Rattle.replay_systems.proofs.systems.add_row.Tie as tie
 
-fitting-row-requires : tie.Need-fitting-row-requires
+fitting-row-requires : tie.Need-fitting_row-row-requires
 fitting-row-requires c κs =
-    let a = c.before.before.before.before.before.before.before.before.before.before.before.before.before.args in
-    let start = c.before.before.before.before.before.before.before.before.before.index_of.result in
+    let a = c.args in
+    let start = c.index_of-start.result in
     let h = rows_le (start + 6) a.w.controls a.w.d (a.w.controls * a.w.d) (omega arith) (omega arith) in
     simp (length-take, length-drop) (omega arith)
 
 add-requires : tie.Need-add-requires
 unfolding row_of
 add-requires c κs =
-    let start = ap (λ (r : Row). r.start) c.before.fitting-row.ensures in
+    let start = ap (λ (r : Row). r.start) c.fitting_row-row.ensures in
     omega arith
 
-pub add-row-spec : {M : Type 1} → statement M
-add-row-spec =
+pub add_row_spec : {M : Type 1} → statement M
+add_row_spec =
     tie.close
     (tie.spec
     (λ c. search rules)

@@ -10,38 +10,38 @@ use Rattle.replay_systems.proofs.systems.checked.Tie as tie
 few : (n d : ℕ) → n ≤ 65536 → d ≤ 24 → n * d ≤ 1572864
 few n d h g = omega (arith, mul-le-mul_right d h)
 
-mul-if6 : tie.Need-overflow-mul-if6
+mul-if6 : tie.Need-overflow_mul-controls
 mul-if6 c =
-    let a = c.before.before.before.before.before.before.before.before.args in
+    let a = c.args in
     omega (arith, few a.controls a.d (omega arith) (omega arith), few a.rows (8 + a.d) (omega arith) (omega arith))
 
-mul-if6-2 : tie.Need-overflow-mul-if6-2
+mul-if6-2 : tie.Need-overflow_mul-rows
 mul-if6-2 c =
-    let a = c.before.before.before.before.before.before.before.before.args in
+    let a = c.args in
     omega (arith, few a.controls a.d (omega arith) (omega arith), few a.rows (8 + a.d) (omega arith) (omega arith))
 
-add-if6-2 : tie.Need-overflow-add-if6-2
+add-if6-2 : tie.Need-overflow_add-controls
 add-if6-2 c =
-    let a = c.before.before.before.before.before.before.before.before.args in
+    let a = c.args in
     omega (arith, few a.controls a.d (omega arith) (omega arith), few a.rows (8 + a.d) (omega arith) (omega arith))
 
-mul-if7-2 : tie.Need-overflow-mul-if7-2
+mul-if7-2 : tie.Need-overflow_mul-n-2
 mul-if7-2 c =
-    let a = c.before.before.before.before.before.before.before.before.before.args in
+    let a = c.args in
     omega (arith, few (a.z - a.a) a.d (omega arith) (omega arith))
 
-add-if7 : tie.Need-overflow-add-if7
+add-if7 : tie.Need-overflow_add-n
 add-if7 c =
-    let a = c.before.before.before.before.before.before.before.before.before.args in
+    let a = c.args in
     omega (arith, few (a.z - a.a) a.d (omega arith) (omega arith))
 
-add-if7-2 : tie.Need-overflow-add-if7-2
+add-if7-2 : tie.Need-overflow_add-n-2
 add-if7-2 c =
-    let a = c.before.before.before.before.before.before.before.before.before.args in
+    let a = c.args in
     omega (arith, few (a.z - a.a) a.d (omega arith) (omega arith))
 
-pub checked-spec : {M : Type 1} → statement M
-checked-spec =
+pub checked_spec : {M : Type 1} → statement M
+checked_spec =
     tie.close
     (tie.spec
     (λ c κs. search rules)

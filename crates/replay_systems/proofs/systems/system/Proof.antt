@@ -4,8 +4,8 @@ use Rattle.listing.proofs.Lines.{told}
 use Rattle.replay_systems.proofs.systems.system.Statement.{statement}
 use Rattle.replay_systems.proofs.systems.system.Tie as tie
 
-pub system-spec : {M : Type 1} → statement M
-system-spec =
+pub system_spec : {M : Type 1} → statement M
+system_spec =
     tie.close
     (tie.spec
     (λ c. search rules)
@@ -34,4 +34,4 @@ system-spec =
     (λ c κs. search rules)
     (λ c. search rules)
     (λ c. search rules)
-    (λ c. told c.before.before.line.ensures))
+    (λ c. told c.line.ensures))

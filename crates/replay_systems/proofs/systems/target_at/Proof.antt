@@ -4,14 +4,14 @@ use borrow.Author.Rules.{rules}
 use Rattle.replay_systems.proofs.systems.target_at.Statement.{statement}
 use Rattle.replay_systems.proofs.systems.target_at.Tie as tie
 
-abbrev invariant-loop : tie.invariant-loop
+abbrev invariant-loop : tie.invariant-loop-i
 invariant-loop cells from d values₀ i₀ values i = i ≤ d
 
-abbrev decreases-loop : tie.decreases-loop
+abbrev decreases-loop : tie.decreases-loop-i
 decreases-loop cells from d values₀ i₀ values i = d - i
 
-pub target-at-spec : {M : Type 1} → statement M
-target-at-spec =
+pub target_at_spec : {M : Type 1} → statement M
+target_at_spec =
     tie.close
     (tie.spec
     invariant-loop
