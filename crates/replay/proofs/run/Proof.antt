@@ -5,10 +5,10 @@ use lib.ListN.{length}
 use Rattle.replay.proofs.run.Statement.{statement}
 use Rattle.replay.proofs.run.Tie as tie
 
-abbrev invariant-loop : tie.invariant-loop
+abbrev invariant-loop : tie.invariant-loop-left
 invariant-loop bytes₀ cells₀ work₀ out₀ at₀ place₀ left₀ bytes cells work out at place left = (length bytes ≡ length bytes₀) × ((length cells ≡ length cells₀) × ((length work ≡ length work₀) × (length out ≡ length out₀)))
 
-abbrev decreases-loop : tie.decreases-loop
+abbrev decreases-loop : tie.decreases-loop-left
 decreases-loop bytes₀ cells₀ work₀ out₀ at₀ place₀ left₀ bytes cells work out at place left = left
 
 pub run_spec : {M : Type 1} → statement M

@@ -7,15 +7,15 @@ use Rattle.replay_lending.proofs.answer.Tie as tie
 
 lend-requires : tie.Need-lend-requires
 lend-requires c κs =
-    let f = c.before.before.before.before.before.before.before.before.before.before.before in (
-      f.before.before.before.before.before.before.asked.ensures,
-      f.before.before.parts-asked.ensures,
-      f.before.fit.ensures
-          (not-false _ f.if3.false),
+    (
+      c.asked-q.ensures,
+      c.parts_asked-p.ensures,
+      c.fit.ensures
+          (not-false _ c.if-not-fit.false-raw),
     )
 
-pub answer-spec : {M : Type 1} → statement M
-answer-spec =
+pub answer_spec : {M : Type 1} → statement M
+answer_spec =
     tie.close
     (tie.spec
     (λ c κs. search rules)
@@ -36,4 +36,4 @@ answer-spec =
     (λ c. search rules)
     (λ c. search rules)
     (λ c. search rules)
-    (λ c. told c.before.before.before.before.before.before.before.before.before.before.before.before.before.before.lend.ensures))
+    (λ c. told c.lend.ensures))

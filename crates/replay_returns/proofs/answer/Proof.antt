@@ -36,7 +36,6 @@ answer_spec =
     (λ c. search rules)
     (λ c. search rules)
     (λ c κs. search rules)
-    (λ c. search rules)
     (λ c κs. search rules)
     ask-requires
     (λ c κs. search rules)

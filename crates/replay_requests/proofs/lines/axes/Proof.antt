@@ -6,14 +6,14 @@ use lib.ListN.{length}
 use Rattle.replay_requests.proofs.lines.axes.Statement.{statement}
 use Rattle.replay_requests.proofs.lines.axes.Tie as tie
 
-abbrev invariant-loop : tie.invariant-loop
+abbrev invariant-loop : tie.invariant-loop-i
 invariant-loop list n out₀ at next₀ i₀ out next i = length out ≡ length out₀
 
-abbrev decreases-loop : tie.decreases-loop
+abbrev decreases-loop : tie.decreases-loop-i
 decreases-loop list n out₀ at next₀ i₀ out next i = n - i
 
-pub axes-spec : {M : Type 1} → statement M
-axes-spec =
+pub axes_spec : {M : Type 1} → statement M
+axes_spec =
     tie.close
     (tie.spec
     invariant-loop

@@ -4,14 +4,14 @@ use native.Mathlib.Omega.{arith}
 use Rattle.replay_requests.proofs.lines.is_zero.Statement.{statement}
 use Rattle.replay_requests.proofs.lines.is_zero.Tie as tie
 
-abbrev invariant-loop : tie.invariant-loop
+abbrev invariant-loop : tie.invariant-loop-i
 invariant-loop buffer from to i₀ i = i₀ ≤ i
 
-abbrev decreases-loop : tie.decreases-loop
+abbrev decreases-loop : tie.decreases-loop-i
 decreases-loop buffer from to i₀ i = to - i
 
-pub is-zero-spec : {M : Type 1} → statement M
-is-zero-spec =
+pub is_zero_spec : {M : Type 1} → statement M
+is_zero_spec =
     tie.close
     (tie.spec
     invariant-loop

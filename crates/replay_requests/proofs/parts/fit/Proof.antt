@@ -6,17 +6,17 @@ use borrow.Author.Tests.{leb-true, not-false}
 use Rattle.replay_requests.proofs.parts.fit.Statement.{statement}
 use Rattle.replay_requests.proofs.parts.fit.Tie as tie
 
-returns-6 : tie.Need-returns-6
+returns-6 : tie.Need-returns
 returns-6 c h = (
-  leb-true _ _ (sym c.before.before.before.before.before.before.before.before.before.before.holds.ensures
-      ∙ not-false _ c.before.before.before.before.before.before.before.before.before.if1.false),
-  leb-true _ _ (sym c.before.before.before.before.before.before.before.before.holds2.ensures
-      ∙ not-false _ c.before.before.before.before.before.before.before.if2.false),
-  leb-true _ _ (sym c.before.before.before.before.before.before.holds3.ensures
-      ∙ not-false _ c.before.before.before.before.before.if3.false),
-  leb-true _ _ (sym c.before.before.before.before.holds4.ensures ∙ not-false _ c.before.before.before.if4.false),
-  leb-true _ _ (sym c.before.before.holds5.ensures ∙ not-false _ c.before.if5.false),
-  leb-true _ _ (sym c.holds6.ensures ∙ h),
+  leb-true _ _ (sym c.holds.ensures
+      ∙ not-false _ c.if-not-holds.false-raw),
+  leb-true _ _ (sym c.holds-2.ensures
+      ∙ not-false _ c.if-not-holds-2.false-raw),
+  leb-true _ _ (sym c.holds-3.ensures
+      ∙ not-false _ c.if-not-holds-3.false-raw),
+  leb-true _ _ (sym c.holds-4.ensures ∙ not-false _ c.if-not-holds-4.false-raw),
+  leb-true _ _ (sym c.holds-5.ensures ∙ not-false _ c.if-not-holds-5.false-raw),
+  leb-true _ _ (sym c.holds-6.ensures ∙ h),
 )
 
 pub fit_spec : {M : Type 1} → statement M
