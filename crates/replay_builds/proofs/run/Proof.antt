@@ -5,7 +5,7 @@ use lib.ListN.{length}
 use Rattle.replay_builds.proofs.run.Statement.{statement}
 use Rattle.replay_builds.proofs.run.Tie as tie
 
-abbrev invariant-loop : tie.invariant-loop
+abbrev invariant-loop : tie.invariant-loop-left
 invariant-loop bytes₀ cells₀ work₀ breaks₀ coefficients₀ other-breaks₀ other-coefficients₀ errors₀ out₀ at₀ place₀ left₀ bytes cells work breaks
     coefficients other_breaks other_coefficients errors out at place left =
     (length bytes ≡ length bytes₀)
@@ -18,7 +18,7 @@ invariant-loop bytes₀ cells₀ work₀ breaks₀ coefficients₀ other-breaks�
     × (length errors ≡ length errors₀)
     × (length out ≡ length out₀)
 
-abbrev decreases-loop : tie.decreases-loop
+abbrev decreases-loop : tie.decreases-loop-left
 decreases-loop bytes₀ cells₀ work₀ breaks₀ coefficients₀ other-breaks₀ other-coefficients₀ errors₀ out₀ at₀ place₀ left₀ bytes cells work breaks
     coefficients other_breaks other_coefficients errors out at place left = left
 

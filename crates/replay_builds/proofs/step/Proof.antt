@@ -4,10 +4,10 @@ use borrow.Author.Rules.{rules}
 use Rattle.replay_builds.proofs.step.Statement.{statement}
 use Rattle.replay_builds.proofs.step.Tie as tie
 
-same_length : tie.Need-same-length
+same_length : tie.Need-shape_of-bytes-in-Case
 same_length c = omega (
   arith,
-  c.before.before.before.before.before.before.before.before.before.before.before.before.before.before.before.before.before.before.before.before.before.before.before.before.before.before.before.before.before.before.before.before.before.before.next-case.auto,
+  c.next_case-head.auto,
 )
 
 pub step_spec : {M : Type 1} → statement M

@@ -5,11 +5,10 @@ use Rattle.pamitoye.proofs.axis_heights.pamitoye_heights.Tie as tie
 
 returns : tie.Need-returns
 returns c =
-    let q = c.before.before in
-    let k = q.before.before.curve.ensures in
+    let k = c.curve.ensures in
     let e = c.number.ensures in
-    rw (← k, e) q.heights.ensures
+    rw (← k, e) c.heights.ensures
 
-pub pamitoye-heights-spec : {M : Type 1} → statement M
-pamitoye-heights-spec =
+pub pamitoye_heights_spec : {M : Type 1} → statement M
+pamitoye_heights_spec =
     tie.close (tie.spec (λ c κs. search rules) (λ c κs. search rules) (λ c κs. search rules) (λ c. search rules) returns)

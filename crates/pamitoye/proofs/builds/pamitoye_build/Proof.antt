@@ -32,12 +32,12 @@ old s =
     (outline a.k.now a.axes.now a.start.now a.end.now)
 
 abbrev limits : tie.Start → Limits
-limits s = record { refinements = s.args.max-refinements; segments = s.args.max-segments }
+limits s = record { refinements = s.args.max_refinements; segments = s.args.max_segments }
 
 abbrev asked : tie.Start → Axes → Tolerance → Spacing → Lane
 asked s axes tolerance spacing =
     let a = s.args in
-    lane_of a.d a.n axes a.axis-list.now tolerance a.tolerance-list.now spacing a.parameters.now a.points.now
+    lane_of a.d a.n axes a.axis_list.now tolerance a.tolerance_list.now spacing a.parameters.now a.points.now
 
 abbrev lane : tie.Start → Lane
 lane s =
@@ -48,36 +48,28 @@ answered s axes tolerance spacing = answer_to (asked s axes tolerance spacing) (
 
 returns : tie.Need-returns
 returns c =
-    let v = c.before.before.before.before.before in
-    let h = v.before.before.before in
-    let g = h.before.before.before.before.before.before.before.before.before.before.before.before.before in
-    let m = g.before.before.before.before.before.before.before in
-    let p = m.before in
-    let t = p.before in
-    let x = t.before in
-    let s = x.before.before.before.before.before.before.before.before.before.before.before in
-    let a = s.args in
-    let b = g.build in
-    let n = h.number in
-    let e : answered s x.axes-of.result t.tolerance-of.result p.spacing-of.result
-    ≡ answered s (chosen_axes a.all) (chosen_tolerance a.uniform a.tolerance) (chosen_spacing a.spacing) =
-    λ i. answered s (x.axes-of.ensures i) (t.tolerance-of.ensures i) (p.spacing-of.ensures i) in
+    let a = c.args in
+    let b = c.build-built in
+    let n = c.number-number in
+    let e : answered c.before.before.before.before.before.before.before.before.before.before.before.before.before.before.before.before.before.before.before.before.before.before.before.before.before.before.before.before.before.before.before.before.before.before.before.before.before.before.before.before.before.before.before c.axes_of.result c.tolerance_of.result c.spacing_of.result
+    ≡ answered c.before.before.before.before.before.before.before.before.before.before.before.before.before.before.before.before.before.before.before.before.before.before.before.before.before.before.before.before.before.before.before.before.before.before.before.before.before.before.before.before.before.before.before (chosen_axes a.all) (chosen_tolerance a.uniform a.tolerance) (chosen_spacing a.spacing) =
+    λ i. answered c.before.before.before.before.before.before.before.before.before.before.before.before.before.before.before.before.before.before.before.before.before.before.before.before.before.before.before.before.before.before.before.before.before.before.before.before.before.before.before.before.before.before.before (c.axes_of.ensures i) (c.tolerance_of.ensures i) (c.spacing_of.ensures i) in
     let number = n.ensures ∙ ap number_of b.ensures.0 ∙ ap (λ (z : Answer Result). number_of (reported z)) e in
-    let all = all_written m.Mode-of.result a.d _ (outcome_of b.result.answer) b.result.curve n.result b.ensures.0
+    let all = all_written c.mode_of.result a.d _ (outcome_of b.result.answer) b.result.curve n.result b.ensures.0
     b.ensures.1.0
-    n.ensures (old s) b.ensures.1.1.0 b.ensures.1.1.1 v.put-answer.ensures.0 v.put-answer.ensures.1
-    c.put-curve.ensures
-    ∙ (λ i. build_outputs_after (m.Mode-of.ensures i) a.d (e i) (old s)) in (
+    n.ensures (old c.before.before.before.before.before.before.before.before.before.before.before.before.before.before.before.before.before.before.before.before.before.before.before.before.before.before.before.before.before.before.before.before.before.before.before.before.before.before.before.before.before.before.before) b.ensures.1.1.0 b.ensures.1.1.1 c.put_answer.ensures.0 c.put_answer.ensures.1
+    c.put_curve.ensures
+    ∙ (λ i. build_outputs_after (c.mode_of.ensures i) a.d (e i) (old c.before.before.before.before.before.before.before.before.before.before.before.before.before.before.before.before.before.before.before.before.before.before.before.before.before.before.before.before.before.before.before.before.before.before.before.before.before.before.before.before.before.before.before)) in (
       number,
       (
         all,
-        formed_curve (lane s) (limits s) x.before.before.before.before.before.before.before.shared-slice-known4.given
-            a.clamp (lengths_of a.work.now (lent s)) (old s) number all,
+        formed_curve (lane c.before.before.before.before.before.before.before.before.before.before.before.before.before.before.before.before.before.before.before.before.before.before.before.before.before.before.before.before.before.before.before.before.before.before.before.before.before.before.before.before.before.before.before) (limits c.before.before.before.before.before.before.before.before.before.before.before.before.before.before.before.before.before.before.before.before.before.before.before.before.before.before.before.before.before.before.before.before.before.before.before.before.before.before.before.before.before.before.before) c.shared_slice_known-4-1.given
+            a.clamp (lengths_of a.work.now (lent c.before.before.before.before.before.before.before.before.before.before.before.before.before.before.before.before.before.before.before.before.before.before.before.before.before.before.before.before.before.before.before.before.before.before.before.before.before.before.before.before.before.before.before)) (old c.before.before.before.before.before.before.before.before.before.before.before.before.before.before.before.before.before.before.before.before.before.before.before.before.before.before.before.before.before.before.before.before.before.before.before.before.before.before.before.before.before.before.before) number all,
       ),
     )
 
-pub pamitoye-build-spec : {M : Type 1} → statement M
-pamitoye-build-spec =
+pub pamitoye_build_spec : {M : Type 1} → statement M
+pamitoye_build_spec =
     tie.close
     (tie.spec
     (λ c κs. search rules)

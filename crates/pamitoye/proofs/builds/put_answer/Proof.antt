@@ -8,26 +8,26 @@ use Rattle.pamitoye.proofs.Refusals.{untouched}
 use Rattle.pamitoye.proofs.builds.put_answer.Statement.{statement}
 use Rattle.pamitoye.proofs.builds.put_answer.Tie as tie
 
-returns : tie.Need-returns
+returns : tie.Need-returns-in-Accepted
 returns c =
-    let a = c.before.before.before.before.before.args in
-    let e = sym c.before.before.before.answer.given.1 in (
-      c.put-counts.ensures ∙ ap (λ (z : Answer). counts_after (outcome_of z) a.counts.now) e,
+    let a = c.args in
+    let e = sym c.in-Accepted.is in (
+      c.put_counts.ensures ∙ ap (λ (z : Answer). counts_after (outcome_of z) a.counts.now) e,
       ap (λ (z : Answer). ratio_after (outcome_of z) a.ratio.now) e,
     )
 
-returns-2 : tie.Need-returns-2
+returns-2 : tie.Need-returns-in-RefinementsUsedUp
 returns-2 c =
-    let a = c.before.before.before.args in
-    let e = sym c.before.answer2.given.1 in (
+    let a = c.args in
+    let e = sym c.in-RefinementsUsedUp.is in (
       ap (λ (z : Answer). counts_after (outcome_of z) a.counts.now) e,
       ap (λ (z : Answer). ratio_after (outcome_of z) a.ratio.now) e,
     )
 
-returns-3 : tie.Need-returns-3
+returns-3 : tie.Need-returns-in_default
 returns-3 c =
-    let a = c.before.args in untouched a.answer c.match.keys3 a.counts.now a.ratio.now
+    let a = c.args in untouched a.answer c.in_default.in_default-own.keys3 a.counts.now a.ratio.now
 
-pub put-answer-spec : {M : Type 1} → statement M
-put-answer-spec =
+pub put_answer_spec : {M : Type 1} → statement M
+put_answer_spec =
     tie.close (tie.spec (λ c. search rules) (λ c κs. search rules) (λ c. search rules) returns returns-2 returns-3)

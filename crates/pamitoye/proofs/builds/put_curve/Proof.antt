@@ -4,11 +4,11 @@ use borrow.Author.Tests.{ne_eqb}
 use Rattle.pamitoye.proofs.builds.put_curve.Statement.{statement}
 use Rattle.pamitoye.proofs.builds.put_curve.Tie as tie
 
-returns : tie.Need-returns
-returns c = rw c.before.if1.true refl
+returns : tie.Need-returns-then-number-eq0
+returns c = rw c.if-number-eq0.true refl
 
-returns-2 : tie.Need-returns-2
-returns-2 c = rw (ne_eqb c.before.args.number 0 c.if1.false) refl
+returns-2 : tie.Need-returns-else-number-eq0
+returns-2 c = rw (ne_eqb c.args.number 0 c.if-number-eq0.false) refl
 
-pub put-curve-spec : {M : Type 1} → statement M
-put-curve-spec = tie.close (tie.spec returns returns-2)
+pub put_curve_spec : {M : Type 1} → statement M
+put_curve_spec = tie.close (tie.spec returns returns-2)

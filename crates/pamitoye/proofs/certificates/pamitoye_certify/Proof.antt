@@ -9,17 +9,14 @@ use Rattle.pamitoye.proofs.certificates.pamitoye_certify.Tie as tie
 
 returns : tie.Need-returns
 returns c =
-    let f = c.put-figure.ensures in
-    let y = c.before.before.before in
-    let s = y.before in
-    let k = s.before in
-    let a = k.before.before.before.before.before.before.before.args in
-    let o = outcome_of y.certify.result in
-    let e = y.certify.ensures in
+    let f = c.put_figure.ensures in
+    let a = c.args in
+    let o = outcome_of c.certify-answer.result in
+    let e = c.certify-answer.ensures in
     let number = f.0 ∙ (λ i. (e.0 i).number) in
     let given = f.1.0 ∙ (λ i. given_after (sym f.0 i) (e.0 i).certified a.given.now) in
     let figure = f.1.1 ∙ (λ i. figure_after (e.0 i).certified a.figure.now) in
-    rw (← k.curve.ensures, ← s.spacing-of.ensures) (
+    rw (← c.curve.ensures, ← c.spacing_of.ensures) (
       number,
       (
         given,
@@ -31,7 +28,7 @@ returns c =
       ),
     )
 
-pub pamitoye-certify-spec : {M : Type 1} → statement M
-pamitoye-certify-spec =
+pub pamitoye_certify_spec : {M : Type 1} → statement M
+pamitoye_certify_spec =
     tie.close
     (tie.spec (λ c κs. search rules) (λ c κs. search rules) (λ c κs. search rules) (λ c κs. search rules) returns)

@@ -3,11 +3,11 @@ use mathlib.Core.Path.{refl}
 use Rattle.pamitoye.proofs.choices.tolerance_of.Statement.{statement}
 use Rattle.pamitoye.proofs.choices.tolerance_of.Tie as tie
 
-returns : tie.Need-returns
-returns c = rw c.if1.true refl
+returns : tie.Need-returns-then-uniform
+returns c = rw c.if-uniform.true refl
 
-returns-2 : tie.Need-returns-2
-returns-2 c = rw c.if1.false refl
+returns-2 : tie.Need-returns
+returns-2 c = rw c.if-uniform.false refl
 
-pub tolerance-of-spec : {M : Type 1} → statement M
-tolerance-of-spec = tie.close (tie.spec returns returns-2)
+pub tolerance_of_spec : {M : Type 1} → statement M
+tolerance_of_spec = tie.close (tie.spec returns returns-2)

@@ -4,7 +4,7 @@ use Rattle.pamitoye.proofs.curves.curve.Statement.{statement}
 use Rattle.pamitoye.proofs.curves.curve.Tie as tie
 
 returns : tie.Need-returns
-returns c = rw c.Mode-of.ensures
+returns c = rw c.mode_of-mode.ensures
 
-pub curve-spec : {M : Type 1} → statement M
-curve-spec = tie.close (tie.spec (λ c κs. search rules) returns)
+pub curve_spec : {M : Type 1} → statement M
+curve_spec = tie.close (tie.spec (λ c κs. search rules) returns)

@@ -6,16 +6,14 @@ use Rattle.pamitoye.proofs.lane_files.pamitoye_read_lane.Tie as tie
 
 returns : tie.Need-returns
 returns c =
-    let told = c.before.before.before.before.before.before.before.before.before in
-    let done = told.before.before.before.before.before.before.before.before.before in
-    let a = done.before.before.before.before.before.before.before.before.before.before.args in
-    let r = done.read in
-    let n = told.read_number.ensures in
-    let k = c.put-numbers.ensures in
+    let a = c.args in
+    let r = c.read-read in
+    let n = c.read_number-number.ensures in
+    let k = c.put_numbers.ensures in
     (told_read _ _ _ _ _ _ _ n k r.ensures.0, told_taken _ _ _ _ _ _ a.file.now n k r.ensures.1)
 
-pub pamitoye-read-lane-spec : {M : Type 1} → statement M
-pamitoye-read-lane-spec =
+pub pamitoye_read_lane_spec : {M : Type 1} → statement M
+pamitoye_read_lane_spec =
     tie.close
     (tie.spec
     (λ c κs. search rules)

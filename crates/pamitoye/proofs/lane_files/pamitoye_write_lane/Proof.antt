@@ -10,18 +10,18 @@ use Rattle.pamitoye.proofs.lane_files.pamitoye_write_lane.Tie as tie
 
 returns : tie.Need-returns
 returns c =
-    let a = c.before.before.before.before.before.before.before.before.before.before.before.before.before.args in
+    let a = c.args in
     let s = cells a.breaks.now a.coefficients.now a.other_breaks.now a.other_coefficients.now in
-    let w = c.before.before.before.before.before.write.ensures in
-    let e = c.before.before.before.before.before.before.curve.ensures in
-    let n = c.write-number.ensures in
-    let k = c.before.put_count.ensures in (
+    let w = c.write-answer.ensures in
+    let e = c.curve.ensures in
+    let n = c.write_number.ensures in
+    let k = c.put_count.ensures in (
       told_write _ _ _ _ a.count.now _ _ n k (w.0 ∙ ap (λ (d : Curve). write_of d s a.file.now) e),
       told_back _ _ _ _ a.count.now _ _ s _ n k e w.1,
     )
 
-pub pamitoye-write-lane-spec : {M : Type 1} → statement M
-pamitoye-write-lane-spec =
+pub pamitoye_write_lane_spec : {M : Type 1} → statement M
+pamitoye_write_lane_spec =
     tie.close
     (tie.spec
     (λ c κs. search rules)

@@ -7,16 +7,16 @@ use Rattle.pamitoye.specs.Choices.{chosen_mode}
 use Rattle.pamitoye.proofs.lane_files.put_numbers.Statement.{statement}
 use Rattle.pamitoye.proofs.lane_files.put_numbers.Tie as tie
 
-returns : tie.Need-returns
+returns : tie.Need-returns-then-number-eq0
 returns c =
-    let r = c.before.before.before.args.read in
+    let r = c.args.read in
     let told : ◌≡◌ {A = Curve} (record {
       d = r.d;
       k = r.k;
       axes = r.axes;
       start = r.start;
       end = r.end;
-      mode = chosen_mode c.is-clamp.result;
+      mode = chosen_mode c.is_clamp.result;
       segments = r.segments;
       other_segments = r.other_segments;
     }) r = λ i. record {
@@ -25,14 +25,14 @@ returns c =
       axes = r.axes;
       start = r.start;
       end = r.end;
-      mode = c.is-clamp.ensures i;
+      mode = c.is_clamp.ensures i;
       segments = r.segments;
       other_segments = r.other_segments;
     } in
-    rw c.before.before.if1.true told
+    rw c.if-number-eq0.true told
 
-returns-2 : tie.Need-returns-2
-returns-2 c = rw (ne_eqb c.before.args.number 0 c.if1.false) refl
+returns-2 : tie.Need-returns-else-number-eq0
+returns-2 c = rw (ne_eqb c.args.number 0 c.if-number-eq0.false) refl
 
-pub put-numbers-spec : {M : Type 1} → statement M
-put-numbers-spec = tie.close (tie.spec (λ c κs. search rules) returns returns-2)
+pub put_numbers_spec : {M : Type 1} → statement M
+put_numbers_spec = tie.close (tie.spec (λ c κs. search rules) returns returns-2)

@@ -5,9 +5,9 @@ use Rattle.pamitoye.proofs.orders.pamitoye_cutting_order.Tie as tie
 
 returns : tie.Need-returns
 returns c =
-    let o = c.before.before.before.cutting-order.ensures in
+    let o = c.cutting_order.ensures in
     let e = c.number.ensures in
     (rw e o.0, rw e o.1)
 
-pub pamitoye-cutting-order-spec : {M : Type 1} → statement M
-pamitoye-cutting-order-spec = tie.close (tie.spec (λ c κs. search rules) (λ c κs. search rules) (λ c. search rules) returns)
+pub pamitoye_cutting_order_spec : {M : Type 1} → statement M
+pamitoye_cutting_order_spec = tie.close (tie.spec (λ c κs. search rules) (λ c κs. search rules) (λ c. search rules) returns)

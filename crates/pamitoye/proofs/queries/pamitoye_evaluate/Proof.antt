@@ -7,13 +7,12 @@ use Rattle.pamitoye.proofs.queries.pamitoye_evaluate.Tie as tie
 
 returns : tie.Need-returns
 returns c =
-    let q = c.before.before.before.before.before.before.before.before.before in
-    let k = q.before.before.before.before.before.curve.ensures in
-    let e = q.evaluate.ensures in
+    let k = c.curve.ensures in
+    let e = c.evaluate-answered.ensures in
     rw (← k) (c.number.ensures ∙ ap (λ (o : Outcome). o.number) e, ap (λ (o : Outcome). o.after) e)
 
-pub pamitoye-evaluate-spec : {M : Type 1} → statement M
-pamitoye-evaluate-spec =
+pub pamitoye_evaluate_spec : {M : Type 1} → statement M
+pamitoye_evaluate_spec =
     tie.close
     (tie.spec
     (λ c κs. search rules)

@@ -6,28 +6,25 @@ use Rattle.pamitoye.specs.Queries.{place_after}
 use Rattle.pamitoye.proofs.queries.pamitoye_evaluate_all_formed.Statement.{statement}
 use Rattle.pamitoye.proofs.queries.pamitoye_evaluate_all_formed.Tie as tie
 
-evaluate-all-formed-requires : tie.Need-evaluate-all-formed-requires
+evaluate-all-formed-requires : tie.Need-evaluate_all_formed-answered-requires
 evaluate-all-formed-requires c κs =
-    let h = c.before.before.before.before in
-    rw h.curve.ensures h.before.before.before.before.before.before.before.before.before.before.requires
+    rw c.curve.ensures c.requires
 
 returns : tie.Need-returns
 returns c =
-    let q = c.before.before.before.before.before.before.before.before.before.before in
-    let h = q.before.before.before.before.before in
-    let a = h.before.before.before.before.before.before.before.before.before.before.args in
-    let e = q.evaluate-all-formed.ensures in
-    let p = c.put-place.ensures in
-    rw (← h.curve.ensures) (
+    let a = c.args in
+    let e = c.evaluate_all_formed-answered.ensures in
+    let p = c.put_place.ensures in
+    rw (← c.curve.ensures) (
       p.0 ∙ ap (λ (o : Outcome). o.number) e,
       (
         ap (λ (o : Outcome). o.after) e,
-        p.1 ∙ (λ i. place_after (sym p.0 i) (e i).place a.refused-at.now),
+        p.1 ∙ (λ i. place_after (sym p.0 i) (e i).place a.refused_at.now),
       ),
     )
 
-pub pamitoye-evaluate-all-formed-spec : {M : Type 1} → statement M
-pamitoye-evaluate-all-formed-spec =
+pub pamitoye_evaluate_all_formed_spec : {M : Type 1} → statement M
+pamitoye_evaluate_all_formed_spec =
     tie.close
     (tie.spec
     (λ c κs. search rules)

@@ -5,20 +5,18 @@ use Rattle.query.specs.Query.{Outcome}
 use Rattle.pamitoye.proofs.queries.pamitoye_evaluate_formed.Statement.{statement}
 use Rattle.pamitoye.proofs.queries.pamitoye_evaluate_formed.Tie as tie
 
-evaluate-formed-requires : tie.Need-evaluate-formed-requires
+evaluate-formed-requires : tie.Need-evaluate_formed-answered-requires
 evaluate-formed-requires c κs =
-    let h = c.before.before.before.before in
-    rw h.curve.ensures h.before.before.before.before.before.before.before.before.before.requires
+    rw c.curve.ensures c.requires
 
 returns : tie.Need-returns
 returns c =
-    let q = c.before.before.before.before.before.before.before.before.before in
-    let k = q.before.before.before.before.before.curve.ensures in
-    let e = q.evaluate-formed.ensures in
+    let k = c.curve.ensures in
+    let e = c.evaluate_formed-answered.ensures in
     rw (← k) (c.number.ensures ∙ ap (λ (o : Outcome). o.number) e, ap (λ (o : Outcome). o.after) e)
 
-pub pamitoye-evaluate-formed-spec : {M : Type 1} → statement M
-pamitoye-evaluate-formed-spec =
+pub pamitoye_evaluate_formed_spec : {M : Type 1} → statement M
+pamitoye_evaluate_formed_spec =
     tie.close
     (tie.spec
     (λ c κs. search rules)

@@ -7,16 +7,15 @@ use Rattle.pamitoye.proofs.returns.pamitoye_return_lane.Tie as tie
 
 returns : tie.Need-returns
 returns c =
-    let q = c.before.before.before.before.before.before.before.before.before in
-    let k = q.before.before.before.before.before.curve.ensures in
-    let e = q.return-lane.ensures.0 in
+    let k = c.curve.ensures in
+    let e = c.return_lane.ensures.0 in
     rw (← k) (
       c.number.ensures ∙ ap (λ (o : Outcome). o.number) e,
-      (ap (λ (o : Outcome). o.after) e, λ z. q.return-lane.ensures.1 (sym c.number.ensures ∙ z)),
+      (ap (λ (o : Outcome). o.after) e, λ z. c.return_lane.ensures.1 (sym c.number.ensures ∙ z)),
     )
 
-pub pamitoye-return-lane-spec : {M : Type 1} → statement M
-pamitoye-return-lane-spec =
+pub pamitoye_return_lane_spec : {M : Type 1} → statement M
+pamitoye_return_lane_spec =
     tie.close
     (tie.spec
     (λ c κs. search rules)

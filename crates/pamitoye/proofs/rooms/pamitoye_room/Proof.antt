@@ -9,22 +9,22 @@ use Rattle.pamitoye.proofs.EnoughRoom.{enough}
 use Rattle.pamitoye.proofs.rooms.pamitoye_room.Statement.{statement}
 use Rattle.pamitoye.proofs.rooms.pamitoye_room.Tie as tie
 
-returns : tie.Need-returns
-returns c = rw (lt-ltb _ _ c.if1.true) (refl, (refl, λ e. omega arith))
+returns : tie.Need-returns-then-d-gt16
+returns c = rw (lt-ltb _ _ c.if-d-gt16.true) (refl, (refl, λ e. omega arith))
 
-returns-2 : tie.Need-returns-2
-returns-2 c = rw (le-ltb _ _ c.before.if1.false, lt-ltb _ _ c.if2.true) (refl, (refl, λ e. omega arith))
+returns-2 : tie.Need-returns-then-n-gt20000
+returns-2 c = rw (le-ltb _ _ c.if-d-gt16.false, lt-ltb _ _ c.if-n-gt20000.true) (refl, (refl, λ e. omega arith))
 
-returns-3 : tie.Need-returns-3
+returns-3 : tie.Need-returns-then-max_segments-gt20000
 returns-3 c =
-    rw (le-ltb _ _ c.before.before.if1.false, le-ltb _ _ c.before.if2.false, lt-ltb _ _ c.if3.true)
+    rw (le-ltb _ _ c.if-d-gt16.false, le-ltb _ _ c.if-n-gt20000.false, lt-ltb _ _ c.if-max_segments-gt20000.true)
     (refl, (refl, λ e. omega arith))
 
 -- the products are small
-mul-t9 : tie.Need-overflow-mul-t9
+mul-t9 : tie.Need-overflow_mul-room-2
 mul-t9 c =
-    let k : 16 * c.before.before.before.before.args.d + 32 ≤ 288 = omega arith in
-    let e : c.larger.result + 16 ≤ 20016 = omega arith in
+    let k : 16 * c.args.d + 32 ≤ 288 = omega arith in
+    let e : c.larger-e.result + 16 ≤ 20016 = omega arith in
     let m = mul-le-mul e k in
     omega arith
 
@@ -32,26 +32,22 @@ rows-small : (m d : ℕ) → m ≤ 20000 → d ≤ 16 → m * (6 * d) ≤ 20000 
 rows-small m d h g =
     let k : 6 * d ≤ 96 = omega arith in mul-le-mul h k
 
-selected-small : (c : tie.After-larger) → let a = c.before.before.before.before.args in a.max-segments * (6 * a.d) ≤ 20000 * 96
+selected-small : (c : tie.After-larger-e) → let a = c.args in a.max_segments * (6 * a.d) ≤ 20000 * 96
 selected-small c =
-    let e = c.before in
-    let a = e.before.before.before.args in rows-small a.max-segments a.d e.if3.false e.before.before.if1.false
+    let a = c.args in rows-small a.max_segments a.d c.if-max_segments-gt20000.false c.if-d-gt16.false
 
-others_small : (c : tie.After-larger) → let a = c.before.before.before.before.args in a.n * (6 * a.d) ≤ 20000 * 96
+others_small : (c : tie.After-larger-e) → let a = c.args in a.n * (6 * a.d) ≤ 20000 * 96
 others_small c =
-    let e = c.before in
-    let a = e.before.before.before.args in rows-small a.n a.d e.before.if2.false e.before.before.if1.false
+    let a = c.args in rows-small a.n a.d c.if-n-gt20000.false c.if-d-gt16.false
 
-returns-4 : tie.Need-returns-4
+returns-4 : tie.Need-returns
 returns-4 c =
-    let l = c.before in
-    let e = l.before in
-    let a = e.before.before.before.args in
-    rw (l.larger.ensures, le-ltb _ _ e.before.before.if1.false, le-ltb _ _ e.before.if2.false, le-ltb _ _ e.if3.false)
-    (refl, (refl, λ z. enough a.d a.n a.max-segments))
+    let a = c.args in
+    rw (c.larger-e.ensures, le-ltb _ _ c.if-d-gt16.false, le-ltb _ _ c.if-n-gt20000.false, le-ltb _ _ c.if-max_segments-gt20000.false)
+    (refl, (refl, λ z. enough a.d a.n a.max_segments))
 
-pub pamitoye-room-spec : {M : Type 1} → statement M
-pamitoye-room-spec =
+pub pamitoye_room_spec : {M : Type 1} → statement M
+pamitoye_room_spec =
     tie.close
     (tie.spec
     returns
