@@ -131,6 +131,9 @@ def main(argv):
         new = "".join(out) + code(t[at:])
         if p.endswith(".antt"):  # the variables too
             new = re.sub(r"(?<![\w.'])[a-z]\w*[a-z0-9][A-Z]\w*", lambda m: m[0] if m[0] in stays else snake(m[0]), new)
+        # an operator of the toolchain's library has this sign, and ours is another
+        if re.search(r"Rattle\.fraction\.specs\.Integer\.\{[^}]*◌≤ℤ◌", new) or p == "crates/fraction/specs/Integer.antt":
+            new = re.sub(r"(?<![^\s(){};,])(◌?)≤ℤ(◌?)(?![^\s(){};,])", r"\1≤z\2", new)
         if new != read(p):
             changed += 1
             if "--list" not in argv:
@@ -150,7 +153,8 @@ FIRST = {
     "crates/lane_file/proofs/Answers.antt": {"too_short": "too_short_law"},
     "crates/lane_file/proofs/entry/write/Proof.antt": {"too_short": "too_short_law"},
 }
-LAW = {"is-nan": "is_nan_law", "refusedAt": "refused_place"}
+LAW = {"is-nan": "is_nan_law", "refusedAt": "refused_place", "left-half": "left_half_law", "right-half": "right_half_law",
+       "of-Format": "of_format"}
 # fields of different records
 FIELDS_ALIKE = {"other_breaks", "other_coefficients", "turned_away"}
 # fields that the check makes

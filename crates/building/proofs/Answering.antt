@@ -1,18 +1,17 @@
 -- The checks 18, 20 and 19, before all others.
 use mathlib.Core.Path.{◌≡◌, refl, sym, ap, ◌∙◌}
-use mathlib.Core.Bool.{Bool, true, false, not, cond, ◌||◌}
+use mathlib.Core.Bool.{Bool, true, false, cond, ◌||◌}
 use mathlib.Core.List.{List}
-use Prim.Native.Nat.{ℕ, ◌+◌, ◌-◌, ◌*◌, ◌≤◌, ◌<◌, max}
+use Prim.Native.Nat.{ℕ, ◌≤◌, ◌<◌}
 use native.Mathlib.Omega.{arith}
 use native.Mathlib.Decide.{ℕ_discrete}
 use borrow.Author.Tests.{eqb-true, ne_eqb}
 use lib.Dec.{eqb}
-use lib.ListN.{length}
 use lib.Ieee.{Float}
 use Rattle.curve.specs.declared.Curve.{Curve}
 use Rattle.curve.specs.declared.Mode.{Mode}
 use Rattle.smoothing.specs.Answer.{Answer}
-use Rattle.smoothing.specs.Answer.Answer.{done, refused, exhausted}
+use Rattle.smoothing.specs.Answer.Answer.{refused}
 use Rattle.smoothing.specs.Request.{Lane, Limits}
 use Rattle.smoothing.specs.Checks.{wide_lane, wide_limits, miscounted_points, short_room}
 use Rattle.smoothing.specs.Build.{Result, checked_of, answer_of, build_in}

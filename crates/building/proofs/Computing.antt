@@ -1,7 +1,7 @@
 -- How the steps of `compute` follow one another.
 use mathlib.Core.Path.{◌≡◌, refl, sym, ap, subst, ◌∙◌}
 use mathlib.Core.Bool.{Bool, true, false, cond}
-use mathlib.Core.List.{List, [], ◌∷◌, ◌++◌, append-nil}
+use mathlib.Core.List.{List, ◌++◌, append-nil}
 use Prim.Native.Nat.{ℕ, ◌+◌, ◌-◌, ◌*◌, ◌≤◌, ◌<◌}
 use native.Mathlib.Omega.{arith}
 use borrow.Author.Tests.{eq-eqb, ne_eqb}
@@ -9,7 +9,7 @@ use lib.Dec.{eqb}
 use lib.ListN.{length, take, drop, length-drop, drop_of_length-le}
 use lib.Seq.{drop_at, length-take-le}
 use lib.Ieee.{Float}
-use Rattle.window.specs.Window.{window, splice}
+use Rattle.window.specs.Window.{splice}
 use Rattle.window.proofs.Windows.{window_before}
 use Rattle.bspline.specs.Segments.{Polynomial}
 use Rattle.request.specs.Parameters.{unreliable}
@@ -25,10 +25,9 @@ use Rattle.refinement.specs.declared.plan.Plan.{Plan}
 use Rattle.refinement.specs.Memory.{Roomy, cells_of, breaks_place, coefficients_place, memory_at, sized}
 use Rattle.selected_axes.specs.declared.course.Ending.{Ending}
 use Rattle.selected_axes.specs.declared.course.Ending.TheVariants.{Done, Refused, Exhausted}
-use Rattle.selected_axes.specs.declared.course.Smoothed.{Smoothed}
-use Rattle.selected_axes.specs.Selected.{selected_in, ending_of, answer_in}
+use Rattle.selected_axes.specs.Selected.{selected_in, ending_of}
 use Rattle.work_slice.proofs.Copying.{spans_fit}
-use Rattle.building.specs.Computed.{Both, both, both_from, with_other, computed_of, ended_in, smoothed_at}
+use Rattle.building.specs.Computed.{Both, both, both_from, with_other, computed_of, ended_in}
 
 -- ---- 6 and 7
 module _ (list : List Float) (m : Limits) (q : Task) (u : Units) (o : Answer (Polynomial Float)) (r : ℕ)

@@ -1,34 +1,30 @@
 -- How a run becomes the answer, the curve and the results.
 use mathlib.Core.Path.{◌≡◌, refl, sym, ap, subst, ◌∙◌}
-use mathlib.Core.Logic.{◌⊎◌, inl, inr}
 use mathlib.Core.Bool.{Bool, true, false, cond}
-use mathlib.Core.List.{List, [], ◌∷◌}
-use Prim.Native.Nat.{ℕ, ◌+◌, ◌-◌, ◌*◌, ◌≤◌, ◌<◌, max}
+use mathlib.Core.List.{List, []}
+use Prim.Native.Nat.{ℕ, ◌+◌, ◌-◌, ◌*◌, ◌≤◌, ◌<◌}
 use native.Mathlib.Omega.{arith}
-use native.Mathlib.Nat.{mul-le-mul, mul-le-mul_right}
-use borrow.Author.Tests.{eq-eqb, ne_eqb, eqb-true, eqb-false}
+use borrow.Author.Tests.{ne_eqb, eqb-false}
 use lib.Dec.{eqb}
-use lib.ListN.{length, get_or, take, drop, length-drop}
+use lib.ListN.{length, drop, length-drop}
 use lib.Ieee.{Float}
 use Rattle.window.specs.Window.{window}
 use Rattle.window.specs.Cells.{at, zeros}
 use Rattle.window.proofs.Windows.{length_window}
-use Rattle.window.specs.Rows.{list_of}
 use Rattle.bspline.specs.Segments.{Polynomial}
 use Rattle.curve.specs.declared.Mode.{Mode}
 use Rattle.smoothing.specs.Answer.{Answer, and_then}
 use Rattle.smoothing.specs.Answer.Answer.{done, refused, exhausted}
-use Rattle.smoothing.specs.Request.{Lane, Limits, axis_count, smoothed_axes, lane_parameters}
+use Rattle.smoothing.specs.Request.{Lane, Limits, lane_parameters}
 use Rattle.smoothing.specs.Checks.{refusal_of}
 use Rattle.smoothing.specs.Rows.{lane_task, lane_units, other_axes}
 use Rattle.smoothing.specs.Finish.{Selected}
 use Rattle.smoothing.specs.Build.{Result, curve_of, selected_of, other_of, result_of, smoothed_of, checked_of}
-use Rattle.smoothing.proofs.Accepted.{refused_done, exhausted_done, done_same}
+use Rattle.smoothing.proofs.Accepted.{refused_done}
 use Rattle.smoothing.proofs.Refusals.{selected_refused, other_refused, refusal_most}
 use Rattle.refinement.specs.declared.plan.Plan.{Plan}
-use Rattle.refinement.specs.Memory.{Roomy, cells_of, breaks_place, memory_at, sized}
+use Rattle.refinement.specs.Memory.{cells_of, breaks_place, memory_at, sized}
 use Rattle.building.specs.declared.Report.{Report}
-use Rattle.building.specs.declared.compute.Computed.{Computed}
 use Rattle.building.specs.declared.entry.Run.{Run}
 use Rattle.interpolation.specs.declared.Nodes.{Nodes}
 use Rattle.interpolation.specs.Memory.{breaks_place as other_breaks_place, polynomial_in}

@@ -1,5 +1,5 @@
 -- A lane that the checks 1 to 5 and 26 let through: how the definition goes on, and that the arguments of `compute` are the lane's.
-use mathlib.Core.Path.{◌≡◌, refl, sym, ap, ◌∙◌}
+use mathlib.Core.Path.{◌≡◌, refl, ap, ◌∙◌}
 use mathlib.Core.Bool.{Bool, true, false, cond}
 use mathlib.Core.List.{List}
 use Prim.Native.Nat.{ℕ, ◌+◌, ◌*◌, ◌≤◌, ◌<◌}
@@ -13,7 +13,7 @@ use Rattle.smoothing.specs.Answer.{Answer}
 use Rattle.smoothing.specs.Answer.Answer.{refused}
 use Rattle.smoothing.specs.Request.{Lane, Limits, axis_count, smoothed_axes, lane_parameters, tolerances_of, tolerance_list}
 use Rattle.smoothing.specs.Checks.{overflows, refusal_of}
-use Rattle.smoothing.specs.Rows.{Task, Units, task_of, lane_task, lane_units, parameters_of, smoothed_rows, other_rows, gathered, left_over, other_axes}
+use Rattle.smoothing.specs.Rows.{task_of, lane_task, lane_units, parameters_of, smoothed_rows, other_rows, gathered, left_over, other_axes}
 use Rattle.smoothing.specs.Build.{other_of}
 use Rattle.curve.specs.Places.{padded}
 use Rattle.checks.specs.Checks.{refusal_before, refusal_after}

@@ -1,17 +1,16 @@
 -- The answer of `build`'s definition to the arguments of the code; and its part from the check 1 on, before the result is put together.
 use Rattle.std.specs.Prelude.{◌≡◌, ℕ, ◌+◌, ◌-◌, ◌*◌, ◌≤◌, ◌<◌, max, cond, List, eqb, length, get_or, take, Float}
 use Rattle.window.specs.Rows.{list_of}
-use Rattle.bspline.specs.Segments.{Polynomial}
 use Rattle.request.specs.declared.parameters.Spacing.TheVariants.{Listed}
 use Rattle.curve.specs.declared.Curve.{Curve}
 use Rattle.curve.specs.declared.Mode.{Mode}
 use Rattle.curve.specs.Form.{with_widths}
-use Rattle.smoothing.specs.Answer.{Answer, and_then}
-use Rattle.smoothing.specs.Answer.Answer.{done, refused}
+use Rattle.smoothing.specs.Answer.{Answer}
+use Rattle.smoothing.specs.Answer.Answer.{refused}
 use Rattle.smoothing.specs.Request.{Lane, Limits, axis_count, smoothed_axes}
 use Rattle.smoothing.specs.Checks.{refusal_of}
 use Rattle.smoothing.specs.Rows.{lane_task, lane_units, other_axes}
-use Rattle.smoothing.specs.Build.{Result, other_of, result_of, build_in}
+use Rattle.smoothing.specs.Build.{Result, other_of, build_in}
 use Rattle.refinement.specs.declared.plan.Plan.{Plan}
 use Rattle.refinement.specs.Memory.{Roomy, cells_of, memory_at, sized}
 use Rattle.selected_axes.specs.declared.course.Ending.TheVariants.{Done}

@@ -1,14 +1,13 @@
 -- What `build` answers, and what every lent slice holds afterwards.
-use Rattle.std.specs.Prelude.{ℕ, Bool, cond, ◌||◌, List, eqb, length, Float}
+use Rattle.std.specs.Prelude.{ℕ, cond, ◌||◌, List, eqb, length, Float}
 use Rattle.window.specs.Cells.{onto, zeros}
 use Rattle.curve.specs.declared.Curve.{Curve}
 use Rattle.curve.specs.declared.Mode.{Mode}
 use Rattle.curve.specs.Form.{with_widths, no_curve}
 use Rattle.smoothing.specs.Answer as answers
 use Rattle.smoothing.specs.Answer.Answer.{done, refused, exhausted}
-use Rattle.smoothing.specs.Request.{Request}
 use Rattle.smoothing.specs.Checks.{Room}
-use Rattle.smoothing.specs.Build.{Result, curve_of, build_in}
+use Rattle.smoothing.specs.Build.{Result, curve_of}
 use Rattle.building.specs.declared.Report.{Report}
 use Rattle.checks.specs.Checks.{room_of}
 use Rattle.building.specs.declared.Answer.{Answer}

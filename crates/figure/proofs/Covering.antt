@@ -4,7 +4,7 @@ use mathlib.Core.Path.{◌≡◌, subst, sym}
 use std.Quotient.{cls}
 use Prim.Native.Nat.{ℕ, ◌+◌, ◌-◌, ◌<◌}
 use native.Mathlib.Omega.{arith}
-use lib.Ieee.{Float, binary64, of_bits, of_fields, odd}
+use lib.Ieee.{Float, of_bits, of_fields, odd}
 use lib.IntN.{pos}
 use Rattle.window.specs.Cells.{+0}
 use Rattle.fraction.specs.Fraction.{Fraction, ◌≤f◌, whole_fraction}

@@ -4,7 +4,6 @@ use mathlib.Core.Bool.{Bool, true, false}
 use Prim.Native.Nat.{ℕ, ◌+◌, ◌-◌, ◌≤◌, ◌<◌}
 use native.Mathlib.Omega.{arith}
 use lib.Ieee.{Float, binary64, add, mul}
-use Rattle.arith.specs.Loop.{each}
 use Rattle.window.specs.Cells.{at}
 use Rattle.bspline.proofs.InsertPlaced.{span_within}
 use Rattle.normal.specs.System.{System}

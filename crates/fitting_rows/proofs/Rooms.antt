@@ -2,7 +2,6 @@
 use Rattle.std.proofs.Common.{◌≡◌, ℕ, ◌+◌, ◌-◌, ◌*◌, ◌<◌, ◌≤◌, List, length, ◌∙◌, arith}
 use lib.Ieee.{Float}
 use Rattle.arith.proofs.Rows.{rows_le, row_end}
-use Rattle.window.specs.Cells.{at}
 use Rattle.window.proofs.Windows.{length_window}
 use Rattle.fitting_rows.specs.declared.Place.{Place}
 use Rattle.fitting_rows.specs.Arrays.{ArraysWithin, arrays_at}

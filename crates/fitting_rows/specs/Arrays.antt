@@ -1,5 +1,5 @@
 -- What a fit works on: the source's `b`, `s` and `y`, and where they lie in a lent slice.
-use Rattle.std.specs.Prelude.{◌≡◌, ℕ, ◌+◌, ◌-◌, ◌*◌, ◌≤◌, List, Float}
+use Rattle.std.specs.Prelude.{ℕ, ◌+◌, ◌*◌, ◌≤◌, List, Float}
 use Rattle.window.specs.Window.{window}
 use Rattle.fitting_rows.specs.declared.Place.{Place}
 

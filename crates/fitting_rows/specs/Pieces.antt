@@ -1,6 +1,6 @@
 -- The rows of sparse spans: the source's `fit`, "Sparse spans are split wherever the piecewise-linear reference changes. Six quadrature
 -- rows per intersection".
-use Rattle.std.specs.Prelude.{ℕ, ◌+◌, ◌-◌, ◌*◌, min, Bool, false, cond, ◌||◌, List, [], ◌∷◌, ◌==◌, slice_set, Float}
+use Rattle.std.specs.Prelude.{ℕ, ◌+◌, ◌-◌, ◌*◌, min, Bool, cond, ◌||◌, List, [], ◌∷◌, ◌==◌, slice_set, Float}
 use Rattle.std.specs.Float.{nan, binary64}
 use Rattle.std.specs.Float.Ieee.{le, add, sub, mul, div}
 use Rattle.arith.specs.Operations.{floats}

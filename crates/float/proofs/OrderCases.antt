@@ -1,20 +1,18 @@
 -- The cases of the code of absolute value, total order and the test for a finite number.
 use mathlib.Core.Path.{◌≡◌, refl, sym, ap, ◌∙◌}
 use mathlib.Core.Bool.{Bool, true, false, not, ◌&&◌, ◌||◌, beq, cond, true≢false}
-use Prim.Native.Nat.{ℕ, zero, suc, ◌+◌, ◌*◌, ◌^◌, ◌%◌, ◌/◌, ◌<◌}
-use native.Mathlib.Nat.{mul-pos, zero-lt-suc, pow-suc}
+use Prim.Native.Nat.{ℕ, zero, suc, ◌+◌, ◌*◌, ◌%◌, ◌/◌, ◌<◌}
 use native.Mathlib.Omega.{arith}
-use lib.Dec.{T, leb, ltb, eqb, ltb→lt, lt→ltb, eqb→eq}
+use lib.Dec.{T, leb, eqb, eqb→eq}
 use lib.Arith.{lt→nleb}
-use lib.IntN.{ℤ, pos, negsuc}
-use lib.Pow.{pow_pos}
+use lib.IntN.{ℤ}
 use lib.Ieee.{Float, Format, nan, inf, fin, binary64, prec, low, hid, ones, up, down, fits, is_nan, lt, eq, le, neg, div, odd, of_fields, of_bits, to_bits}
-use lib.Ieee.Bits.{is_true, is_false, of_bits-to_bits}
-use lib.Ieee.Fits.{up_pos, and_r}
+use lib.Ieee.Bits.{is_false, of_bits-to_bits}
+use lib.Ieee.Fits.{and_r}
 use lib.Ieee.Scale.{finite}
 use Rattle.fraction.specs.Value.{absolute_float}
 use Rattle.float.specs.Order.{negative, total_le}
-use Rattle.float.proofs.Tests.{clash, holds, +0, +1, zero_is, one_is, infinity_is, minus_infinity_is, Zero, not_zero, zero_of, is_zero, zero_eq}
+use Rattle.float.proofs.Tests.{clash, holds, +0, +1, one_is, infinity_is, minus_infinity_is, Zero, not_zero, zero_of, is_zero, zero_eq}
 
 -- ---- absolute value: the sign's bit cleared
 odd_absolute : (d : ℕ) (s : Bool) (q k l : ℕ) → absolute_float (odd d s q k l) ≡ odd d false q k l

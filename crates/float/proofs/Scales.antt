@@ -5,7 +5,7 @@ use native.Mathlib.Nat.{le_trans, le_of_eq, lt_of_lt_of_le, mul-le-mul_right, mu
 use native.Mathlib.Omega.{arith}
 use lib.Pow.{pow-add, pow_mono, shl_exact, shl_lt}
 use lib.Count.{count_leading_zeros, leading_top}
-use lib.IntN.{ℤ, pos, negsuc, ◌-ℤ◌}
+use lib.IntN.{pos, negsuc, ◌-ℤ◌}
 use Rattle.float.specs.RootSteps.{Scaling, radicand}
 use Rattle.float.proofs.Exponents.{low_place, high_place}
 

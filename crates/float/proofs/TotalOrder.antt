@@ -16,7 +16,7 @@ use lib.Ieee.Nearest.{div_same}
 use Rattle.fraction.specs.WellDefined.{fraction_at_most_law}
 use Rattle.fraction.specs.Value.{value}
 use Rattle.fraction.specs.Rational.{◌≤q◌, at_mostq}
-use Rattle.fraction.specs.Integer.{◌≤ℤ◌, signed}
+use Rattle.fraction.specs.Integer.{◌≤z◌, signed}
 use Rattle.fraction.proofs.Value.{signed_mul, signed_order, value_le_of_not_lt}
 use Rattle.fraction.proofs.Rational.{≤q-trans}
 use Rattle.float.specs.Order.{negative, total_le}
@@ -123,7 +123,7 @@ unfolding lt at_mostq
 le_number s t m n e d h = go s t (m * up e * down d) (n * up d * down e) (signed_order s t (m * up e * down d) (n * up d * down e)
     (rw (signed_mul s (m * up e) (down d), signed_mul t (n * up d) (down e)) at cross))
   where
-    cross : signed s (m * up e) *ℤ pos (down d) ≤ℤ signed t (n * up d) *ℤ pos (down e)
+    cross : signed s (m * up e) *ℤ pos (down d) ≤z signed t (n * up d) *ℤ pos (down e)
     cross = fraction_at_most_law (record { numerator = signed s (m * up e); denominator = down e; positive = down_pos e })
         (record { numerator = signed t (n * up d); denominator = down d; positive = down_pos d }) h
 

@@ -1,5 +1,5 @@
 -- What is read of some bytes is read of longer ones, as long as no more is looked at.
-use mathlib.Core.Path.{◌≡◌, refl, ap, ◌∙◌}
+use mathlib.Core.Path.{◌≡◌, refl}
 use mathlib.Core.Bool.{Bool, true, false, cond}
 use mathlib.Core.List.{List, [], ◌∷◌, ◌++◌}
 use Prim.Native.Nat.{ℕ, zero, suc, ◌+◌, ◌*◌, ◌-◌, ◌≤◌}
@@ -8,7 +8,7 @@ use lib.Dec.{ltb, eqb}
 use lib.ListN.{length}
 use Rattle.forms.specs.Read.{Read, got, bad, after}
 use Rattle.forms.specs.Groups.{read_groups}
-use Rattle.forms.specs.Form.{Form, Both, groups, then, through}
+use Rattle.forms.specs.Form.{Form, groups, then, through}
 use Rattle.forms.proofs.Exact.{pair}
 
 -- the same value, with further bytes left

@@ -8,10 +8,9 @@ use native.Mathlib.Numerals.{add-one}
 use lib.Dec.{ltb, leb, eqb}
 use lib.ListN.{length, drop, get_or, length-drop, drop_of_length-le}
 use lib.Seq.{drop-cons, drop-drop, drop-length}
-use borrow.Author.Tests.{lt-ltb, le-ltb, eq-eqb, ne_eqb, leb-true, leb-false}
+use borrow.Author.Tests.{lt-ltb, le-ltb, eq-eqb, leb-true, leb-false}
 use Rattle.forms.specs.Read.{Read, got, bad, after}
 use Rattle.forms.specs.Groups.{read_groups, found, number_at}
-use Rattle.forms.specs.declared.Found.{Found}
 use Rattle.forms.specs.declared.Found.TheVariants.{Number, Nothing}
 use Rattle.forms.proofs.OneSpelling.{above, above_is}
 use Rattle.forms.proofs.Exact.{not_got, Stepped, stepped, step}

@@ -1,6 +1,6 @@
 -- Numbers in groups of seven bits: document 01, "in groups of seven bits, low group first, top bit set on all but the last, at most three
 -- groups and no padding".
-use Rattle.std.specs.Prelude.{Bool, true, false, cond, List, [], ◌∷◌, ℕ, zero, suc, ◌+◌, ◌*◌, ◌-◌, ◌/◌, ◌%◌, ltb, eqb, length, drop}
+use Rattle.std.specs.Prelude.{cond, List, [], ◌∷◌, ℕ, zero, suc, ◌+◌, ◌*◌, ◌-◌, ◌/◌, ◌%◌, ltb, eqb, length, drop}
 use Rattle.forms.specs.Read.{Read, got, bad, after}
 use Rattle.forms.specs.declared.Found.{Found}
 use Rattle.forms.specs.declared.Found.TheVariants.{Number, Nothing}

@@ -4,15 +4,15 @@ use mathlib.Core.Bool.{Bool, cond, false, true}
 use mathlib.Core.Logic.{inl, inr}
 use mathlib.Core.Path.{◌∙◌, ◌≡◌, ap, refl, subst, sym}
 use Prim.Native.Nat.{◌*◌, ◌+◌, ◌-◌, ◌<◌, ◌^◌, ◌≤◌, suc, zero, ℕ}
-use native.Mathlib.Nat.{add-zero, eq-or-lt_of_le, le_of_lt, le-suc, le_trans, zero-add}
+use native.Mathlib.Nat.{add-zero, eq-or-lt_of_le, le-suc, le_trans, zero-add}
 use native.Mathlib.Omega.{arith}
 use lib.Dec.{T, not_T}
-use lib.Ieee.{Float, Format, fin, fits, hid, inf, le, low, lt, nan, of_bits, ones, to_bits, top}
+use lib.Ieee.{Float, Format, fin, fits, hid, inf, le, low, lt, nan, of_bits, ones, top}
 use lib.Ieee.Exact.{HasValue}
 use lib.Ieee.Scale.{finite}
 use lib.IntN.{pos}
 use lib.Pow.{pow_pos}
-use Rattle.fraction.specs.Integer.{◌≤ℤ◌, parts_neg, signed}
+use Rattle.fraction.specs.Integer.{◌≤z◌, parts_neg, signed}
 use Rattle.fraction.specs.Magnitude.{magnitude}
 use Rattle.fraction.specs.NextNumber.{GreatestBelow, LeastAbove, down_bits, next_down, next_up, up_bits}
 use Rattle.fraction.specs.Rational.{◌<q◌, ◌≤q◌, at_mostq, ℚ}
@@ -84,16 +84,16 @@ above_by_test (inf false) (fin s m e) W b = tt
 above_by_test (fin s m e) w W b = holds (le_of_value w (fin s m e) W tt b)
 
 -- the last place with the sign set is at or below every place, and with the sign clear at or above
-lowest : (t : Bool) (q i : ℕ) → q < i → signed true (i - 1) ≤ℤ signed t q
+lowest : (t : Bool) (q i : ℕ) → q < i → signed true (i - 1) ≤z signed t q
 lowest false q i l = omega (arith, (parts_neg (pos (i - 1))).0, (parts_neg (pos (i - 1))).1)
 lowest true q i l = omega (arith, (parts_neg (pos (i - 1))).0, (parts_neg (pos (i - 1))).1, (parts_neg (pos q)).0, (parts_neg (pos q)).1)
 
-highest : (t : Bool) (q i : ℕ) → q < i → signed t q ≤ℤ signed false (i - 1)
+highest : (t : Bool) (q i : ℕ) → q < i → signed t q ≤z signed false (i - 1)
 highest false q i l = omega arith
 highest true q i l = omega (arith, (parts_neg (pos q)).0, (parts_neg (pos q)).1)
 
 -- one place nearer to 0, or further from it, with the sign set
-nearer : (b : ℕ) → signed true b ≤ℤ signed true (suc b) → ⊥
+nearer : (b : ℕ) → signed true b ≤z signed true (suc b) → ⊥
 nearer b o = omega (arith, (parts_neg (pos b)).0, (parts_neg (pos b)).1, (parts_neg (pos (suc b))).0, (parts_neg (pos (suc b))).1)
 
 module _ (f : Format) where
@@ -121,10 +121,10 @@ module _ (f : Format) where
   at_value s p l = value_is (at s p) s (magnitude (hid f) p) (2 ^ low f) (pow_pos (low f)) (of_bits_value f s p l)
 
   -- the order of signed places is that of the values
-  places_le : (s t : Bool) (p q : ℕ) → signed s p ≤ℤ signed t q → worth s p ≤q worth t q
+  places_le : (s t : Bool) (p q : ℕ) → signed s p ≤z signed t q → worth s p ≤q worth t q
   places_le s t p q o = fraction_same_le _ _ (2 ^ low f) (pow_pos (low f)) (magnitudes_order (hid f) (hidden_pos f) s t p q o)
 
-  places_lt : (s t : Bool) (p q : ℕ) → (signed t q ≤ℤ signed s p → ⊥) → worth s p <q worth t q
+  places_lt : (s t : Bool) (p q : ℕ) → (signed t q ≤z signed s p → ⊥) → worth s p <q worth t q
   places_lt s t p q n =
       not_T (at_mostq (worth t q) (worth s p))
       (λ h. n (place_order (hid f) (hidden_pos f) t s q p (fraction_back _ _ (2 ^ low f) (pow_pos (low f)) h)))
@@ -133,19 +133,19 @@ module _ (f : Format) where
   module _ (x : Float) (F : T (finite x)) where
     -- x has the sign s and the place p: what lies at a higher place is above it, +∞ too, and what lies at a lower one below it, -∞ too
     module _ (s : Bool) (p : ℕ) (is : value x ≡ worth s p) where
-      to_higher : (t : Bool) (q : ℕ) → q < end → (signed t q ≤ℤ signed s p → ⊥) → T (lt x (at t q))
+      to_higher : (t : Bool) (q : ℕ) → q < end → (signed t q ≤z signed s p → ⊥) → T (lt x (at t q))
       to_higher t q l n = holds (lt_of_value x (at t q) F (at_finite t q l) (rw (is, at_value t q l) (places_lt s t p q n)))
 
-      to_lower : (t : Bool) (q : ℕ) → q < end → (signed s p ≤ℤ signed t q → ⊥) → T (lt (at t q) x)
+      to_lower : (t : Bool) (q : ℕ) → q < end → (signed s p ≤z signed t q → ⊥) → T (lt (at t q) x)
       to_lower t q l n = holds (lt_of_value (at t q) x (at_finite t q l) F (rw (is, at_value t q l) (places_lt t s q p n)))
 
-      to_top : (q : ℕ) → q ≤ end → (signed false q ≤ℤ signed s p → ⊥) → T (lt x (at false q))
+      to_top : (q : ℕ) → q ≤ end → (signed false q ≤z signed s p → ⊥) → T (lt x (at false q))
       to_top q l n = elim (eq-or-lt_of_le l) [
         | inl e ↦ subst (λ (y : Float). T (lt x y)) (sym (ap (at false) e ∙ of_bits_infinity f false)) (below_infinity x F)
         | inr g ↦ to_higher false q g n
       ]
 
-      to_bottom : (q : ℕ) → q ≤ end → (signed s p ≤ℤ signed true q → ⊥) → T (lt (at true q) x)
+      to_bottom : (q : ℕ) → q ≤ end → (signed s p ≤z signed true q → ⊥) → T (lt (at true q) x)
       to_bottom q l n = elim (eq-or-lt_of_le l) [
         | inl e ↦ subst (λ (y : Float). T (lt y x)) (sym (ap (at true) e ∙ of_bits_infinity f true)) (above_infinity x F)
         | inr g ↦ to_lower true q g n

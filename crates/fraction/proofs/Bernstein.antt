@@ -7,7 +7,7 @@ use Prim.Native.Nat.{◌*◌, ◌+◌, ◌<◌, ◌≤◌, suc, suc-le-suc, zero
 use native.Mathlib.Nat.{le_refl, le-suc, le_trans}
 use native.Mathlib.Omega.{arith}
 use lib.Arith.{lt→nleb}
-use lib.IntN.{negsuc, pos}
+use lib.IntN.{pos}
 use Rattle.fraction.specs.Bernstein.{bernstein, bernstein_coefficient, bernstein_form, complement, de_casteljau}
 use Rattle.fraction.specs.Binomial.{choose}
 use Rattle.fraction.specs.Fraction.{multiply_fractions, whole_fraction}

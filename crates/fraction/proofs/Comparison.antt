@@ -13,7 +13,7 @@ use lib.Ieee.Fits.{up_pos}
 use lib.Ieee.Positive.{above, positive}
 use lib.Ieee.Scale.{finite}
 use lib.IntN.{◌*ℤ◌, neg_ℤ, pos, ℤ}
-use Rattle.fraction.specs.Integer.{◌≤ℤ◌, signed}
+use Rattle.fraction.specs.Integer.{◌≤z◌, signed}
 use Rattle.fraction.specs.Rational.{◌<q◌, ◌≤q◌, at_mostq}
 use Rattle.fraction.specs.Value.{exact_fraction, value}
 use Rattle.fraction.proofs.Rational.{never, ≤q-means-≤f, ≤q-refl}
@@ -22,10 +22,10 @@ use Rattle.fraction.proofs.Value.{plus_zero, signed_mul, signed_order, value_le_
 -- ---- from the tests
 -- the order of two values as that of signed numbers over one denominator
 signed_le : (s u : Bool) (m n : ℕ) (e d : ℤ) → value (fin s m e) ≤q value (fin u n d)
-    → signed s (m * up e * down d) ≤ℤ signed u (n * up d * down e)
+    → signed s (m * up e * down d) ≤z signed u (n * up d * down e)
 signed_le s u m n e d h =
-    subst (λ (z : ℤ). signed s (m * up e * down d) ≤ℤ z) (signed_mul u (n * up d) (down e))
-    (subst (λ (z : ℤ). z ≤ℤ signed u (n * up d) *ℤ pos (down e)) (signed_mul s (m * up e) (down d))
+    subst (λ (z : ℤ). signed s (m * up e * down d) ≤z z) (signed_mul u (n * up d) (down e))
+    (subst (λ (z : ℤ). z ≤z signed u (n * up d) *ℤ pos (down e)) (signed_mul s (m * up e) (down d))
     (≤q-means-≤f (exact_fraction (fin s m e)) (exact_fraction (fin u n d)) h))
 
 -- the test `lt` is true: x < y
@@ -39,7 +39,7 @@ lt_value (fin s m e) (fin u n d) X Y t =
     not_T (at_mostq (value (fin u n d)) (value (fin s m e)))
     (λ h. go s u (m * up e * down d) (n * up d * down e) t (signed_le u s n m d e h))
   where
-    go : (s u : Bool) (a b : ℕ) → T (below s a u b) → signed u b ≤ℤ signed s a → ⊥
+    go : (s u : Bool) (a b : ℕ) → T (below s a u b) → signed u b ≤z signed s a → ⊥
     go false false a b t h = omega (arith, ltb→lt a b t, signed_order false false b a h)
     go false true a b t h = absurd t
     go true false a b t h = omega (arith, ltb→lt 0 (a + b) t, (signed_order false true b a h).0, (signed_order false true b a h).1)
@@ -118,7 +118,7 @@ le_of_value (fin s m e) nan X Y h = absurd Y
 le_of_value (fin s m e) (inf u) X Y h = absurd Y
 le_of_value (fin s m e) (fin u n d) X Y h = go s u (m * up e * down d) (n * up d * down e) (signed_le s u m n e d h)
   where
-    go : (s u : Bool) (a b : ℕ) → signed s a ≤ℤ signed u b → (below s a u b || level s a u b) ≡ true
+    go : (s u : Bool) (a b : ℕ) → signed s a ≤z signed u b → (below s a u b || level s a u b) ≡ true
     go false false a b h = at_most a b (signed_order false false a b h)
     go false true a b h =
         let z = signed_order false true a b h in rw (eq-eqb a b (omega (arith, z.0, z.1)), eq-eqb a 0 z.0)

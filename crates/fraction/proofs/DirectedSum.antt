@@ -17,7 +17,7 @@ use lib.IntN.{neg_ℤ, pos, ℤ}
 use lib.Pow.{pow_pos}
 use Rattle.fraction.specs.DirectedSum.{Downward, Upward, downward_sum, is_above, plain_zero, upward_sum}
 use Rattle.fraction.specs.Fraction.{whole_fraction}
-use Rattle.fraction.specs.Integer.{◌≤ℤ◌, equal_by_parts, negative_part, parts_neg, positive_part, signed}
+use Rattle.fraction.specs.Integer.{◌≤z◌, equal_by_parts, negative_part, parts_neg, positive_part, signed}
 use Rattle.fraction.specs.Magnitude.{magnitude}
 use Rattle.fraction.specs.NextNumber.{down_bits, next_down}
 use Rattle.fraction.specs.Rational.{◌+q◌, ◌<q◌, ◌≤q◌, at_mostq, negq, ℚ, 𝟘}
@@ -264,7 +264,7 @@ upward_sum_law f x y X Y = upward_is f (value x +q value y) (downward_sum f (neg
 -- ---- there is only one such number
 module _ (f : Format) (x y : Float) (fx : T (fits f x)) (fy : T (fits f y)) (F : T (finite x)) (G : T (finite y))
     (l : value x ≤q value y) (g : value y ≤q value x) where
-  order : (x y : Float) (X : Encoded f x) (Y : Encoded f y) → value x ≤q value y → signed X.sign X.place ≤ℤ signed Y.sign
+  order : (x y : Float) (X : Encoded f x) (Y : Encoded f y) → value x ≤q value y → signed X.sign X.place ≤z signed Y.sign
       Y.place
   order x y X Y h =
       place_order (hid f) (hidden_pos f) X.sign Y.sign X.place Y.place
@@ -275,7 +275,7 @@ module _ (f : Format) (x y : Float) (fx : T (fits f x)) (fy : T (fits f y)) (F :
   one_or_zero : (x ≡ y) ⊎ (value x ≡ 𝟘)
   one_or_zero = go (encoded f x fx F) (encoded f y fy G)
     where
-      same : (s t : Bool) (p q : ℕ) → signed s p ≤ℤ signed t q → signed t q ≤ℤ signed s p → (cond s (top f) 0 + p ≡ cond t (top f) 0 + q)
+      same : (s t : Bool) (p q : ℕ) → signed s p ≤z signed t q → signed t q ≤z signed s p → (cond s (top f) 0 + p ≡ cond t (top f) 0 + q)
           ⊎ (p ≡ 0)
       same false false p q a b = inl (ap (λ (k : ℕ). 0 + k) (le_antisymm (signed_order false false p q a)
           (signed_order false false q p b)))

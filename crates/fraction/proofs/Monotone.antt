@@ -13,7 +13,7 @@ use lib.Ieee.Order.{drop, kept, round_mono}
 use lib.Ieee.Scale.{overflow, round_same}
 use lib.IntN.{◌*ℤ◌, pos, ℤ}
 use lib.Pow.{pow_pos}
-use Rattle.fraction.specs.Integer.{◌≤ℤ◌, signed}
+use Rattle.fraction.specs.Integer.{◌≤z◌, signed}
 use Rattle.fraction.specs.Rational.{◌≤q◌, ℚ}
 use Rattle.fraction.specs.Rounding.{Rounded}
 use Rattle.fraction.specs.Value.{fraction}
@@ -159,9 +159,9 @@ rounded_monotone f r r' z z' R S h =
         bad e = omega arith
 
     order : (s t : Bool) (a b c d : ℕ) (C : 0 < c) (D : 0 < d) → fraction (signed s a) c C ≤q fraction (signed t b) d D
-        → signed s (a * d) ≤ℤ signed t (b * c)
+        → signed s (a * d) ≤z signed t (b * c)
     order s t a b c d C D h =
-        subst (λ (x : ℤ). x ≤ℤ signed t (b * c)) (signed_mul s a d) (subst (λ (x : ℤ). signed s a *ℤ pos d ≤ℤ x) (signed_mul t b c)
+        subst (λ (x : ℤ). x ≤z signed t (b * c)) (signed_mul s a d) (subst (λ (x : ℤ). signed s a *ℤ pos d ≤z x) (signed_mul t b c)
         (≤q-means-≤f (record { numerator = signed s a; denominator = c; positive = C })
         (record { numerator = signed t b; denominator = d; positive = D }) h))
 

@@ -15,7 +15,7 @@ use lib.Ieee.Order.{drop, kept}
 use lib.Ieee.Scale.{finite, grid}
 use lib.IntN.{◌*ℤ◌, ◌+ℤ◌, negsuc, pos, ℤ}
 use lib.Pow.{pow-add, pow_pos}
-use Rattle.fraction.specs.Integer.{◌≤ℤ◌, integer_order, integer_ring, negative_part, parts_add, parts_neg, positive_part, signed}
+use Rattle.fraction.specs.Integer.{◌≤z◌, integer_order, integer_ring, negative_part, parts_add, parts_neg, positive_part, signed}
 use Rattle.fraction.specs.Order.{le_one}
 use Rattle.fraction.specs.Rational.{◌+q◌, ◌<q◌, ◌≤q◌, at_mostq, ℚ}
 use Rattle.fraction.specs.Ring.{◌⊕◌, ◌⊗◌, con, solve, v0, v1, v2}
@@ -82,15 +82,15 @@ absolute_mul (pos a) m = omega arith
 absolute_mul (negsuc a) m = omega (arith, (parts_neg (pos (suc a * m))).0, (parts_neg (pos (suc a * m))).1)
 
 -- a multiple of g below another is below it by at least g
-multiples_apart : (t u : ℤ) (g : ℕ) → (u *ℤ pos g ≤ℤ t *ℤ pos g → ⊥) → t *ℤ pos g +ℤ pos g ≤ℤ u *ℤ pos g
+multiples_apart : (t u : ℤ) (g : ℕ) → (u *ℤ pos g ≤z t *ℤ pos g → ⊥) → t *ℤ pos g +ℤ pos g ≤z u *ℤ pos g
 multiples_apart t u g n = elim (dec_le (positive_part u + negative_part t) (positive_part t + negative_part u)) [
-  | yes l ↦ absurd (n (le_one integer_ring ◌≤ℤ◌ integer_order (u ∷ t ∷ pos g ∷ []) (v0 ⊗ v2) (v1 ⊗ v2) v2 v0 v1 tt (natural_nonnegative g)
+  | yes l ↦ absurd (n (le_one integer_ring ◌≤z◌ integer_order (u ∷ t ∷ pos g ∷ []) (v0 ⊗ v2) (v1 ⊗ v2) v2 v0 v1 tt (natural_nonnegative g)
       l))
-  | no k ↦ le_one integer_ring ◌≤ℤ◌ integer_order (t ∷ u ∷ pos g ∷ []) (v0 ⊗ v2 ⊕ v2) (v1 ⊗ v2) v2 (v0 ⊕ con (pos 1)) v1 tt
+  | no k ↦ le_one integer_ring ◌≤z◌ integer_order (t ∷ u ∷ pos g ∷ []) (v0 ⊗ v2 ⊕ v2) (v1 ⊗ v2) v2 (v0 ⊕ con (pos 1)) v1 tt
       (natural_nonnegative g) (next k)
 ]
   where
-    next : ¬ (u ≤ℤ t) → t +ℤ pos 1 ≤ℤ u
+    next : ¬ (u ≤z t) → t +ℤ pos 1 ≤z u
     next k = omega (arith, parts_add t (pos 1))
 
 -- ---- in fractions over the format's unit

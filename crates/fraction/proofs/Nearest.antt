@@ -12,7 +12,7 @@ use lib.Ieee.Scale.{finite}
 use lib.IntN.{◌*ℤ◌, ◌+ℤ◌, neg_ℤ, pos, ℤ}
 use lib.Pow.{pow_pos}
 use Rattle.fraction.specs.Fraction.{add_fractions}
-use Rattle.fraction.specs.Integer.{◌≤ℤ◌, integer_ring, parts_add, parts_neg, signed}
+use Rattle.fraction.specs.Integer.{◌≤z◌, integer_ring, parts_add, parts_neg, signed}
 use Rattle.fraction.specs.Magnitude.{magnitude}
 use Rattle.fraction.specs.Order.{le_two}
 use Rattle.fraction.specs.Rational.{◌+q◌, ◌-q◌, ◌<q◌, ◌≤q◌, absolute, at_mostq, negq, wholeq, ℚ, 𝟘}
@@ -30,7 +30,7 @@ use Rattle.fraction.proofs.Value.{Encoded, encoded, fraction_le, place_values_or
 -- ---- in whole numbers: n is z in the format's units, times z's denominator; R and M are the magnitudes of r and of another number, times
 -- it
 sum_le : (s t : Bool) (R M n : ℕ) → cond s (cond t (2 * n ≤ R + M) ⊥) (cond t (R ≤ 2 * n) (M + R ≤ 2 * n))
-    → signed t M +ℤ signed s R ≤ℤ signed s n +ℤ signed s n
+    → signed t M +ℤ signed s R ≤z signed s n +ℤ signed s n
 sum_le false false R M n h = omega (arith, parts_add (pos M) (pos R), parts_add (pos n) (pos n))
 sum_le false true R M n h = omega (
   arith,
@@ -56,7 +56,7 @@ sum_le true true R M n h =
     )
 
 sum_ge : (s t : Bool) (R M n : ℕ) → cond s (cond t (R + M ≤ 2 * n) (R ≤ 2 * n)) (cond t ⊥ (2 * n ≤ R + M))
-    → signed s n +ℤ signed s n ≤ℤ signed s R +ℤ signed t M
+    → signed s n +ℤ signed s n ≤z signed s R +ℤ signed t M
 sum_ge false false R M n h = omega (arith, parts_add (pos R) (pos M), parts_add (pos n) (pos n))
 sum_ge false true R M n h = absurd h
 sum_ge true false R M n h = omega (
@@ -111,7 +111,7 @@ module _ (f : Format) (r : Float) (t : Bool) (q : ℕ) (z : ℚ) (R : Rounded f 
       none zero g = subst (λ (x : ℕ). x * R.under ≤ 2 * (R.over * 2 ^ low f)) (sym (magnitude_zero (hid f) (hidden_pos f))) (omega arith)
       none (suc p) g = absurd (g (omega arith))
 
-  below_place : (s t : Bool) (q : ℕ) → (signed s at ≤ℤ signed t q → ⊥)
+  below_place : (s t : Bool) (q : ℕ) → (signed s at ≤z signed t q → ⊥)
       → cond s (cond t (2 * (R.over * 2 ^ low f) ≤ magnitude (hid f) at * R.under + magnitude (hid f) q * R.under) ⊥)
       (cond t (magnitude (hid f) at * R.under ≤ 2 * (R.over * 2 ^ low f)) (magnitude (hid f) q * R.under + magnitude (hid f) at *
       R.under ≤ 2 * (R.over * 2 ^ low f)))
@@ -124,7 +124,7 @@ module _ (f : Format) (r : Float) (t : Bool) (q : ℕ) (z : ℚ) (R : Rounded f 
         (n (omega (arith, (parts_neg (pos at)).0, (parts_neg (pos at)).1, (parts_neg (pos q)).0, (parts_neg (pos q)).1)))
   ])
 
-  above_place : (s t : Bool) (q : ℕ) → (signed t q ≤ℤ signed s at → ⊥)
+  above_place : (s t : Bool) (q : ℕ) → (signed t q ≤z signed s at → ⊥)
       → cond s (cond t (magnitude (hid f) at * R.under + magnitude (hid f) q * R.under ≤ 2 * (R.over * 2 ^ low f))
       (magnitude (hid f) at * R.under ≤ 2 * (R.over * 2 ^ low f)))
       (cond t ⊥ (2 * (R.over * 2 ^ low f) ≤ magnitude (hid f) at * R.under + magnitude (hid f) q * R.under))

@@ -10,7 +10,7 @@ use lib.Ieee.{Float, Format, hid, low, of_bits, ones, round, to_bits, top}
 use lib.Ieee.Scale.{finite, grid}
 use lib.IntN.{neg_ℤ, pos}
 use lib.Pow.{pow_pos}
-use Rattle.fraction.specs.Integer.{◌≤ℤ◌, signed}
+use Rattle.fraction.specs.Integer.{◌≤z◌, signed}
 use Rattle.fraction.specs.Magnitude.{magnitude}
 use Rattle.fraction.specs.NextNumber.{down_bits, next_down, next_up, up_bits}
 use Rattle.fraction.specs.Rational.{◌≤q◌, ℚ}
@@ -27,13 +27,13 @@ module _ (f : Format) (a c : ℕ) (C : 0 < c) where
   -- p is the place of a / c rounded, and p' a place that is no higher, both with their signs
   lower_go : (s' s : Bool) (p' p : ℕ) → a * 2 ^ low f ≤ magnitude (hid f) (suc p) * c → ((b : ℕ) → suc b ≡ p → magnitude (hid f) b * c ≤ a *
       2 ^ low f)
-      → p' < ones f * hid f → signed s' p' ≤ℤ signed s p → BoundsBelow (of_bits f (down_bits f (cond s' (top f) 0 + p')))
+      → p' < ones f * hid f → signed s' p' ≤z signed s p → BoundsBelow (of_bits f (down_bits f (cond s' (top f) 0 + p')))
       (fraction (signed s a) c C)
   lower_go true s p' p A W l o =
       subst (λ (x : ℕ). BoundsBelow (of_bits f x) (fraction (signed s a) c C)) (sym (down_negative f p' l))
       (bits_bound_below f (suc p') (fraction (signed s a) c C) l (go s o))
     where
-      go : (s : Bool) → signed true p' ≤ℤ signed s p → fraction (neg_ℤ (pos (magnitude (hid f) (suc p')))) (2 ^ low f) (pow_pos (low f)) ≤q
+      go : (s : Bool) → signed true p' ≤z signed s p → fraction (neg_ℤ (pos (magnitude (hid f) (suc p')))) (2 ^ low f) (pow_pos (low f)) ≤q
           fraction (signed s a) c C
       go false o = fraction_le (neg_ℤ (pos (magnitude (hid f) (suc p')))) (pos a) (2 ^ low f) c (pow_pos (low f)) C
           (negative_le_positive (magnitude (hid f) (suc p')) a (2 ^ low f) c)
@@ -49,7 +49,7 @@ module _ (f : Format) (a c : ℕ) (C : 0 < c) where
       one : (t : ℕ) → suc t ≡ t + 1
       one t = omega arith
 
-      go : (s : Bool) → signed false 0 ≤ℤ signed s p → fraction (neg_ℤ (pos (magnitude (hid f) 1))) (2 ^ low f) (pow_pos (low f)) ≤q fraction
+      go : (s : Bool) → signed false 0 ≤z signed s p → fraction (neg_ℤ (pos (magnitude (hid f) 1))) (2 ^ low f) (pow_pos (low f)) ≤q fraction
           (signed s a) c C
       go false o = fraction_le (neg_ℤ (pos (magnitude (hid f) 1))) (pos a) (2 ^ low f) c (pow_pos (low f)) C
           (negative_le_positive (magnitude (hid f) 1) a (2 ^ low f) c)
@@ -69,7 +69,7 @@ module _ (f : Format) (a c : ℕ) (C : 0 < c) where
       never : suc b ≡ 0 → ⊥
       never e = omega arith
 
-      go : (s : Bool) → signed false (suc b) ≤ℤ signed s p → BoundsBelow (of_bits f (0 + b)) (fraction (signed s a) c C)
+      go : (s : Bool) → signed false (suc b) ≤z signed s p → BoundsBelow (of_bits f (0 + b)) (fraction (signed s a) c C)
       go false o =
           let k = signed_order false false (suc b) p o in
           bounds_below_of (of_bits f (0 + b)) false (magnitude (hid f) b) (2 ^ low f) (pow_pos (low f)) (fraction (pos a) c C)
@@ -80,14 +80,14 @@ module _ (f : Format) (a c : ℕ) (C : 0 < c) where
 
   upper_go : (s' s : Bool) (p' p : ℕ) → a * 2 ^ low f ≤ magnitude (hid f) (suc p) * c → ((b : ℕ) → suc b ≡ p → magnitude (hid f) b * c ≤ a *
       2 ^ low f)
-      → p' < ones f * hid f → signed s p ≤ℤ signed s' p' → BoundsAbove (of_bits f (up_bits f (cond s' (top f) 0 + p')))
+      → p' < ones f * hid f → signed s p ≤z signed s' p' → BoundsAbove (of_bits f (up_bits f (cond s' (top f) 0 + p')))
       (fraction (signed s a) c C)
   upper_go false s p' p A W l o =
       subst (λ (x : ℕ). BoundsAbove (of_bits f x) (fraction (signed s a) c C))
       (sym (ap (up_bits f) (zero-add p') ∙ up_positive f p' l ∙ sym (zero-add (suc p'))))
       (bits_bound_above f (suc p') (fraction (signed s a) c C) l (go s o))
     where
-      go : (s : Bool) → signed s p ≤ℤ signed false p' → fraction (signed s a) c C ≤q fraction (pos (magnitude (hid f) (suc p'))) (2 ^ low f)
+      go : (s : Bool) → signed s p ≤z signed false p' → fraction (signed s a) c C ≤q fraction (pos (magnitude (hid f) (suc p'))) (2 ^ low f)
           (pow_pos (low f))
       go false o = fraction_le (pos a) (pos (magnitude (hid f) (suc p'))) c (2 ^ low f) C (pow_pos (low f))
           (omega (
@@ -103,7 +103,7 @@ module _ (f : Format) (a c : ℕ) (C : 0 < c) where
       (sym (ap (up_bits f) (add-zero (top f)) ∙ up_when_minus_zero f (top f) refl)) (bits_bound_above f 1 (fraction (signed s a) c C) l
       (go s o))
     where
-      go : (s : Bool) → signed s p ≤ℤ signed true 0 → fraction (signed s a) c C ≤q fraction (pos (magnitude (hid f) 1)) (2 ^ low f)
+      go : (s : Bool) → signed s p ≤z signed true 0 → fraction (signed s a) c C ≤q fraction (pos (magnitude (hid f) 1)) (2 ^ low f)
           (pow_pos (low f))
       go false o = fraction_le (pos a) (pos (magnitude (hid f) 1)) c (2 ^ low f) C (pow_pos (low f))
           (omega (arith, subst (λ (z : ℕ). a * 2 ^ low f ≤ magnitude (hid f) (suc z) * c) (signed_order false true p 0 o).0 A))
@@ -121,7 +121,7 @@ module _ (f : Format) (a c : ℕ) (C : 0 < c) where
       never : suc b ≡ 0 → ⊥
       never e = omega arith
 
-      go : (s : Bool) → signed s p ≤ℤ signed true (suc b) → BoundsAbove (of_bits f (top f + b)) (fraction (signed s a) c C)
+      go : (s : Bool) → signed s p ≤z signed true (suc b) → BoundsAbove (of_bits f (top f + b)) (fraction (signed s a) c C)
       go false o = absurd (never (signed_order false true p (suc b) o).1)
       go true o =
           let k = signed_order true true p (suc b) o in
@@ -155,7 +155,7 @@ lowest_below f w r z S R W F h =
     let s = R.sign in
     let F' : T (finite (round f s R.over R.under)) = subst (λ (x : Float). T (finite x)) R.rounds F in
     let p = place f s R.over R.under R.positive F' in
-    let o : signed S.sign S.place ≤ℤ signed s p = place_order (hid f) (hidden_pos f) S.sign s S.place p
+    let o : signed S.sign S.place ≤z signed s p = place_order (hid f) (hidden_pos f) S.sign s S.place p
     (fraction_back (signed S.sign (magnitude (hid f) S.place)) (signed s (magnitude (hid f) p)) (2 ^ low f) (pow_pos (low f))
     (subst (λ (x : ℚ). x ≤q fraction (signed s (magnitude (hid f) p)) (2 ^ low f) (pow_pos (low f))) S.exact
     (subst (λ (x : ℚ). value w ≤q x) (rounded_encoded f r z R F).exact h))) in
@@ -170,7 +170,7 @@ highest_above f w r z S R W F h =
     let s = R.sign in
     let F' : T (finite (round f s R.over R.under)) = subst (λ (x : Float). T (finite x)) R.rounds F in
     let p = place f s R.over R.under R.positive F' in
-    let o : signed s p ≤ℤ signed S.sign S.place = place_order (hid f) (hidden_pos f) s S.sign p S.place
+    let o : signed s p ≤z signed S.sign S.place = place_order (hid f) (hidden_pos f) s S.sign p S.place
     (fraction_back (signed s (magnitude (hid f) p)) (signed S.sign (magnitude (hid f) S.place)) (2 ^ low f) (pow_pos (low f))
     (subst (λ (x : ℚ). fraction (signed s (magnitude (hid f) p)) (2 ^ low f) (pow_pos (low f)) ≤q x) S.exact
     (subst (λ (x : ℚ). x ≤q value w) (rounded_encoded f r z R F).exact h))) in

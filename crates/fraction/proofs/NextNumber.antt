@@ -15,7 +15,7 @@ use lib.Ieee.Fits.{eq→eqb, two}
 use lib.Ieee.Scale.{finite}
 use lib.IntN.{neg_ℤ, pos}
 use lib.Pow.{pow_mono, pow_pos}
-use Rattle.fraction.specs.Integer.{◌≤ℤ◌, parts_neg, signed}
+use Rattle.fraction.specs.Integer.{◌≤z◌, parts_neg, signed}
 use Rattle.fraction.specs.Magnitude.{magnitude}
 use Rattle.fraction.specs.NextNumber.{down_bits, next_down, next_up, up_bits}
 use Rattle.fraction.specs.Rational.{◌<q◌}
@@ -361,7 +361,7 @@ module _ (f : Format) where
       rw (next_up_finite x F, X.bits, W.exact) (go X.sign W.sign X.place W.place X.below_infinity W.below_infinity
       (places_order f x w X W l))
     where
-      at_place : (s t : Bool) (p q : ℕ) → p < ones f * hid f → signed s p ≤ℤ signed t q
+      at_place : (s t : Bool) (p q : ℕ) → p < ones f * hid f → signed s p ≤z signed t q
           → BoundsBelow (of_bits f (cond s (top f) 0 + p)) (fraction (signed t (magnitude (hid f) q)) (2 ^ low f) (pow_pos (low f)))
       at_place s t p q i o =
           bounds_below_of (of_bits f (cond s (top f) 0 + p)) s (magnitude (hid f) p) (2 ^ low f) (pow_pos (low f))
@@ -369,7 +369,7 @@ module _ (f : Format) where
           (fraction_same_le (signed s (magnitude (hid f) p)) (signed t (magnitude (hid f) q)) (2 ^ low f) (pow_pos (low f))
           (magnitudes_order (hid f) (hidden_pos f) s t p q o))
 
-      go : (s t : Bool) (p q : ℕ) → p < ones f * hid f → q < ones f * hid f → (signed t q ≤ℤ signed s p → ⊥)
+      go : (s t : Bool) (p q : ℕ) → p < ones f * hid f → q < ones f * hid f → (signed t q ≤z signed s p → ⊥)
           → BoundsBelow (of_bits f (up_bits f (cond s (top f) 0 + p))) (fraction (signed t (magnitude (hid f) q)) (2 ^ low f)
           (pow_pos (low f)))
       go false false p q i j n =
@@ -377,7 +377,7 @@ module _ (f : Format) where
           (sym (ap (up_bits f) (zero-add p) ∙ up_positive p i ∙ sym (zero-add (suc p))))
           (at_place false false (suc p) q (lt_of_le_of_lt (above n) j) (omega (arith, above n)))
         where
-          above : (pos q ≤ℤ pos p → ⊥) → suc p ≤ q
+          above : (pos q ≤z pos p → ⊥) → suc p ≤ q
           above n = elim (dec_le (suc p) q) [ yes l ↦ l | no g ↦ absurd (n (omega arith)) ]
       go false true p q i j n = absurd (n (omega (arith, (parts_neg (pos q)).0, (parts_neg (pos q)).1)))
       go true true zero q i j n = absurd (n (omega (arith, (parts_neg (pos q)).0, (parts_neg (pos q)).1)))
@@ -386,7 +386,7 @@ module _ (f : Format) where
           (sym (ap (up_bits f) (add-zero (top f)) ∙ up_when_minus_zero (top f) refl))
           (at_place false false 1 q (lt_of_le_of_lt (above n) j) (omega (arith, above n)))
         where
-          above : (pos q ≤ℤ neg_ℤ (pos 0) → ⊥) → 1 ≤ q
+          above : (pos q ≤z neg_ℤ (pos 0) → ⊥) → 1 ≤ q
           above n = elim (dec_le 1 q) [ yes l ↦ l | no g ↦ absurd (n (omega arith)) ]
       go true false (suc b) q i j n =
           subst (λ (z : ℕ). BoundsBelow (of_bits f z) (fraction (pos (magnitude (hid f) q)) (2 ^ low f) (pow_pos (low f))))
@@ -398,7 +398,7 @@ module _ (f : Format) where
           (at_place true true b q (le_trans (le-suc (suc b)) i)
           (omega (arith, within n, (parts_neg (pos b)).0, (parts_neg (pos b)).1, (parts_neg (pos q)).0, (parts_neg (pos q)).1)))
         where
-          within : (neg_ℤ (pos q) ≤ℤ neg_ℤ (pos (suc b)) → ⊥) → q ≤ b
+          within : (neg_ℤ (pos q) ≤z neg_ℤ (pos (suc b)) → ⊥) → q ≤ b
           within n = elim (dec_le q b) [
             | yes l ↦ l
             | no g ↦ absurd
@@ -414,7 +414,7 @@ module _ (f : Format) where
       rw (next_down_finite x F, X.bits, W.exact) (go X.sign W.sign X.place W.place X.below_infinity W.below_infinity
       (places_order f w x W X l))
     where
-      at_place : (s t : Bool) (p q : ℕ) → p < ones f * hid f → signed t q ≤ℤ signed s p
+      at_place : (s t : Bool) (p q : ℕ) → p < ones f * hid f → signed t q ≤z signed s p
           → BoundsAbove (of_bits f (cond s (top f) 0 + p)) (fraction (signed t (magnitude (hid f) q)) (2 ^ low f) (pow_pos (low f)))
       at_place s t p q i o =
           bounds_above_of (of_bits f (cond s (top f) 0 + p)) s (magnitude (hid f) p) (2 ^ low f) (pow_pos (low f))
@@ -422,7 +422,7 @@ module _ (f : Format) where
           (fraction_same_le (signed t (magnitude (hid f) q)) (signed s (magnitude (hid f) p)) (2 ^ low f) (pow_pos (low f))
           (magnitudes_order (hid f) (hidden_pos f) t s q p o))
 
-      go : (s t : Bool) (p q : ℕ) → p < ones f * hid f → q < ones f * hid f → (signed s p ≤ℤ signed t q → ⊥)
+      go : (s t : Bool) (p q : ℕ) → p < ones f * hid f → q < ones f * hid f → (signed s p ≤z signed t q → ⊥)
           → BoundsAbove (of_bits f (down_bits f (cond s (top f) 0 + p))) (fraction (signed t (magnitude (hid f) q)) (2 ^ low f)
           (pow_pos (low f)))
       go true true p q i j n =
@@ -431,7 +431,7 @@ module _ (f : Format) where
           (at_place true true (suc p) q (lt_of_le_of_lt (above n) j)
           (omega (arith, above n, (parts_neg (pos q)).0, (parts_neg (pos q)).1, (parts_neg (pos (suc p))).0, (parts_neg (pos (suc p))).1)))
         where
-          above : (neg_ℤ (pos p) ≤ℤ neg_ℤ (pos q) → ⊥) → suc p ≤ q
+          above : (neg_ℤ (pos p) ≤z neg_ℤ (pos q) → ⊥) → suc p ≤ q
           above n = elim (dec_le (suc p) q) [
             | yes l ↦ l
             | no g ↦ absurd
@@ -444,7 +444,7 @@ module _ (f : Format) where
           (sym (down_when_plus_zero (0 + 0) refl ∙ suc_one (top f)))
           (at_place true true 1 q (lt_of_le_of_lt (above n) j) (omega (arith, above n, (parts_neg (pos q)).0, (parts_neg (pos q)).1)))
         where
-          above : (pos 0 ≤ℤ neg_ℤ (pos q) → ⊥) → 1 ≤ q
+          above : (pos 0 ≤z neg_ℤ (pos q) → ⊥) → 1 ≤ q
           above n = elim (dec_le 1 q) [ yes l ↦ l | no g ↦ absurd (n (omega (arith, (parts_neg (pos q)).0, (parts_neg (pos q)).1))) ]
       go false true (suc b) q i j n =
           subst (λ (z : ℕ). BoundsAbove (of_bits f z) (fraction (neg_ℤ (pos (magnitude (hid f) q))) (2 ^ low f) (pow_pos (low f))))
@@ -455,5 +455,5 @@ module _ (f : Format) where
           (sym (ap (down_bits f) (zero-add (suc b)) ∙ down_positive b (finite_below_sign f i) ∙ sym (zero-add b)))
           (at_place false false b q (le_trans (le-suc (suc b)) i) (omega (arith, within n)))
         where
-          within : (pos (suc b) ≤ℤ pos q → ⊥) → q ≤ b
+          within : (pos (suc b) ≤z pos q → ⊥) → q ≤ b
           within n = elim (dec_le q b) [ yes l ↦ l | no g ↦ absurd (n (omega arith)) ]

@@ -6,12 +6,12 @@ use mathlib.Core.Logic.{◌⊎◌, inl, inr}
 use mathlib.Core.Path.{◌≡◌, refl, subst, sym}
 use std.Quotient.{/_elim_prop, /_elim_prop₂, /_elim_prop₃, /_set, IsEquivRel, cls, effective, eq/}
 use Prim.Native.Nat.{◌*◌, ℕ}
-use native.Mathlib.Nat.{le_of_lt, le_refl, le_trans}
+use native.Mathlib.Nat.{le_of_lt}
 use native.Mathlib.Omega.{arith}
 use lib.Dec.{T, T_not, T_prop, nleb→lt}
 use lib.IntN.{◌*ℤ◌, pos, ℤ_set}
 use Rattle.fraction.specs.Fraction.{Fraction, ◌≈◌, ◌≤f◌, add_fractions, fraction_at_most, multiply_fractions, whole_fraction}
-use Rattle.fraction.specs.Integer.{◌≤ℤ◌, equal_by_parts, integer_order, integer_ring}
+use Rattle.fraction.specs.Integer.{◌≤z◌, equal_by_parts, integer_order, integer_ring}
 use Rattle.fraction.specs.Order.{OrderedRing, le_one, le_prod}
 use Rattle.fraction.specs.Rational.{Above, ◌*q◌, ◌+q◌, ◌-q◌, ◌<q◌, ◌≤q◌, absolute, at_mostq, negq, wholeq, ℚ, 𝟘}
 use Rattle.fraction.specs.RationalRing.{rational_ring}
@@ -30,7 +30,7 @@ equal_means_≈ = effective ≈-prop ≈-equivalence
 
 ≤f-add : (a b c : Fraction) → a ≤f b → add_fractions a c ≤f add_fractions b c
 ≤f-add a b c h =
-    le_one integer_ring ◌≤ℤ◌ integer_order (a.numerator ∷ b.numerator ∷ c.numerator ∷ pos a.denominator ∷ pos b.denominator ∷ pos
+    le_one integer_ring ◌≤z◌ integer_order (a.numerator ∷ b.numerator ∷ c.numerator ∷ pos a.denominator ∷ pos b.denominator ∷ pos
     c.denominator ∷ [])
     ((v0 ⊗ v5 ⊕ v2 ⊗ v3) ⊗ (v4 ⊗ v5)) ((v1 ⊗ v5 ⊕ v2 ⊗ v4) ⊗ (v3 ⊗ v5)) (v5 ⊗ v5) (v0 ⊗ v4) (v1 ⊗ v3) tt
     (natural_nonnegative (c.denominator * c.denominator)) h
@@ -38,7 +38,7 @@ equal_means_≈ = effective ≈-prop ≈-equivalence
 nonnegative_mul_fractions : (a b : Fraction) → whole_fraction (pos 0) ≤f a → whole_fraction (pos 0) ≤f b
     → whole_fraction (pos 0) ≤f multiply_fractions a b
 nonnegative_mul_fractions a b h k =
-    le_prod integer_ring ◌≤ℤ◌ integer_order (a.numerator ∷ b.numerator ∷ pos a.denominator ∷ pos b.denominator ∷ [])
+    le_prod integer_ring ◌≤z◌ integer_order (a.numerator ∷ b.numerator ∷ pos a.denominator ∷ pos b.denominator ∷ [])
     (con (pos 0) ⊗ (v2 ⊗ v3)) (v0 ⊗ v1 ⊗ con (pos 1))
     (con (pos 0) ⊗ v2) (v0 ⊗ con (pos 1)) (con (pos 0) ⊗ v3) (v1 ⊗ con (pos 1)) tt h k
 

@@ -14,7 +14,7 @@ use lib.Ieee.Positive.{positive}
 use lib.Ieee.Scale.{finite, overflow}
 use lib.IntN.{*ℤ_comm, +ℤ_comm, ◌*ℤ◌, ◌+ℤ◌, neg_ℤ, pos, ℤ}
 use lib.Pow.{pow_pos}
-use Rattle.fraction.specs.Integer.{◌≤ℤ◌, equal_by_parts, integer_ring, negative_part, parts_add, parts_neg, positive_part, signed}
+use Rattle.fraction.specs.Integer.{◌≤z◌, equal_by_parts, integer_ring, negative_part, parts_add, parts_neg, positive_part, signed}
 use Rattle.fraction.specs.Rational.{Above, ◌*q◌, ◌+q◌, ◌/q◌, at_mostq, negq, ℚ, 𝟘}
 use Rattle.fraction.specs.Ring.{◌⊗◌, opposite, solve, v0, v1}
 use Rattle.fraction.specs.Rounding.{Rounded, nonzero}
@@ -162,7 +162,7 @@ nonzero_of_above nan F A = absurd F
 nonzero_of_above (inf s) F A = absurd F
 nonzero_of_above (fin s m e) F A = go (eqb m 0) (eqb→eq m 0)
   where
-    none : (s : Bool) → m ≡ 0 → signed s (m * up e * 1) ≤ℤ pos (0 * down e)
+    none : (s : Bool) → m ≡ 0 → signed s (m * up e * 1) ≤z pos (0 * down e)
     none false h = omega (arith, ap (λ (z : ℕ). z * up e) h)
     none true h = omega (arith, (parts_neg (pos (m * up e * 1))).0, (parts_neg (pos (m * up e * 1))).1)
 

@@ -17,7 +17,7 @@ use lib.IntN.{◌+ℤ◌, neg_ℤ, pos}
 use lib.Pow.{pow_mono, pow_pos}
 use Rattle.fraction.specs.DirectedSum.{downward_sum, is_above, plain_zero}
 use Rattle.fraction.specs.Fraction.{whole_fraction}
-use Rattle.fraction.specs.Integer.{◌≤ℤ◌, parts_add, parts_neg, signed}
+use Rattle.fraction.specs.Integer.{◌≤z◌, parts_add, parts_neg, signed}
 use Rattle.fraction.specs.Magnitude.{magnitude}
 use Rattle.fraction.specs.NextNumber.{next_down}
 use Rattle.fraction.specs.Order.{le_one, le_two}
@@ -63,7 +63,7 @@ pub record Next (f : Format) (j : ℕ) (x : ℚ) (w : ℚ) : Type 0 where
   pub after : x <q w
   pub within : w ≤q x +q unit f j
 
-next_of : (f : Format) (j : ℕ) (s t : Bool) (M N : ℕ) → (signed t N ≤ℤ signed s M → ⊥) → signed t N ≤ℤ signed s M +ℤ pos (2 ^ j)
+next_of : (f : Format) (j : ℕ) (s t : Bool) (M N : ℕ) → (signed t N ≤z signed s M → ⊥) → signed t N ≤z signed s M +ℤ pos (2 ^ j)
     → Next f j (fraction (signed s M) (2 ^ low f) (pow_pos (low f))) (fraction (signed t N) (2 ^ low f) (pow_pos (low f)))
 next_of f j s t M N a w = record {
   after = not_T (at_mostq (fraction (signed t N) (2 ^ low f) (pow_pos (low f))) (fraction (signed s M) (2 ^ low f) (pow_pos (low f))))

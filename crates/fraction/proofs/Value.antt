@@ -17,7 +17,7 @@ use lib.Ieee.Fits.{down_pos}
 use lib.Ieee.Scale.{finite}
 use lib.IntN.{◌*ℤ◌, neg_ℤ, neg_ℤ-neg_ℤ, pos, ℤ}
 use lib.Pow.{pow_pos}
-use Rattle.fraction.specs.Integer.{◌≤ℤ◌, integer_order, integer_ring, parts_neg, signed}
+use Rattle.fraction.specs.Integer.{◌≤z◌, integer_order, integer_ring, parts_neg, signed}
 use Rattle.fraction.specs.Magnitude.{magnitude}
 use Rattle.fraction.specs.Order.{le_one}
 use Rattle.fraction.specs.Rational.{Above, ◌<q◌, ◌≤q◌, at_mostq, negq, ℚ}
@@ -43,7 +43,7 @@ value_is (fin t m e) s a c C v =
     ∙ sym (signed_mul s a (down e)))
 
 -- the order of two signed fractions
-pub fraction_le : (x y : ℤ) (c d : ℕ) (C : 0 < c) (D : 0 < d) → x *ℤ pos d ≤ℤ y *ℤ pos c → fraction x c C ≤q fraction y d D
+pub fraction_le : (x y : ℤ) (c d : ℕ) (C : 0 < c) (D : 0 < d) → x *ℤ pos d ≤z y *ℤ pos c → fraction x c C ≤q fraction y d D
 unfolding at_mostq
 fraction_le x y c d C D h = fraction_test (record { numerator = x; denominator = c; positive = C })
     (record { numerator = y; denominator = d; positive = D }) h
@@ -63,11 +63,11 @@ bounds_below_of (inf t) s a c C z v h = absurd v
 bounds_below_of (fin t m e) s a c C z v h = subst (λ (w : ℚ). w ≤q z) (sym (value_is (fin t m e) s a c C v)) h
 
 -- -x / c ≤ -y / d where y / d ≤ x / c; and -x / c ≤ y / d
-pub negative_le : (x y c d : ℕ) → y * c ≤ x * d → neg_ℤ (pos x) *ℤ pos d ≤ℤ neg_ℤ (pos y) *ℤ pos c
+pub negative_le : (x y c d : ℕ) → y * c ≤ x * d → neg_ℤ (pos x) *ℤ pos d ≤z neg_ℤ (pos y) *ℤ pos c
 negative_le x y c d h = rw (signed_mul true x d, signed_mul true y c)
     (omega (arith, (parts_neg (pos (x * d))).0, (parts_neg (pos (x * d))).1, (parts_neg (pos (y * c))).0, (parts_neg (pos (y * c))).1))
 
-pub negative_le_positive : (x y c d : ℕ) → neg_ℤ (pos x) *ℤ pos d ≤ℤ pos y *ℤ pos c
+pub negative_le_positive : (x y c d : ℕ) → neg_ℤ (pos x) *ℤ pos d ≤z pos y *ℤ pos c
 negative_le_positive x y c d = rw (signed_mul true x d) (omega (arith, (parts_neg (pos (x * d))).0, (parts_neg (pos (x * d))).1))
 
 -- the pattern of sign s and place b reads as a bound for z from above, if its value is one or b is the place of the infinity
@@ -88,7 +88,7 @@ bits_bound_below f b z l h = elim (eq-or-lt_of_le l) [
 ]
 
 -- what the order of two signed numbers says of their sizes
-pub signed_order : (s t : Bool) (a b : ℕ) → signed s a ≤ℤ signed t b → cond s (cond t (b ≤ a) (Unit {0}))
+pub signed_order : (s t : Bool) (a b : ℕ) → signed s a ≤z signed t b → cond s (cond t (b ≤ a) (Unit {0}))
     (cond t ((a ≡ 0) × (b ≡ 0)) (a ≤ b))
 signed_order false false a b h = omega arith
 signed_order true false a b h = tt
@@ -100,13 +100,13 @@ signed_order false true a b h = (
 )
 
 -- fractions of one denominator are in the order of their numerators
-pub fraction_back : (x y : ℤ) (c : ℕ) (C : 0 < c) → fraction x c C ≤q fraction y c C → x ≤ℤ y
+pub fraction_back : (x y : ℤ) (c : ℕ) (C : 0 < c) → fraction x c C ≤q fraction y c C → x ≤z y
 unfolding at_mostq
 fraction_back x y c C h = cancel_le x y c C (fraction_at_most_law (record { numerator = x; denominator = c; positive = C })
     (record { numerator = y; denominator = c; positive = C }) h)
 
 -- the places are in the order of the magnitudes
-pub place_order : (h : ℕ) → 0 < h → (s t : Bool) (a b : ℕ) → signed s (magnitude h a) ≤ℤ signed t (magnitude h b) → signed s a ≤ℤ signed t b
+pub place_order : (h : ℕ) → 0 < h → (s t : Bool) (a b : ℕ) → signed s (magnitude h a) ≤z signed t (magnitude h b) → signed s a ≤z signed t b
 place_order h H false false a b o = omega (arith, magnitude_back h a b H (signed_order false false (magnitude h a) (magnitude h b) o))
 place_order h H true false a b o = omega (arith, (parts_neg (pos a)).0, (parts_neg (pos a)).1)
 place_order h H true true a b o = omega (
@@ -131,8 +131,8 @@ place_order h H false true a b o = omega (
     none x e = magnitude_back h x 0 H (le_trans (le_of_eq e) zero-le)
 
 -- the magnitudes are in the order of the places
-pub magnitudes_order : (h : ℕ) → 0 < h → (s t : Bool) (a b : ℕ) → signed s a ≤ℤ signed t b
-    → signed s (magnitude h a) ≤ℤ signed t (magnitude h b)
+pub magnitudes_order : (h : ℕ) → 0 < h → (s t : Bool) (a b : ℕ) → signed s a ≤z signed t b
+    → signed s (magnitude h a) ≤z signed t (magnitude h b)
 magnitudes_order h H false false a b o = omega (arith, magnitude_mono h a b H (signed_order false false a b o))
 magnitudes_order h H true false a b o = omega (arith, (parts_neg (pos (magnitude h a))).0, (parts_neg (pos (magnitude h a))).1)
 magnitudes_order h H true true a b o = omega (
@@ -156,9 +156,9 @@ magnitudes_order h H false true a b o = omega (
     none x e = subst (λ (z : ℕ). magnitude h z ≤ 0) (sym e) (le_of_eq (magnitude_zero h H))
 
 -- fractions of one denominator
-pub fraction_same_le : (x y : ℤ) (c : ℕ) (C : 0 < c) → x ≤ℤ y → fraction x c C ≤q fraction y c C
+pub fraction_same_le : (x y : ℤ) (c : ℕ) (C : 0 < c) → x ≤z y → fraction x c C ≤q fraction y c C
 fraction_same_le x y c C h =
-    fraction_le x y c c C C (le_one integer_ring ◌≤ℤ◌ integer_order (x ∷ y ∷ pos c ∷ []) (v0 ⊗ v2) (v1 ⊗ v2) v2 v0 v1 tt
+    fraction_le x y c c C C (le_one integer_ring ◌≤z◌ integer_order (x ∷ y ∷ pos c ∷ []) (v0 ⊗ v2) (v1 ⊗ v2) v2 v0 v1 tt
     (natural_nonnegative c) h)
 
 -- the value of -y
@@ -187,7 +187,7 @@ value_le_of_not_lt (fin s m e) (fin u n d) X Y t = fraction_le (signed s (m * up
     (down_pos d) (rw (signed_mul s (m * up e) (down d), signed_mul u (n * up d) (down e)) (go s u (m * up e * down d) (n * up d * down e)
     t))
   where
-    go : (s u : Bool) (a b : ℕ) → T (not (below u b s a)) → signed s a ≤ℤ signed u b
+    go : (s u : Bool) (a b : ℕ) → T (not (below u b s a)) → signed s a ≤z signed u b
     go false false a b t = omega (arith, nltb→le b a t)
     go false true a b t = omega (arith, nltb→le 0 (b + a) t, (parts_neg (pos b)).0, (parts_neg (pos b)).1)
     go true false a b t = omega (arith, (parts_neg (pos a)).0, (parts_neg (pos a)).1)
@@ -212,7 +212,7 @@ value_le_of_lt (fin s m e) (fin u n d) X Y t = fraction_le (signed s (m * up e))
     (down_pos d) (rw (signed_mul s (m * up e) (down d), signed_mul u (n * up d) (down e)) (go s u (m * up e * down d) (n * up d * down e)
     t))
   where
-    go : (s u : Bool) (a b : ℕ) → T (below s a u b) → signed s a ≤ℤ signed u b
+    go : (s u : Bool) (a b : ℕ) → T (below s a u b) → signed s a ≤z signed u b
     go false false a b t = omega (arith, ltb→lt a b t)
     go false true a b t = absurd t
     go true false a b t = omega (arith, (parts_neg (pos a)).0, (parts_neg (pos a)).1)
@@ -325,11 +325,11 @@ absolute_float_law (fin s m e) F = (
   fraction_same_le (signed s (m * up e)) (pos (m * up e)) (down e) (down_pos e) (upper s (m * up e)),
 )
   where
-    lower : (s : Bool) (a : ℕ) → neg_ℤ (pos a) ≤ℤ signed s a
+    lower : (s : Bool) (a : ℕ) → neg_ℤ (pos a) ≤z signed s a
     lower false a = omega (arith, (parts_neg (pos a)).0, (parts_neg (pos a)).1)
     lower true a = omega arith
 
-    upper : (s : Bool) (a : ℕ) → signed s a ≤ℤ pos a
+    upper : (s : Bool) (a : ℕ) → signed s a ≤z pos a
     upper false a = omega arith
     upper true a = omega (arith, (parts_neg (pos a)).0, (parts_neg (pos a)).1)
 
@@ -338,7 +338,7 @@ abbrev pub place_value : Format → Bool → ℕ → ℚ
 place_value f s p = fraction (signed s (magnitude (hid f) p)) (2 ^ low f) (pow_pos (low f))
 
 -- the order of these values is that of the signed places: if one is below another, the other's place is not at or below its own
-pub place_values_order : (f : Format) (s t : Bool) (p q : ℕ) → place_value f s p <q place_value f t q → signed t q ≤ℤ signed s p → ⊥
+pub place_values_order : (f : Format) (s t : Bool) (p q : ℕ) → place_value f s p <q place_value f t q → signed t q ≤z signed s p → ⊥
 place_values_order f s t p q l o =
     T_not (at_mostq (place_value f t q) (place_value f s p)) l
     (fraction_same_le (signed t (magnitude (hid f) q)) (signed s (magnitude (hid f) p)) (2 ^ low f) (pow_pos (low f))
@@ -346,5 +346,5 @@ place_values_order f s t p q l o =
 
 -- and so of two floats
 pub places_order : (f : Format) (x w : Float) (X : Encoded f x) (W : Encoded f w) → value x <q value w
-    → signed W.sign W.place ≤ℤ signed X.sign X.place → ⊥
+    → signed W.sign W.place ≤z signed X.sign X.place → ⊥
 places_order f x w X W l o = place_values_order f X.sign W.sign X.place W.place (rw (X.exact, W.exact) at l) o

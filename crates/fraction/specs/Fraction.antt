@@ -2,7 +2,7 @@
 -- theorems can be stated on these; they are proved in ℚ (Rational), where equal fractions are equal.
 use Rattle.std.specs.Prelude.{Bool, ◌≡◌, ◌*◌, ◌+◌, ◌<◌, suc, zero, ℕ, leb, ◌*ℤ◌, ◌+ℤ◌, negsuc, neg_ℤ, pos, ℤ}
 use Rattle.std.proofs.Common.{mul-pos, arith}
-use Rattle.fraction.specs.Integer.{◌≤ℤ◌, negative_part, positive_part}
+use Rattle.fraction.specs.Integer.{◌≤z◌, negative_part, positive_part}
 
 -- a whole number over a whole number above 0
 pub record Fraction : Type 0 where
@@ -17,7 +17,7 @@ x ≈ y = x.numerator *ℤ pos y.denominator ≡ y.numerator *ℤ pos x.denomina
 
 -- a / c ≤ b / d where a * d ≤ b * c
 abbrev pub ◌≤f◌ : Fraction → Fraction → Type 0
-x ≤f y = x.numerator *ℤ pos y.denominator ≤ℤ y.numerator *ℤ pos x.denominator
+x ≤f y = x.numerator *ℤ pos y.denominator ≤z y.numerator *ℤ pos x.denominator
 
 -- the same, as a test
 abbrev pub fraction_at_most : Fraction → Fraction → Bool

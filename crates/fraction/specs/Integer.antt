@@ -2,8 +2,7 @@
 -- ℤ as an ordered commutative ring. An integer is its positive part less its negative part, of which one is 0, and each law is one of ℕ.
 -- The laws stand here, and not in proofs/, since the definition of the operations and the order on ℚ (Rational) needs them.
 use Rattle.std.specs.Prelude.{Bool, cond, false, not, true, ◌≡◌, refl, ◌*◌, ◌+◌, ◌-◌, ◌<◌, ◌≤◌, suc, zero, ℕ, T, ltb, ◌*ℤ◌, ◌+ℤ◌, negsuc, neg_ℤ, pos, ℤ}
-use Rattle.std.proofs.Common.{ap, add_assoc, add_comm, add-zero, le_refl, le_trans, mul_assoc, mul_comm, mul-one, arith, ltb→lt, nltb→le}
-use Rattle.std.specs.Float.Ieee.{add, mul, neg}
+use Rattle.std.proofs.Common.{ap, arith, ltb→lt, nltb→le}
 use Rattle.std.proofs.Math.IntN.{*ℤ_comm, *ℤ-one, *ℤ-zero, +ℤ_assoc, +ℤ_comm, +ℤ_idr, one, sub_ℕ}
 use Rattle.fraction.specs.Order.{OrderedRing}
 use Rattle.fraction.specs.Ring.{CommutativeRing}
@@ -60,9 +59,9 @@ parts_mul (negsuc a) (pos b) = omega (arith, (parts_neg (pos (suc a * b))).0, (p
 parts_mul (negsuc a) (negsuc b) = omega arith
 
 -- a ≤ b, with nothing subtracted
-infix 4 ◌≤ℤ◌
-abbrev pub ◌≤ℤ◌ : ℤ → ℤ → Type 0
-a ≤ℤ b = positive_part a + negative_part b ≤ positive_part b + negative_part a
+infix 4 ◌≤z◌
+abbrev pub ◌≤z◌ : ℤ → ℤ → Type 0
+a ≤z b = positive_part a + negative_part b ≤ positive_part b + negative_part a
 
 -- n, with a sign: -n where s is true
 abbrev pub signed : Bool → ℕ → ℤ
@@ -125,7 +124,7 @@ integer_ring = record {
   of_mul = λ x y. refl;
 }
 
-≤ℤ-mul : (a b : ℤ) → pos 0 ≤ℤ a → pos 0 ≤ℤ b → pos 0 ≤ℤ a *ℤ b
+≤ℤ-mul : (a b : ℤ) → pos 0 ≤z a → pos 0 ≤z b → pos 0 ≤z a *ℤ b
 ≤ℤ-mul (pos a) (pos b) h k = omega arith
 ≤ℤ-mul (pos a) (negsuc b) h k = absurd (bad k)
   where
@@ -137,7 +136,7 @@ integer_ring = record {
     bad x = omega arith
 
 -- the integers as an ordered ring
-pub integer_order : OrderedRing integer_ring ◌≤ℤ◌
+pub integer_order : OrderedRing integer_ring ◌≤z◌
 integer_order = record {
   le_refl = λ a. omega arith;
   le_trans = λ a b c h k. omega arith;

@@ -2,8 +2,6 @@
 -- ℚ as a commutative ring. Sums and polynomials take their operations from this record, which asks for the laws: so the laws stand here.
 use Rattle.std.specs.Prelude.{[], ◌∷◌, ◌≡◌, refl, ◌*ℤ◌, ◌+ℤ◌, negsuc, pos, ℤ}
 use std.Quotient.{/_elim_prop, /_elim_prop₂, /_elim_prop₃, /_set, eq/}
-use Rattle.std.proofs.Common.{add_assoc, add_comm, add-zero, mul_assoc, mul_comm, mul-one}
-use Rattle.std.specs.Float.Ieee.{add, mul, neg}
 use Rattle.fraction.specs.Fraction.{Fraction, ◌≈◌, add_fractions, multiply_fractions, negate_fraction, whole_fraction}
 use Rattle.fraction.specs.Integer.{integer_ring}
 use Rattle.fraction.specs.Rational.{◌*q◌, ◌+q◌, negq, wholeq, ℚ}

@@ -5,7 +5,7 @@ use Rattle.std.specs.Prelude.{Bool, false, true, [], ◌∷◌, ◌≡◌, refl,
 use Rattle.std.proofs.Common.{◌∙◌, ap, subst, sym, le_of_mul-le-mul_right, arith, leb→le, le→leb}
 use Rattle.std.proofs.Math.Nat.{eq_of_mul-eq-mul_right}
 use Rattle.fraction.specs.Fraction.{Fraction, ◌≈◌, ◌≤f◌, add_fractions, fraction_at_most, inverse_fraction, multiply_fractions, negate_fraction}
-use Rattle.fraction.specs.Integer.{◌≤ℤ◌, equal_by_parts, integer_order, integer_ring, negative_part, parts_mul, parts_neg, positive_part}
+use Rattle.fraction.specs.Integer.{◌≤z◌, equal_by_parts, integer_order, integer_ring, negative_part, parts_mul, parts_neg, positive_part}
 use Rattle.fraction.specs.Order.{le_two}
 use Rattle.fraction.specs.Ring.{◌⊕◌, ◌⊗◌, combine, con, opposite, solve, v0, v1, v2, v3, v4, v5}
 
@@ -16,7 +16,7 @@ cancel x y k h e =
     (eq_of_mul-eq-mul_right k h (positive_part x + negative_part y) (positive_part y + negative_part x)
     (omega (arith, parts_mul x (pos k), parts_mul y (pos k), ap positive_part e, ap negative_part e)))
 
-pub cancel_le : (x y : ℤ) (k : ℕ) → 0 < k → x *ℤ pos k ≤ℤ y *ℤ pos k → x ≤ℤ y
+pub cancel_le : (x y : ℤ) (k : ℕ) → 0 < k → x *ℤ pos k ≤z y *ℤ pos k → x ≤z y
 cancel_le x y k h e = le_of_mul-le-mul_right {k = k} (omega (arith, parts_mul x (pos k), parts_mul y (pos k))) h
 
 -- equality by cross products is transitive
@@ -48,14 +48,14 @@ add_fractions_comm a b = solve integer_ring (a.numerator ∷ b.numerator ∷ pos
     ((v0 ⊗ v3 ⊕ v1 ⊗ v2) ⊗ (v3 ⊗ v2)) ((v1 ⊗ v2 ⊕ v0 ⊗ v3) ⊗ (v2 ⊗ v3)) tt
 
 -- a natural number is not negative
-pub natural_nonnegative : (n : ℕ) → pos 0 ≤ℤ pos n
+pub natural_nonnegative : (n : ℕ) → pos 0 ≤z pos n
 natural_nonnegative n = omega arith
 
 -- the order by cross products is transitive
 pub ≤f-trans : (a b c : Fraction) → a ≤f b → b ≤f c → a ≤f c
 ≤f-trans a b c h k =
     cancel_le (a.numerator *ℤ pos c.denominator) (c.numerator *ℤ pos a.denominator) b.denominator b.positive
-    (le_two integer_ring ◌≤ℤ◌ integer_order (a.numerator ∷ b.numerator ∷ c.numerator ∷ pos a.denominator ∷ pos b.denominator ∷ pos
+    (le_two integer_ring ◌≤z◌ integer_order (a.numerator ∷ b.numerator ∷ c.numerator ∷ pos a.denominator ∷ pos b.denominator ∷ pos
     c.denominator ∷ [])
     (v0 ⊗ v5 ⊗ v4) (v2 ⊗ v3 ⊗ v4) v5 (v0 ⊗ v4) (v1 ⊗ v3) v3 (v1 ⊗ v5) (v2 ⊗ v4) tt (natural_nonnegative c.denominator) h
     (natural_nonnegative a.denominator) k)
@@ -94,7 +94,7 @@ same_tests false false f g = refl
 
 -- equal fractions are in order
 pub ≤f-of-≈ : (a b : Fraction) → a ≈ b → a ≤f b
-≤f-of-≈ a b h = subst (λ (z : ℤ). a.numerator *ℤ pos b.denominator ≤ℤ z) h
+≤f-of-≈ a b h = subst (λ (z : ℤ). a.numerator *ℤ pos b.denominator ≤z z) h
     (integer_order.le_refl (a.numerator *ℤ pos b.denominator))
 
 -- equal fractions have the same order

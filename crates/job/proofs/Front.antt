@@ -1,21 +1,20 @@
 -- The first 1,621 bytes tell whether some bytes are a job, and which: four counts have at most 12 bytes, the numbers of a job at most
 -- 1,608, and one byte more is left over.
 use mathlib.Core.Path.{◌≡◌, refl, sym, ap, ◌∙◌}
-use mathlib.Core.Bool.{Bool, true, false, cond}
+use mathlib.Core.Bool.{Bool, true, false}
 use mathlib.Core.List.{List, ◌++◌}
-use Prim.Native.Nat.{ℕ, ◌+◌, ◌*◌, ◌≤◌, ◌<◌}
+use Prim.Native.Nat.{ℕ, ◌≤◌}
 use native.Mathlib.Omega.{arith}
 use borrow.Author.Tests.{leb-true, leb-false}
 use lib.Dec.{leb}
-use lib.ListN.{length, take, drop, length-append, length-take, take-append-drop}
+use lib.ListN.{length, take, drop, length-append, take-append-drop}
 use lib.Seq.{take_all, length-take-le}
-use Rattle.smoothing.specs.Answer.{Answer}
 use Rattle.smoothing.specs.Answer.Answer.{refused}
 use Rattle.forms.specs.Read.{Read, got, bad}
 use Rattle.forms.specs.Form.{read_whole}
 use Rattle.forms.proofs.Longer.{more, Left, Within, groups_within, then_within, through_within}
 use Rattle.job.specs.declared.Counts.{Counts}
-use Rattle.job.specs.Job.{Job, counts_of, four_of, counts_form, numbers_form, above_limits, numbered, counted, job_of}
+use Rattle.job.specs.Job.{counts_of, four_of, counts_form, numbers_form, above_limits, numbered, counted, job_of}
 use Rattle.job.proofs.Places.{few_points, numbers_bad}
 
 counts_within : Within 12 counts_form

@@ -1,16 +1,15 @@
 -- A job has one spelling: what is written for a job reads back to it, and what reads as a job is what is written for it.
 use mathlib.Core.Path.{◌≡◌, refl, sym, ap, ◌∙◌, subst}
-use mathlib.Core.Bool.{Bool, true, false, cond}
+use mathlib.Core.Bool.{false}
 use mathlib.Core.List.{List, ◌++◌}
 use Prim.Native.Nat.{ℕ, ◌*◌}
-use Rattle.smoothing.specs.Answer.{Answer}
-use Rattle.smoothing.specs.Answer.Answer.{done, refused}
+use Rattle.smoothing.specs.Answer.Answer.{done}
 use Rattle.smoothing.proofs.Accepted.{refused_done, done_same, not_refused}
 use Rattle.forms.specs.Read.{Read, got, bad, Bytes}
 use Rattle.forms.specs.Form.{bytes, read_whole}
 use Rattle.forms.proofs.Exact.{Exact, groups_exact, bytes_exact, then_exact, many_exact, through_exact, whole_back, whole_only, bytes_rest}
 use Rattle.job.specs.declared.Counts.{Counts}
-use Rattle.job.specs.Job.{Job, counts_of, four_of, counts_form, Numbers, numbers_form, job_with, job_form, above_limits, numbered, counted, job_of}
+use Rattle.job.specs.Job.{Job, counts_of, four_of, counts_form, Numbers, numbers_form, job_form, above_limits, numbered, counted, job_of}
 
 pub counts_exact : Exact counts_form
 counts_exact =

@@ -1,13 +1,13 @@
 -- The answer to some bytes, as the code finds it.
 use mathlib.Core.Path.{◌≡◌, refl, sym, ap, subst, ◌∙◌}
-use mathlib.Core.List.{List, ◌++◌}
+use mathlib.Core.List.{List}
 use Prim.Native.Nat.{ℕ, ◌-◌, ◌≤◌}
 use native.Mathlib.Omega.{arith}
 use lib.ListN.{length, take, drop, length-take}
 use lib.Ieee.{Float}
 use Rattle.smoothing.specs.Answer.{Answer, and_then}
 use Rattle.smoothing.specs.Answer.Answer.{done, refused, exhausted}
-use Rattle.smoothing.specs.Build.{Result, build_of}
+use Rattle.smoothing.specs.Build.{build_of}
 use Rattle.smoothing.proofs.Accepted.{refused_done, exhausted_done, done_same}
 use Rattle.job.specs.declared.Counts.{Counts}
 use Rattle.job.specs.Job.{Job, job_of}

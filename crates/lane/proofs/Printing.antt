@@ -18,7 +18,7 @@ use Rattle.building.specs.declared.Report.{Report}
 use Rattle.building.specs.declared.Answer.{Answer as Told}
 use Rattle.building.specs.declared.Answer.TheVariants.{Accepted, RefinementsUsedUp, BadPoints, NoAxes, BadAxes, BadTolerance, BadParameters, BadRange, Overflow, InitialSegments, BadDiagonal, BadPivot, BadSolution, NotAbove, NotFinite, SegmentsUsedUp, BadMidpoint, ErrorAboveTolerance, AboveDomain, ShortSlice, PointCells, ToleranceTooFine}
 use Rattle.building.specs.contracts.Answer.{the_type}
-use Rattle.building.specs.Outcome.{outcome_of, report_of, reported}
+use Rattle.building.specs.Outcome.{outcome_of, reported}
 use Rattle.text.specs.Decimal.{decimal_of}
 use Rattle.text.specs.Lines.{newline, field, refused_word}
 use Rattle.text.proofs.Putting.{both_there}

@@ -1,20 +1,17 @@
 -- The request of a job: in the room of the program's buffers, its errors, and where its numbers stand.
-use mathlib.Core.Path.{◌≡◌, refl, sym, ap, ◌∙◌, subst}
-use mathlib.Core.Bool.{Bool, true, false}
-use mathlib.Core.List.{List, [], ◌∷◌, ◌++◌, map}
-use Prim.Native.Nat.{ℕ, zero, suc, ◌+◌, ◌-◌, ◌*◌, ◌≤◌, ◌<◌, max}
+use mathlib.Core.Path.{◌≡◌, ap, ◌∙◌, subst}
+use mathlib.Core.Bool.{Bool, false}
+use mathlib.Core.List.{List, ◌++◌, map}
+use Prim.Native.Nat.{ℕ, ◌+◌, ◌-◌, ◌*◌, ◌≤◌, max}
 use native.Mathlib.Omega.{arith}
 use native.Mathlib.Nat.{mul-le-mul}
 use borrow.Author.Tests.{le-ltb}
-use lib.ListN.{length, take, drop, length-map}
+use lib.ListN.{length, take, length-map}
 use lib.Seq.{take_at}
 use lib.Ieee.{Float}
-use Rattle.window.specs.Cells.{at}
-use Rattle.window.specs.Window.{window}
-use Rattle.smoothing.specs.Answer.{Answer, and_then}
-use Rattle.smoothing.specs.Answer.Answer.{done, refused, exhausted}
+use Rattle.smoothing.specs.Answer.{Answer}
+use Rattle.smoothing.specs.Answer.Answer.{done}
 use Rattle.smoothing.specs.Request.{Request, Lane, Limits, axis_count, axes_of}
-use Rattle.smoothing.specs.Request.Axes.{all}
 use Rattle.smoothing.specs.Checks.{Room, short_room}
 use Rattle.smoothing.specs.Rows.{lane_task, lane_units, task_of}
 use Rattle.smoothing.specs.Build.{Result, result_of, answer_of, build_of, build_in}
@@ -23,10 +20,9 @@ use Rattle.smoothing.proofs.Rooms.{selected_room}
 use Rattle.building.specs.Outcome.{Results, results_after}
 use Rattle.checks.proofs.Selected.{all_count}
 use Rattle.job.specs.declared.Counts.{Counts}
-use Rattle.job.specs.Job.{Job, job_of}
+use Rattle.job.specs.Job.{Job}
 use Rattle.job.specs.Reading.{number_of, cells_of}
 use Rattle.lane.specs.Lane.{request_of, request_in}
-use Rattle.lane.specs.Room.{Small}
 
 -- ---- the room
 module _ (room : Room) (r : Request) where

@@ -1,5 +1,5 @@
 -- Laws of the text that is gathered in a buffer.
-use Rattle.std.proofs.Common.{◌≡◌, ℕ, zero, suc, ◌+◌, ◌-◌, ◌*◌, ◌/◌, ◌%◌, ◌^◌, ◌<◌, ◌≤◌, min, Bool, true, false, ltb, List, [], ◌∷◌, ◌++◌, length, get_or, take, set, sym, refl, ap, ◌∙◌, append_assoc, append-nil, le_of_suc-le-suc, not-suc-le-zero, div-lt_iff_lt-mul, le-div_iff_mul-le, add-one, arith, take_all, take-suc, pow-add, ltb-false, ltb-true, le-ltb, lt-ltb}
+use Rattle.std.proofs.Common.{◌≡◌, ℕ, zero, suc, ◌+◌, ◌-◌, ◌*◌, ◌/◌, ◌%◌, ◌^◌, ◌<◌, ◌≤◌, min, Bool, true, false, ltb, List, [], ◌∷◌, ◌++◌, length, get_or, take, set, sym, refl, ap, ◌∙◌, append_assoc, append-nil, le_of_suc-le-suc, not-suc-le-zero, add-one, arith, take_all, take-suc, pow-add, ltb-false, ltb-true, le-ltb, lt-ltb}
 use lib.Ieee.{Float, nan}
 use Rattle.io.specs.Digits.{last_digits, IsDigitCount}
 use Rattle.listing.specs.Output.{put, printed, decimal_digits, cell_text, cells_text}

@@ -1,5 +1,5 @@
 -- A list of cases: oracle/README.md has its form.
-use Rattle.std.specs.Prelude.{ℕ, ◌+◌, ◌*◌, ◌%◌, ◌^◌, cond, List, [], ◌∷◌, nat_le}
+use Rattle.std.specs.Prelude.{ℕ, ◌+◌, ◌*◌, ◌%◌, ◌^◌, cond, [], ◌∷◌, nat_le}
 use Rattle.encoding.specs.Bytes.{low_first}
 
 -- the whole number of the bytes `REPLAY01`, with which a list opens

@@ -9,7 +9,7 @@ use lib.Ieee.{Float}
 use Rattle.window.specs.Window.{window}
 use Rattle.window.specs.Cells.{+0, zeros}
 use Rattle.window.proofs.Parts.{cut}
-use Rattle.normal.specs.System.{System, size_of, system_of, new_of}
+use Rattle.normal.specs.System.{size_of, system_of, new_of}
 
 -- the arrays are all of the cells
 pub all_cells : (n d : ℕ) (l : List Float) → length l ≡ size_of n d → l ≡ (system_of n d l).band ++

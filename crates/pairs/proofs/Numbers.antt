@@ -17,7 +17,7 @@ use Rattle.fraction.specs.RationalRing.{rational_ring}
 use Rattle.fraction.specs.Ring.{opposite, solve, v0}
 use borrow.Author.Tests.{lt-ltb}
 use Rattle.fraction.specs.Rounding.{Rounded}
-use Rattle.fraction.specs.Integer.{◌≤ℤ◌, signed}
+use Rattle.fraction.specs.Integer.{◌≤z◌, signed}
 use Rattle.fraction.specs.Value.{fraction, value}
 use Rattle.fraction.proofs.Monotone.{round_neg, rounded_monotone}
 use Rattle.fraction.proofs.Adjacent.{next_down_greatest, next_up_least}
@@ -177,7 +177,7 @@ strict : (a : ℕ) → power_of_two a <q power_of_two (suc a)
 strict a = not_test (at_mostq (power_of_two (suc a)) (power_of_two a)) (λ k. never (2 ^ a) (2 ^ suc a) (pow-lt {i = a} {j = suc a} (omega arith))
     (fraction_back (pos (2 ^ suc a)) (pos (2 ^ a)) 1 (omega arith) k))
   where
-    never : (x y : ℕ) → x < y → pos y ≤ℤ pos x → ⊥
+    never : (x y : ℕ) → x < y → pos y ≤z pos x → ⊥
     never x y l h = omega arith
 
 pub <q-negated : (x y : ℚ) → x <q y → negq y <q negq x

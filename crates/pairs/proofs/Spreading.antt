@@ -2,7 +2,7 @@
 use mathlib.Core.Bool.{false, true}
 use mathlib.Core.List.{[], ◌∷◌}
 use mathlib.Core.Path.{◌∙◌, ◌≡◌, ap, refl, subst, sym}
-use Prim.Native.Nat.{◌*◌, ◌+◌, ◌^◌, ◌<◌, ◌≤◌, suc, ℕ}
+use Prim.Native.Nat.{◌*◌, ◌+◌, ◌^◌, ◌≤◌, suc, ℕ}
 use lib.Pow.{pow-add}
 use native.Mathlib.Omega.{arith}
 use lib.Dec.{T}
@@ -13,7 +13,7 @@ use lib.IntN.{pos}
 use Rattle.fraction.specs.DirectedSum.{plain_zero}
 use Rattle.fraction.specs.NextNumber.{next_down, next_up}
 use Rattle.fraction.specs.Order.{le_one}
-use Rattle.fraction.specs.Pair.{Ends, divide_pairs, finite_ends, highest, highest_of, lowest, lowest_of, moved, multiply_pairs, outward, pair, point}
+use Rattle.fraction.specs.Pair.{Ends, divide_pairs, finite_ends, highest_of, lowest, lowest_of, moved, multiply_pairs, outward, point}
 use Rattle.fraction.specs.Rational.{Above, ◌*q◌, ◌/q◌, ◌<q◌, ◌≤q◌, at_mostq, inverse, negq, ℚ, 𝟘, 𝟙}
 use Rattle.fraction.specs.RationalRing.{rational_ring}
 use Rattle.fraction.specs.Ring.{◌⊗◌, con, opposite, solve, v0, v1, v2}

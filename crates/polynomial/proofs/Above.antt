@@ -1,15 +1,15 @@
 -- Number 12 asks for a waypoint above the last break: where there is none, the right end of every piece is above its left end, whatever the
 -- other numbers are. (`build`'s breaks end at 1, and its parameters rise to 1.)
 use mathlib.Core.Path.{◌≡◌, refl, sym, ap, ◌∙◌}
-use mathlib.Core.Bool.{Bool, true, false, ◌&&◌, ◌||◌, true≢false}
+use mathlib.Core.Bool.{Bool, true, false, ◌&&◌, true≢false}
 use mathlib.Core.List.{List}
 use Prim.Native.Nat.{ℕ, ◌+◌, ◌*◌, ◌≤◌, ◌<◌}
 use native.Mathlib.Omega.{arith}
 use native.Mathlib.Decide.{dec_lt}
 use borrow.Author.Tests.{lt-ltb, ltb-true}
-use lib.Dec.{ltb, eqb}
+use lib.Dec.{ltb}
 use lib.ListN.{length}
-use lib.Ieee.{Float, nan, inf, fin, up, down, lt, eq, le}
+use lib.Ieee.{Float, lt, le}
 use Rattle.arith.proofs.Loops.{Holds, holds_cond, till_holds}
 use Rattle.arith.proofs.Loops.Holds.{goes, ends}
 use Rattle.window.specs.Cells.{at}

@@ -13,7 +13,7 @@ use lib.Ieee.{Float, nan, inf, fin, binary64, up, down, below, lt, le, eq}
 use Rattle.arith.proofs.Truth.{and_parts, clash}
 use Rattle.arith.proofs.Rows.{row_end}
 use Rattle.fraction.proofs.Value.{plus_zero}
-use Rattle.window.specs.Cells.{+0, at, Doubles}
+use Rattle.window.specs.Cells.{at, Doubles}
 use Rattle.polynomial.specs.Span.{break_span}
 use Rattle.curve.specs.Form.{set_formed, others_formed}
 use Rattle.arith.proofs.Firsts.{every_at}

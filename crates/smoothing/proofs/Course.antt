@@ -1,5 +1,5 @@
 -- The course of `build` up to the final scaling, walked once for every property: what its steps keep, and the refusals that they give.
-use Rattle.std.proofs.Common.{◌≡◌, ℕ, zero, suc, ◌-◌, ◌≤◌, min, true, false, eqb, ltb, List, [], ◌∷◌, sym, refl, ap, ◌∙◌, true≢false, arith}
+use Rattle.std.proofs.Common.{◌≡◌, ℕ, zero, suc, ◌-◌, ◌≤◌, min, false, eqb, ltb, List, [], ◌∷◌, sym, refl, ap, ◌∙◌, true≢false, arith}
 use lib.Ieee.{Float}
 use Rattle.polynomial.specs.declared.interval.AuditOutcome.{AuditOutcome}
 use Rattle.polynomial.specs.declared.interval.AuditOutcome.TheVariants.{Done, NotAbove, NotFinite}

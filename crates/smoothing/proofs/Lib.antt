@@ -22,6 +22,7 @@ pub mod WellFormed
 -- The numbers of refusals.
 pub mod Refusals
 -- Higher limits, and rows that are not smoothed.
+pub mod RaisedRounds
 pub mod HigherLimits
 pub mod UnsmoothedRows
 -- The parameters as a list.

@@ -1,8 +1,7 @@
 -- What accepted calls gave; and document 02, request 10: "among requests equal but for max_refinements and max_segments, all accepted ones
 -- agree in every used cell and every count".
 use mathlib.Core.Path.{◌≡◌, refl, sym, ap, ◌∙◌}
-use mathlib.Core.Bool.{Bool, true, false, cond, ◌||◌}
-use lib.Ieee.{Float}
+use mathlib.Core.Bool.{cond, ◌||◌}
 use Rattle.smoothing.specs.Answer as answers
 use Rattle.smoothing.specs.Answer.Answer.{done, refused, exhausted}
 use Rattle.smoothing.specs.Request.{Lane, Limits}

@@ -1,6 +1,5 @@
 -- Where the parameters are even, the list beside them is not read: calls that differ in it have one answer.
-use mathlib.Core.Path.{◌≡◌, refl, sym, ap, ◌∙◌}
-use mathlib.Core.Bool.{Bool}
+use mathlib.Core.Path.{◌≡◌, refl}
 use mathlib.Core.List.{List}
 use lib.Ieee.{Float}
 use Prim.Native.Nat.{ℕ}
@@ -9,11 +8,10 @@ use Rattle.request.specs.Parameters.{parameter_list}
 use Rattle.curve.specs.declared.Curve.{Curve}
 use Rattle.curve.specs.Form.{Slices}
 use Rattle.figure.specs.Certify.{certify_of}
-use Rattle.smoothing.specs.Answer as answers
 use Rattle.smoothing.specs.Request.{Lane, Limits}
-use Rattle.smoothing.specs.Checks.{Room, wide_lane, miscounted_points, short_room, no_axes, bad_axes, bad_tolerance, refusal_of}
+use Rattle.smoothing.specs.Checks.{wide_lane, miscounted_points, short_room, no_axes, bad_axes, bad_tolerance, refusal_of}
 use Rattle.smoothing.specs.Rows.{parameters_of, smoothed_rows, lane_units, lane_task, other_rows}
-use Rattle.smoothing.specs.Build.{Result, other_of, result_of, smoothed_of, checked_of, answer_of, build_in}
+use Rattle.smoothing.specs.Build.{other_of, result_of, smoothed_of, checked_of, answer_of, build_in}
 use Rattle.building.specs.Outcome.{Results}
 use Rattle.building.specs.Answered.{answer_to}
 

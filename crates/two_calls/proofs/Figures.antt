@@ -3,9 +3,9 @@
 use mathlib.Core.Path.{◌≡◌, refl, sym, ap, ◌∙◌}
 use mathlib.Core.Bool.{Bool, true, false, not, cond, ◌||◌}
 use mathlib.Core.List.{List}
-use Prim.Native.Nat.{ℕ, ◌+◌, ◌-◌, ◌*◌, ◌≤◌, ◌<◌}
+use Prim.Native.Nat.{ℕ, ◌+◌, ◌-◌, ◌*◌, ◌<◌}
 use native.Mathlib.Omega.{arith}
-use lib.Dec.{eqb, ltb}
+use lib.Dec.{ltb}
 use lib.ListN.{length, get_or}
 use lib.Ieee.{Float, lt}
 use Rattle.arith.specs.Loop.{each}
@@ -30,7 +30,7 @@ use Rattle.smoothing.specs.Request.{Lane, Limits, smoothed_axes, axis_count, lan
 use Rattle.smoothing.specs.Checks.{wide_lane, wide_limits, miscounted_points}
 use Rattle.smoothing.specs.Build.{Result, slices_of, curve_of, result_of, checked_of, answer_of, build_of}
 use Rattle.smoothing.proofs.Accepted.{not_refused, build_accepted, build_domain}
-use Rattle.smoothing.proofs.Passed.{lane_passed, two_waypoints}
+use Rattle.smoothing.proofs.Passed.{lane_passed}
 use Rattle.smoothing.proofs.WellFormed.{accepted_well_formed}
 use Rattle.smoothing.proofs.UnsmoothedRows.{with_points}
 use Rattle.certificate.specs.Outcome.{outcome_of}

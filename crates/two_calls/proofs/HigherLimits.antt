@@ -3,15 +3,15 @@
 use mathlib.Core.Path.{◌≡◌, refl, sym, ap, ◌∙◌}
 use mathlib.Core.Logic.{◌⊎◌, inl, inr}
 use mathlib.Core.Bool.{Bool, true, false, ◌||◌, or-true}
-use Prim.Native.Nat.{ℕ, ◌<◌}
+use Prim.Native.Nat.{ℕ}
 use native.Mathlib.Omega.{arith}
 use lib.Ieee.{Float}
 use Rattle.smoothing.specs.Answer as answers
 use Rattle.smoothing.specs.Answer.Answer.{done, refused, exhausted}
 use Rattle.smoothing.specs.Request.{Lane, Limits}
 use Rattle.smoothing.specs.Checks.{wide_lane, wide_limits, miscounted_points, short_room}
-use Rattle.smoothing.specs.Build.{Result, build_of}
-use Rattle.smoothing.proofs.HigherLimits.{Raised, higher_limits, same_answer}
+use Rattle.smoothing.specs.Build.{build_of}
+use Rattle.smoothing.proofs.HigherLimits.{higher_limits, same_answer}
 use Rattle.building.specs.declared.Report.{Report}
 use Rattle.building.specs.Outcome.{outcome_of, reported, lengths_of}
 use Rattle.two_calls.specs.Building.{BuildCall, number_of, LongEnough, NowhereLower, MayChange}

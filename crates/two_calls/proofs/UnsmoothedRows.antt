@@ -1,16 +1,15 @@
 -- Document 02, request 10: "Rows that are left unsmoothed must not matter". Two accepted calls of `build` whose lanes differ in rows that
 -- are not smoothed.
-use mathlib.Core.Path.{◌≡◌, refl, sym, ap, ◌∙◌}
+use mathlib.Core.Path.{◌≡◌, sym, ap, ◌∙◌}
 use mathlib.Core.List.{List}
-use Prim.Native.Nat.{ℕ, ◌+◌, ◌*◌}
-use lib.ListN.{length, get_or}
+use Prim.Native.Nat.{◌+◌, ◌*◌}
+use lib.ListN.{get_or}
 use lib.Ieee.{Float}
 use Rattle.window.specs.Cells.{at, onto}
 use Rattle.window.proofs.Joined.{table_ap}
 use Rattle.bspline.specs.Segments.{Polynomial}
 use Rattle.curve.specs.Form.{with_widths}
 use Rattle.request.specs.declared.parameters.Spacing.TheVariants.{Chord}
-use Rattle.smoothing.specs.Answer as answers
 use Rattle.smoothing.specs.Answer.Answer.{done}
 use Rattle.smoothing.specs.Request.{Lane, Limits, smoothed_axes, axis_count}
 use Rattle.smoothing.specs.Rows.{gathered, smoothed_rows}

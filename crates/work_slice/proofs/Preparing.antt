@@ -1,6 +1,6 @@
 -- What `prepare` and `interpolate_others` write and test.
-use mathlib.Core.Path.{◌≡◌, refl, sym, ap, ◌∙◌}
-use mathlib.Core.Bool.{Bool, true, false, not, cond, ◌||◌}
+use mathlib.Core.Path.{◌≡◌, refl, ap, ◌∙◌}
+use mathlib.Core.Bool.{Bool, not, ◌||◌}
 use mathlib.Core.List.{List}
 use Prim.Native.Nat.{ℕ, zero, suc, ◌+◌, ◌-◌, ◌*◌, ◌≤◌, ◌<◌}
 use native.Mathlib.Omega.{arith}
@@ -11,7 +11,6 @@ use lib.Ieee.Scale.{finite}
 use Rattle.window.specs.Cells.{at}
 use Rattle.window.specs.Window.{window, splice}
 use Rattle.window.proofs.Windows.{length_window, length_splice, window_same}
-use Rattle.window.specs.Rows.{list_of}
 use Rattle.window.proofs.Joined.{list_length, list_at, table_length}
 use Rattle.window.proofs.TwoParts.{Apart, both_first}
 use Rattle.request.specs.Any.{any}

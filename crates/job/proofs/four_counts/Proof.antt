@@ -1,7 +1,5 @@
 -- `four_counts` meets its contract: one count after the other, as the form reads them.
-use mathlib.Core.Path.{◌≡◌, sym, ◌∙◌}
-use mathlib.Core.List.{List}
-use Prim.Native.Nat.{ℕ}
+use mathlib.Core.Path.{sym, ◌∙◌}
 use native.Mathlib.Omega.{arith}
 use borrow.Author.Rules.{rules}
 use Rattle.job.proofs.Places.{unread1, unread2, unread3, unread4, all_read}

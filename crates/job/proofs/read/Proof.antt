@@ -1,12 +1,12 @@
 -- `read` meets its contract: at each return the definition gives what the code answers.
-use mathlib.Core.Path.{◌≡◌, refl, sym, ap, subst, ◌∙◌}
+use mathlib.Core.Path.{◌≡◌, sym, ap, subst, ◌∙◌}
 use mathlib.Core.Bool.{false}
 use mathlib.Core.List.{List}
 use Prim.Native.Nat.{ℕ, ◌+◌, ◌*◌, ◌≤◌}
 use native.Mathlib.Omega.{arith}
 use borrow.Author.Rules.{rules}
 use lib.ListN.{length, drop, length-drop}
-use Rattle.forms.specs.Read.{Read, got}
+use Rattle.forms.specs.Read.{got}
 use Rattle.job.specs.declared.Counts.{Counts}
 use Rattle.job.specs.declared.Head.{Head}
 use Rattle.job.specs.Job.{counts_form, above_limits}

@@ -6,13 +6,12 @@ use Rattle.replay_lending.proofs.answer.Statement.{statement}
 use Rattle.replay_lending.proofs.answer.Tie as tie
 
 lend-requires : tie.Need-lend-requires
-lend-requires c κs =
-    (
-      c.asked-q.ensures,
-      c.parts_asked-p.ensures,
-      c.fit.ensures
-          (not-false _ c.if-not-fit.false-raw),
-    )
+lend-requires c κs = (
+  c.asked-q.ensures,
+  c.parts_asked-p.ensures,
+  c.fit.ensures
+      (not-false _ c.if-not-fit.false-raw),
+)
 
 pub answer_spec : {M : Type 1} → statement M
 answer_spec =

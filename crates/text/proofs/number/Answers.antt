@@ -1,4 +1,4 @@
-use Rattle.std.proofs.Common.{◌≡◌, List, ℕ, ◌++◌, take, ap, ◌∙◌, arith}
+use Rattle.std.proofs.Common.{List, ℕ, ◌++◌, take, ap, ◌∙◌, arith}
 use Rattle.text.proofs.Digits.{decimal_is, few_digits}
 use Rattle.text.proofs.number.Goals as goal
 

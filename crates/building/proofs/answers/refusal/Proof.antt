@@ -1,6 +1,5 @@
 -- `answers::refusal` meets its contract: by the size of the number.
 use mathlib.Core.Path.{sym}
-use native.Mathlib.Omega.{arith}
 use borrow.Author.Rules.{rules}
 use Rattle.building.proofs.Finished.{is}
 use Rattle.building.proofs.answers.refusal.Statement.{statement}

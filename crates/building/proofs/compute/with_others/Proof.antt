@@ -1,17 +1,12 @@
 -- `compute::with_others` meets its contract.
-use mathlib.Core.Path.{◌≡◌, refl, sym, ap, ◌∙◌}
-use mathlib.Core.List.{List}
-use Prim.Native.Nat.{ℕ, ◌+◌, ◌-◌, ◌*◌, ◌≤◌, ◌<◌}
+use mathlib.Core.Path.{◌≡◌, refl, sym, ◌∙◌}
+use Prim.Native.Nat.{◌-◌}
 use native.Mathlib.Omega.{arith}
-use native.Mathlib.Nat.{mul-le-mul}
 use borrow.Author.Rules.{rules}
-use lib.ListN.{length, take, drop, length-drop}
-use lib.Ieee.{Float}
+use lib.ListN.{length, take}
 use Rattle.window.specs.Window.{window}
 use Rattle.window.proofs.Windows.{length_window}
-use Rattle.bspline.specs.Segments.{Polynomial}
 use Rattle.smoothing.specs.Answer.Answer.{done}
-use Rattle.smoothing.specs.Finish.{Selected}
 use Rattle.refinement.specs.Memory.{cells_of}
 use Rattle.running_report.specs.Counted.{counts_of}
 use Rattle.work_slice.specs.Rows.{other_in}

@@ -1,12 +1,7 @@
 -- `entry::accept` meets its contract.
-use mathlib.Core.Path.{◌≡◌, refl, ap}
-use mathlib.Core.List.{List}
-use Prim.Native.Nat.{ℕ, ◌-◌}
+use Prim.Native.Nat.{◌-◌}
 use borrow.Author.Rules.{rules}
-use lib.Ieee.{Float}
-use Rattle.smoothing.specs.Answer.{Answer}
 use Rattle.smoothing.specs.Answer.Answer.{done}
-use Rattle.building.specs.declared.Report.{Report}
 use Rattle.building.proofs.entry.accept.Statement.{statement}
 use Rattle.building.proofs.entry.accept.Tie as tie
 

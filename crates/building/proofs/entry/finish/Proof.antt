@@ -1,7 +1,7 @@
 -- `entry::finish` meets its contract.
 use mathlib.Core.Path.{◌≡◌, refl, sym, ap, subst, ◌∙◌}
 use mathlib.Core.List.{List}
-use Prim.Native.Nat.{ℕ, ◌+◌, ◌-◌, ◌*◌, ◌≤◌, ◌<◌, max}
+use Prim.Native.Nat.{ℕ, ◌+◌, ◌-◌, ◌*◌, ◌≤◌, max}
 use native.Mathlib.Omega.{arith}
 use native.Mathlib.Nat.{mul-le-mul}
 use borrow.Author.Rules.{rules}
@@ -13,12 +13,11 @@ use Rattle.smoothing.specs.Request.{Lane, Limits, axis_count}
 use Rattle.smoothing.specs.Rows.{other_axes}
 use Rattle.smoothing.specs.Build.{Result, checked_of}
 use Rattle.refinement.specs.declared.plan.Plan.{Plan}
-use Rattle.refinement.specs.Memory.{Roomy, cells_of, sized}
+use Rattle.refinement.specs.Memory.{Roomy, sized}
 use Rattle.checks.specs.Request.{limits_of, lane_of}
 use Rattle.building.specs.declared.entry.Run.{Run}
 use Rattle.building.specs.Outcome.{reported, curve_after, Results, results, results_after}
-use Rattle.building.specs.Computed.{Both, both, selected_at, other_at}
-use Rattle.building.specs.Answered.{checked_both, plan_of, BothPlaced}
+use Rattle.building.specs.Answered.{plan_of, BothPlaced}
 use Rattle.building.proofs.Computing.{ended_done, ended_refused, ended_exhausted}
 use Rattle.building.proofs.Passing.{work_fits}
 use Rattle.building.proofs.Finished.{both_done, both_refused, both_exhausted, both_known, x, report_is, curve_is, results_are}

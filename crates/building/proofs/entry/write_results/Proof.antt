@@ -1,12 +1,10 @@
 -- `entry::write_results` meets its contract.
-use mathlib.Core.Path.{◌≡◌, refl, sym, ap, ◌∙◌}
+use mathlib.Core.Path.{ap, ◌∙◌}
 use mathlib.Core.List.{List}
-use Prim.Native.Nat.{ℕ, ◌+◌, ◌-◌, ◌*◌, ◌≤◌}
 use native.Mathlib.Omega.{arith}
 use borrow.Author.Rules.{rules}
-use lib.ListN.{length, drop, length-drop}
+use lib.ListN.{length}
 use lib.Ieee.{Float}
-use Rattle.window.specs.Window.{window}
 use Rattle.window.proofs.Windows.{length_window}
 use Rattle.bspline.specs.Segments.{Polynomial}
 use Rattle.curve.specs.Form.{with_widths}
@@ -14,7 +12,6 @@ use Rattle.refinement.specs.Memory.{cells_of}
 use Rattle.window.specs.Cells.{onto}
 use Rattle.building.specs.Outcome.{results}
 use Rattle.work_slice.specs.Rows.{other_in}
-use Rattle.building.specs.Computed.{other_at}
 use Rattle.work_slice.proofs.Copying.{tail_is}
 use Rattle.building.proofs.entry.write_results.Statement.{statement}
 use Rattle.building.proofs.entry.write_results.Tie as tie

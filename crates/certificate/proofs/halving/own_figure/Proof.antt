@@ -3,7 +3,6 @@ use mathlib.Core.Path.{◌∙◌, ap, sym}
 use native.Mathlib.Omega.{arith}
 use borrow.Author.Rules.{rules}
 use Rattle.figure.specs.Figure.{halved_figure}
-use Rattle.figure.specs.Operations.{ends}
 use Rattle.certificate.specs.Structs.{figure_in, pair_at}
 use Rattle.certificate.proofs.Coefficients.{halved_same}
 use Rattle.certificate.proofs.halving.own_figure.Statement.{statement}

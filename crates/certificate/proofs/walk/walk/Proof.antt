@@ -37,11 +37,10 @@ first-requires : tie.Need-first-start-requires invariant-loop decreases-loop
 first-requires c κs = (omega arith, omega arith, λ e. omega (arith, c.requires.0.10 e))
 
 next-requires : tie.Need-next-current-requires invariant-loop decreases-loop
-next-requires c κs =
-    (
-      (omega arith, omega arith, omega arith, λ e. omega (arith, c.requires.0.10 e)),
-      c.first-start.ensures c.args.points.now c.args.d,
-    )
+next-requires c κs = (
+  (omega arith, omega arith, omega arith, λ e. omega (arith, c.requires.0.10 e)),
+  c.first-start.ensures c.args.points.now c.args.d,
+)
 
 -- a parameter, normalised as the code does it
 module _ (c : tie.After-next-current invariant-loop decreases-loop) where
@@ -75,12 +74,11 @@ few l =
     (omega (arith, e.interval, s.8), omega (arith, e.segment, s.3))
 
 loop-again : tie.Need-loop-i-preserved-then-breaks-m invariant-loop decreases-loop
-loop-again c =
-    (
-      standing_segment c.loop-i.invariant.0 (begun c.before.before.before.before.before.before).requires.1.0 (omega arith)
-          c.intersect-x.ensures c.with_intersection-so_far.ensures c.if-breaks-m.true,
-      c.loop-i.invariant.1,
-    )
+loop-again c = (
+  standing_segment c.loop-i.invariant.0 (begun c.before.before.before.before.before.before).requires.1.0 (omega arith)
+      c.intersect-x.ensures c.with_intersection-so_far.ensures c.if-breaks-m.true,
+  c.loop-i.invariant.1,
+)
 
 next-requires-2 : tie.Need-next-current-requires-else-breaks-m invariant-loop decreases-loop
 next-requires-2 c κs =
@@ -90,14 +88,13 @@ next-requires-2 c κs =
     )
 
 loop-again-2 : tie.Need-loop-i-preserved invariant-loop decreases-loop
-loop-again-2 c =
-    (
-      standing_interval c.loop-i.invariant.0 (begun c.before.before.before.before.before.before.before).requires.1.0 (omega arith)
-          c.intersect-x.ensures c.with_intersection-so_far.ensures
-          c.if-breaks-m.false
-          (λ h. normal c.before.before.before.before.before.before.before _ (c.loop-i.i + 1 + 1) (c.next-current-else-breaks-m.ensures h)),
-      c.next-current-else-breaks-m.ensures,
-    )
+loop-again-2 c = (
+  standing_interval c.loop-i.invariant.0 (begun c.before.before.before.before.before.before.before).requires.1.0 (omega arith)
+      c.intersect-x.ensures c.with_intersection-so_far.ensures
+      c.if-breaks-m.false
+      (λ h. normal c.before.before.before.before.before.before.before _ (c.loop-i.i + 1 + 1) (c.next-current-else-breaks-m.ensures h)),
+  c.next-current-else-breaks-m.ensures,
+)
 
 returns : tie.Need-returns invariant-loop decreases-loop
 returns c = standing_last c.loop-i.invariant.0 (omega arith)

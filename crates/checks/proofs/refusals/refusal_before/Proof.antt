@@ -42,8 +42,7 @@ tolerant c =
 -- what 26 is asked of
 too-fine-requires : tie.Need-too_fine-requires
 too-fine-requires c κs =
-    let l = lane c.before.before.before.before.before.before.before in
-    (
+    let l = lane c.before.before.before.before.before.before.before in (
       (c.requires.0, c.requires.1, c.requires.2, omega (arith, all_axes l (formed c.before.before))),
       (
         λ a h. (good_axes l (formed c.before.before) a h).0,

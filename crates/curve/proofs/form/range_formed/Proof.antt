@@ -8,18 +8,18 @@ use Rattle.curve.proofs.form.range_formed.Tie as tie
 returns : tie.Need-returns-then-is_finite-3
 unfolding range_formed
 returns c = rw (
-      sym c.is_finite.ensures ∙ c.if-is_finite.true,
-      sym c.is_finite-then-is_finite.ensures ∙ c.if-is_finite-2.true,
-      sym c.is_finite-then-is_finite-2.ensures ∙ c.if-is_finite-3.true,
-    )
+  sym c.is_finite.ensures ∙ c.if-is_finite.true,
+  sym c.is_finite-then-is_finite.ensures ∙ c.if-is_finite-2.true,
+  sym c.is_finite-then-is_finite-2.ensures ∙ c.if-is_finite-3.true,
+)
 
 returns-2 : tie.Need-returns-else-is_finite-3
 unfolding range_formed
 returns-2 c = rw (
-      sym c.is_finite.ensures ∙ c.if-is_finite.true,
-      sym c.is_finite-then-is_finite.ensures ∙ c.if-is_finite-2.true,
-      sym c.is_finite-then-is_finite-2.ensures ∙ c.if-is_finite-3.false,
-    )
+  sym c.is_finite.ensures ∙ c.if-is_finite.true,
+  sym c.is_finite-then-is_finite.ensures ∙ c.if-is_finite-2.true,
+  sym c.is_finite-then-is_finite-2.ensures ∙ c.if-is_finite-3.false,
+)
 
 returns-3 : tie.Need-returns-else-is_finite-2
 unfolding range_formed

@@ -26,12 +26,12 @@ returns-4 c = rw (ne_eqb _ _ c.if-cells-n.true, and-false)
 
 returns-5 : tie.Need-returns-then-breaks
 returns-5 c = rw (
-      le-leb _ _ c.if-n-lt1.false,
-      le-leb _ _ c.if-n-gt20000.false,
-      eq-eqb _ _ c.if-breaks-n.false,
-      eq-eqb _ _ c.if-cells-n.false,
-      c.if-breaks.true,
-    )
+  le-leb _ _ c.if-n-lt1.false,
+  le-leb _ _ c.if-n-gt20000.false,
+  eq-eqb _ _ c.if-breaks-n.false,
+  eq-eqb _ _ c.if-cells-n.false,
+  c.if-breaks.true,
+)
 
 returns-6 : tie.Need-returns
 returns-6 c = rw (c.if-breaks.false, and-false)

@@ -38,14 +38,14 @@ returns-7 c = rw (sym c.others_shaped.ensures ∙ not-true _ c.if-not-others_sha
 returns-8 : tie.Need-returns
 unfolding well_shaped
 returns-8 c = rw (
-      le-leb 1 _ c.if-d-lt1.false,
-      le-leb _ 16 c.if-d-gt16.false,
-      le-leb 1 _ c.if-k-lt1.false,
-      le-leb _ _ c.if-d-k.false,
-      sym c.axes_formed.ensures ∙ not-false _ c.if-not-axes_formed.false-raw,
-      sym c.set_shaped.ensures ∙ not-false _ c.if-not-set_shaped.false-raw,
-      sym c.others_shaped.ensures ∙ not-false _ c.if-not-others_shaped.false-raw,
-    ) c.range_formed.ensures
+  le-leb 1 _ c.if-d-lt1.false,
+  le-leb _ 16 c.if-d-gt16.false,
+  le-leb 1 _ c.if-k-lt1.false,
+  le-leb _ _ c.if-d-k.false,
+  sym c.axes_formed.ensures ∙ not-false _ c.if-not-axes_formed.false-raw,
+  sym c.set_shaped.ensures ∙ not-false _ c.if-not-set_shaped.false-raw,
+  sym c.others_shaped.ensures ∙ not-false _ c.if-not-others_shaped.false-raw,
+) c.range_formed.ensures
 
 pub well_shaped_spec : {M : Type 1} → statement M
 well_shaped_spec =

@@ -43,8 +43,7 @@ loop-holds c = (omega arith, omega arith, refl)
 
 loop-again : tie.Need-loop-a-preserved invariant-loop decreases-loop
 loop-again c =
-    let l = c.loop-a in
-    (
+    let l = c.loop-a in (
       omega arith,
       omega (arith, c.one_if-others.ensures.1),
       counted c.args.axes.now c.args.k l.a l.others c.position.result c.one_if-others.result l.invariant.2

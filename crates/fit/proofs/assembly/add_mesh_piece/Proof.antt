@@ -2,7 +2,6 @@
 use mathlib.Core.Path.{◌∙◌}
 use native.Mathlib.Omega.{arith}
 use borrow.Author.Rules.{rules}
-use Rattle.fit.specs.Region.{before}
 use Rattle.fit.specs.Assembly.{mesh_turn}
 use Rattle.fit.proofs.Placing.{placed}
 use Rattle.fit.proofs.assembly.add_mesh_piece.Statement.{statement}

@@ -5,7 +5,6 @@ use native.Mathlib.Omega.{arith}
 use borrow.Author.Rules.{rules}
 use Rattle.fitting_rows.specs.Arrays.{arrays_at}
 use Rattle.fit.specs.Region.{before, system_at}
-use Rattle.fit.specs.Assembly.{added}
 use Rattle.fit.proofs.Placing.{placed}
 use Rattle.fit.proofs.Turns.{penalty_left, penalty_added}
 use Rattle.fit.proofs.assembly.add_penalty.Statement.{statement}

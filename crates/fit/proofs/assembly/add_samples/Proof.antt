@@ -12,7 +12,6 @@ use Rattle.fitting_rows.specs.Arrays.{arrays_at}
 use Rattle.fit.specs.Region.{before, system_at}
 use Rattle.fitting_rows.specs.Samples.{dense_of, sample_span, sample_row_of}
 use Rattle.fit.specs.Assembly.{assembled, added, sample_turn, samples_of}
-use Rattle.window.specs.Cells.{at}
 use Rattle.fit.proofs.Placing.{placed}
 use Rattle.fit.proofs.Turns.{row_counted, sample_counted, sample_passed}
 use Rattle.fit.proofs.assembly.add_samples.Statement.{statement}

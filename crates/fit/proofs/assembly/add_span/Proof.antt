@@ -7,7 +7,7 @@ use lib.ListN.{length}
 use Rattle.fitting_rows.specs.Arrays.{Arrays, arrays_at}
 use Rattle.fit.specs.Region.{before, system_at}
 use Rattle.fitting_rows.specs.Pieces.{mesh_span}
-use Rattle.fit.specs.Assembly.{assembled, added, mesh_of}
+use Rattle.fit.specs.Assembly.{assembled, mesh_of}
 use lib.Ieee.{nan, lt}
 use Rattle.window.specs.Cells.{at}
 use Rattle.window.proofs.Windows.{length_window}

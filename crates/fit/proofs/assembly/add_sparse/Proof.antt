@@ -11,7 +11,6 @@ use Rattle.arith.proofs.Loops.{each_done, each_next}
 use Rattle.fitting_rows.specs.Arrays.{arrays_at}
 use Rattle.fit.specs.Region.{before, system_at}
 use Rattle.fit.specs.Assembly.{assembled, low, high, sparse_turn, sparse_of}
-use Rattle.window.specs.Cells.{at}
 use Rattle.fit.proofs.assembly.add_sparse.Statement.{statement}
 use Rattle.fit.proofs.assembly.add_sparse.Tie as tie
 

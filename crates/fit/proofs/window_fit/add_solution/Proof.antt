@@ -11,7 +11,7 @@ use Rattle.arith.proofs.Loops.{each_done, each_next}
 use Rattle.window.specs.Window.{window, splice}
 use Rattle.window.proofs.Windows.{length_window, window_at, splice_window}
 use Rattle.normal.specs.System.{size_of}
-use Rattle.fit.specs.Region.{before, system_at}
+use Rattle.fit.specs.Region.{system_at}
 use Rattle.fit.specs.Fit.{add_turn, added_to}
 use Rattle.fit.proofs.Solution.{controls_added, others_kept}
 use Rattle.fit.proofs.window_fit.add_solution.Statement.{statement}

@@ -9,7 +9,6 @@ use Rattle.window.specs.Cells.{zeros}
 use Rattle.window.proofs.Windows.{length_window}
 use Rattle.normal.specs.System.{size_of, system_of}
 use Rattle.normal.proofs.Arrays.{new_system}
-use Rattle.fit.specs.Region.{before}
 use Rattle.fit.proofs.Placing.{front_kept, back_written}
 use Rattle.fit.proofs.window_fit.clear_system.Statement.{statement}
 use Rattle.fit.proofs.window_fit.clear_system.Tie as tie

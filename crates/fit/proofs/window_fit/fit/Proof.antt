@@ -3,7 +3,6 @@ use mathlib.Core.Path.{refl, sym, ap, ◌∙◌}
 use native.Mathlib.Omega.{arith}
 use borrow.Author.Rules.{rules}
 use Rattle.normal.specs.Solve.{number_of}
-use Rattle.fit.specs.Region.{before}
 use Rattle.fit.proofs.Fitting.{after_refusal, after_solution}
 use Rattle.fit.proofs.RowCounts.{answer_bounded}
 use Rattle.fit.proofs.window_fit.fit.Statement.{statement}

@@ -7,7 +7,6 @@ use lib.Ieee.{Float, nan, le}
 use Rattle.window.specs.Window.{window}
 use Rattle.window.specs.Cells.{at}
 use Rattle.window.proofs.Windows.{length_window, window_cell}
-use Rattle.fit.specs.Region.{before}
 use Rattle.fitting_rows.specs.Samples.{below}
 use Rattle.fitting_rows.specs.Pieces.{at_or_below}
 use Rattle.bspline.proofs.PointWithin.{point_within}

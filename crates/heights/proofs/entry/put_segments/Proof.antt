@@ -73,8 +73,7 @@ slice-aggregate-put-steps c = sym c.on_segment-c.ensures.small.0
 
 put-steps-requires : tie.Need-put_steps-requires invariant-loop decreases-loop
 put-steps-requires c κs =
-    let l = c.loop-i in
-    (
+    let l = c.loop-i in (
       length_window (257 * l.i) (257 * l.i + 257) l.out (omega arith) (room c.before.before.before) ∙ omega arith,
       c.requires.1,
       c.on_segment-c.ensures.small,

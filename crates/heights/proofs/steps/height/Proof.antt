@@ -41,12 +41,11 @@ add-sum-2 c =
     )
 
 loop-again : tie.Need-loop-k-preserved invariant-loop decreases-loop
-loop-again c =
-    (
-      omega arith,
-      sum_next c.args.weights.now c.args.controls.now c.args.j c.requires.1 c.requires.0 c.requires.2 c.loop-k.k
-          c.loop-k.sum c.loop-k-test.true c.loop-k.invariant.1,
-    )
+loop-again c = (
+  omega arith,
+  sum_next c.args.weights.now c.args.controls.now c.args.j c.requires.1 c.requires.0 c.requires.2 c.loop-k.k
+      c.loop-k.sum c.loop-k-test.true c.loop-k.invariant.1,
+)
 
 -- the sum of all six
 whole : (c : tie.After-loop-k invariant-loop decreases-loop) → c.loop-k.sum
@@ -64,8 +63,7 @@ sub-result c = omega (arith, c.one_below.ensures.1, whole c.before)
 
 returns : tie.Need-returns invariant-loop decreases-loop
 returns c =
-    let l = c.loop-k in
-    (
+    let l = c.loop-k in (
       lifted_height c.args.controls.now c.args.j l.sum c.one_below.result c.requires.0 c.requires.2 (whole c.before)
           c.one_below.ensures.0,
       lifted_small l.sum c.one_below.result (small c.before),

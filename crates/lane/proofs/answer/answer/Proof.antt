@@ -1,11 +1,8 @@
 -- `answer::answer` meets its contract: the job that was read is the definition's, and so is what `build` answers to it.
 use mathlib.Core.Path.{◌≡◌, sym, ap, ◌∙◌}
-use mathlib.Core.List.{List}
-use Prim.Native.Nat.{ℕ, ◌≤◌}
 use native.Mathlib.Omega.{arith}
 use borrow.Author.Rules.{rules}
-use Rattle.smoothing.specs.Answer.Answer.{done, refused}
-use Rattle.job.specs.declared.Counts.{Counts}
+use Rattle.smoothing.specs.Answer.Answer.{done}
 use Rattle.job.specs.Reading.{told_by}
 use Rattle.lane.specs.Printed.{printed_of}
 use Rattle.lane.specs.Room.{Small}

@@ -1,6 +1,5 @@
 -- `lines::answered` meets its contract, arm by arm.
-use mathlib.Core.Path.{◌≡◌, sym, ap, ◌∙◌}
-use native.Mathlib.Omega.{arith}
+use mathlib.Core.Path.{sym, ap, ◌∙◌}
 use borrow.Author.Rules.{rules}
 use Rattle.smoothing.specs.Answer.Answer.{refused}
 use Rattle.building.specs.Outcome.{outcome_of}
@@ -16,11 +15,10 @@ returns c =
     )
 
 returns-2 : tie.Need-returns-in-RefinementsUsedUp
-returns-2 c =
-    (
-      c.exhausted.ensures.0,
-      λ y e h. c.exhausted.ensures.1 ∙ exhausted_told _ y (sym (ap outcome_of c.in-RefinementsUsedUp.is) ∙ e),
-    )
+returns-2 c = (
+  c.exhausted.ensures.0,
+  λ y e h. c.exhausted.ensures.1 ∙ exhausted_told _ y (sym (ap outcome_of c.in-RefinementsUsedUp.is) ∙ e),
+)
 
 returns-3 : tie.Need-returns-in_default
 returns-3 c =

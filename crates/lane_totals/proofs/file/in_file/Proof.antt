@@ -37,12 +37,11 @@ never-short c =
     s.requires.0.0 s.requires.0.1 s.requires.0.2 s.requires.0.3
 
 returns : tie.Need-returns-then-read_number-ne0
-returns c =
-    (
-      c.one_away.ensures.0
-          ∙ file_away (file c.before.before.before.before.before.before.before.before.before.before.before) (lent c.before.before.before.before.before.before.before.before.before.before.before) (λ z. c.if-read_number-ne0.true (c.read_number.ensures ∙ number c.before.before.before.before.before.before.before.before.before.before.before ∙ z)) (never-short c.before.before.before.before.before.before.before.before.before.before.before),
-      kept_wider 1 0 20000 _ (omega arith) c.one_away.ensures.1,
-    )
+returns c = (
+  c.one_away.ensures.0
+      ∙ file_away (file c.before.before.before.before.before.before.before.before.before.before.before) (lent c.before.before.before.before.before.before.before.before.before.before.before) (λ z. c.if-read_number-ne0.true (c.read_number.ensures ∙ number c.before.before.before.before.before.before.before.before.before.before.before ∙ z)) (never-short c.before.before.before.before.before.before.before.before.before.before.before),
+  kept_wider 1 0 20000 _ (omega arith) c.one_away.ensures.1,
+)
 
 -- the curve was read
 done : (c : tie.Else-read_number-ne0) → read_number c.read-read.result.answer

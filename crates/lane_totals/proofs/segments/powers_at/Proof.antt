@@ -1,6 +1,6 @@
 -- `segments::powers_at` meets its contract. The invariant: the first k coefficients are in their cells.
 use mathlib.Core.Path.{◌≡◌, refl, sym, ap, ◌∙◌}
-use mathlib.Core.List.{List, [], ◌++◌, map, append-nil}
+use mathlib.Core.List.{List, ◌++◌, map, append-nil}
 use Prim.Native.Nat.{ℕ, ◌+◌, ◌-◌, ◌≤◌, ◌<◌}
 use native.Mathlib.Omega.{arith}
 use borrow.Author.Rules.{rules}
@@ -48,8 +48,7 @@ loop-holds c = (omega arith, refl)
 
 loop-again : tie.Need-loop-k-preserved invariant-loop decreases-loop
 loop-again c =
-    let l = c.loop-k in
-    (
+    let l = c.loop-k in (
       omega (arith, c.loop-k-test.true),
       next c.args.coefficients.now c.args.from l.k _ l.cells c.number.result c.requires c.loop-k-test.true refl
           c.number.ensures l.invariant.1,

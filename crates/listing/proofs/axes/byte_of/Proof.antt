@@ -1,5 +1,5 @@
 -- `axes::byte_of` meets its contract.
-use Rattle.std.proofs.Common.{◌≡◌, ℕ, ◌/◌, ◌%◌, ◌^◌, min, sym, refl, ap, ◌∙◌, div-one, arith, rules}
+use Rattle.std.proofs.Common.{◌≡◌, ℕ, ◌/◌, ◌%◌, ◌^◌, min, sym, ap, ◌∙◌, div-one, arith}
 use Rattle.listing.specs.Axes.{byte_of}
 use Rattle.listing.proofs.axes.byte_of.Statement.{statement}
 use Rattle.listing.proofs.axes.byte_of.Tie as tie

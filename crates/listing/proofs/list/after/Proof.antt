@@ -1,5 +1,5 @@
 -- `list::after` meets its contract.
-use Rattle.std.proofs.Common.{◌≡◌, sym, refl, ap, ◌∙◌, arith, rules, le-leb}
+use Rattle.std.proofs.Common.{rules, le-leb}
 use borrow.Author.Tests.{lt-leb}
 use Rattle.listing.proofs.list.after.Statement.{statement}
 use Rattle.listing.proofs.list.after.Tie as tie

@@ -1,5 +1,5 @@
 -- `output::byte` meets its contract.
-use Rattle.std.proofs.Common.{◌≡◌, min, length, set, sym, refl, ap, ◌∙◌, arith, rules}
+use Rattle.std.proofs.Common.{◌≡◌, min, length, set, sym, ap, ◌∙◌, arith, rules}
 use lib.Seq.{set_out}
 use Rattle.listing.proofs.Printing.{put_room, put_full}
 use Rattle.listing.proofs.output.byte.Statement.{statement}

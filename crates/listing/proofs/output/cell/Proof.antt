@@ -1,5 +1,5 @@
 -- `output::cell` meets its contract.
-use Rattle.std.proofs.Common.{◌≡◌, sym, refl, ap, ◌∙◌, arith, rules}
+use Rattle.std.proofs.Common.{rules}
 use Rattle.listing.proofs.Printing.{byte_then}
 use Rattle.listing.proofs.output.cell.Statement.{statement}
 use Rattle.listing.proofs.output.cell.Tie as tie

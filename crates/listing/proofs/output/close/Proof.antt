@@ -1,5 +1,5 @@
 -- `output::close` meets its contract.
-use Rattle.std.proofs.Common.{◌≡◌, sym, refl, ap, ◌∙◌, arith, rules}
+use Rattle.std.proofs.Common.{sym, ap, ◌∙◌, rules}
 use Rattle.listing.proofs.Printing.{printed_one}
 use Rattle.listing.proofs.output.close.Statement.{statement}
 use Rattle.listing.proofs.output.close.Tie as tie

@@ -1,5 +1,5 @@
 -- `output::end` meets its contract.
-use Rattle.std.proofs.Common.{◌≡◌, sym, refl, ap, ◌∙◌, arith, rules}
+use Rattle.std.proofs.Common.{sym, refl, ◌∙◌, rules}
 use Rattle.listing.proofs.Printing.{printed_one}
 use Rattle.listing.proofs.output.end.Statement.{statement}
 use Rattle.listing.proofs.output.end.Tie as tie

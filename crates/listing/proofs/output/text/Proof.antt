@@ -1,5 +1,5 @@
 -- `output::text` meets its contract.
-use Rattle.std.proofs.Common.{◌≡◌, sym, refl, ap, ◌∙◌, arith, rules}
+use Rattle.std.proofs.Common.{ap, ◌∙◌, rules}
 use lib.Seq.{take-length}
 use Rattle.listing.specs.Output.{printed}
 use Rattle.listing.proofs.output.text.Statement.{statement}

@@ -1,4 +1,4 @@
-use Rattle.std.proofs.Common.{◌≤◌, ◌∙◌, arith}
+use Rattle.std.proofs.Common.{◌∙◌, arith}
 use Rattle.listing.proofs.Printing.{byte_then, fewest_digits, few_digits}
 use Rattle.listing.proofs.output.whole.Goals as goal
 

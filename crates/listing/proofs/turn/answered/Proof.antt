@@ -1,5 +1,5 @@
 -- `turn::answered` meets its contract.
-use Rattle.std.proofs.Common.{◌≡◌, true, false, sym, refl, ap, ◌∙◌, arith, rules}
+use Rattle.std.proofs.Common.{◌≡◌, true, false, refl, rules}
 use borrow.Author.Tests.{not-true, not-false}
 use Rattle.listing.proofs.turn.answered.Statement.{statement}
 use Rattle.listing.proofs.turn.answered.Tie as tie

@@ -1,5 +1,5 @@
 -- `turn::stopped` meets its contract.
-use Rattle.std.proofs.Common.{◌≡◌, false, sym, refl, ap, ◌∙◌, arith, rules}
+use Rattle.std.proofs.Common.{◌≡◌, false, sym, refl, ◌∙◌, rules}
 use Rattle.listing.specs.Lines.{is_end}
 use Rattle.listing.proofs.turn.stopped.Statement.{statement}
 use Rattle.listing.proofs.turn.stopped.Tie as tie

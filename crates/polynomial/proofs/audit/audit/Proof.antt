@@ -1,7 +1,5 @@
 -- `audit::audit` meets its contract: it lends cells of its own.
 use native.Mathlib.Omega.{arith}
-use lib.ListN.{length}
-use Rattle.window.proofs.Windows.{length_window}
 use Rattle.polynomial.proofs.audit.audit.Statement.{statement}
 use Rattle.polynomial.proofs.audit.audit.Tie as tie
 

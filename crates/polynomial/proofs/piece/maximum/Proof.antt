@@ -1,5 +1,5 @@
 -- `piece::maximum` meets its contract. The invariant: the turns left, from the largest now, give what all give.
-use mathlib.Core.Path.{◌≡◌, refl, ap, sym, ◌∙◌}
+use mathlib.Core.Path.{◌≡◌, ap, sym, ◌∙◌}
 use Prim.Native.Nat.{◌-◌, ◌≤◌}
 use native.Mathlib.Omega.{arith}
 use Rattle.arith.specs.Loop.{each}

@@ -38,24 +38,24 @@ returns-5 c = rw (le-leb 2 _ c.if-order-lt2.false, lt-ltb _ _ c.if-ddq-needed.tr
 returns-6 : tie.Need-returns-then-order-lt3
 unfolding short_of
 returns-6 c = rw (
-      le-ltb _ _ c.if-q-needed.false,
-      le-leb 1 _ c.if-order-lt1.false,
-      le-ltb _ _ c.if-dq-needed.false,
-      le-leb 2 _ c.if-order-lt2.false,
-      le-ltb _ _ c.if-ddq-needed.false,
-      lt-leb 3 _ c.if-order-lt3.true,
-    )
+  le-ltb _ _ c.if-q-needed.false,
+  le-leb 1 _ c.if-order-lt1.false,
+  le-ltb _ _ c.if-dq-needed.false,
+  le-leb 2 _ c.if-order-lt2.false,
+  le-ltb _ _ c.if-ddq-needed.false,
+  lt-leb 3 _ c.if-order-lt3.true,
+)
 
 returns-7 : tie.Need-returns
 unfolding short_of
 returns-7 c = rw (
-      le-ltb _ _ c.if-q-needed.false,
-      le-leb 1 _ c.if-order-lt1.false,
-      le-ltb _ _ c.if-dq-needed.false,
-      le-leb 2 _ c.if-order-lt2.false,
-      le-ltb _ _ c.if-ddq-needed.false,
-      le-leb 3 _ c.if-order-lt3.false,
-    )
+  le-ltb _ _ c.if-q-needed.false,
+  le-leb 1 _ c.if-order-lt1.false,
+  le-ltb _ _ c.if-dq-needed.false,
+  le-leb 2 _ c.if-order-lt2.false,
+  le-ltb _ _ c.if-ddq-needed.false,
+  le-leb 3 _ c.if-order-lt3.false,
+)
 
 pub short_spec : {M : Type 1} → statement M
 short_spec =

@@ -12,18 +12,18 @@ find-places-requires c κs = let f = formed _ _ c.requires.0 in
 
 write-rows-requires : tie.Need-write_rows-requires
 write-rows-requires c κs = (
-      c.requires.0,
+  c.requires.0,
+  (
+    c.find_places-found.ensures,
+    (
+      (refl, refl),
       (
-        c.find_places-found.ensures,
-        (
-          (refl, refl),
-          (
-            c.requires.1.0,
-            ((c.begin-from.ensures, c.begin-other_from.ensures), c.requires.1.1),
-          ),
-        ),
+        c.requires.1.0,
+        ((c.begin-from.ensures, c.begin-other_from.ensures), c.requires.1.1),
       ),
-    )
+    ),
+  ),
+)
 
 pub write_all_spec : {M : Type 1} → statement M
 write_all_spec =

@@ -1,7 +1,6 @@
 -- `search::span` meets its contract: by cases on where x lies.
-use Prim.Native.Nat.{◌+◌, ◌<◌}
+use Prim.Native.Nat.{◌+◌}
 use native.Mathlib.Omega.{arith}
-use lib.ListN.{length}
 use Rattle.query.proofs.Searching.{at_least, above_first, found_span, found_first}
 use Rattle.query.proofs.search.span.Statement.{statement}
 use Rattle.query.proofs.search.span.Tie as tie

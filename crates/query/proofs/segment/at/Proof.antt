@@ -7,15 +7,15 @@ use Rattle.query.proofs.segment.at.Tie as tie
 returns : tie.Need-returns
 unfolding at_of
 returns c = rw (
-      c.powi-4.ensures,
-      c.horner-4.ensures,
-      c.powi-3.ensures,
-      c.horner-3.ensures,
-      c.powi-2.ensures,
-      c.horner-2.ensures,
-      c.powi.ensures,
-      c.horner.ensures,
-    )
+  c.powi-4.ensures,
+  c.horner-4.ensures,
+  c.powi-3.ensures,
+  c.horner-3.ensures,
+  c.powi-2.ensures,
+  c.horner-2.ensures,
+  c.powi.ensures,
+  c.horner.ensures,
+)
 
 pub at_spec : {M : Type 1} → statement M
 at_spec =

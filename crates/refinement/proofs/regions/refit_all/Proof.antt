@@ -31,16 +31,15 @@ abbrev decreases-loop : tie.decreases-loop-from
 decreases-loop work₀ p count strength so-far₀ from₀ work so_far from = count - from
 
 loop-holds : tie.Need-loop-from-init invariant-loop decreases-loop
-loop-holds c =
-    (
-      omega arith,
-      refl,
-      c.requires.0.3,
-      same_self (memory_at c.args.p c.args.work.now),
-      refl,
-      refl,
-      record { rows = omega arith; intervals = omega arith },
-    )
+loop-holds c = (
+  omega arith,
+  refl,
+  c.requires.0.3,
+  same_self (memory_at c.args.p c.args.work.now),
+  refl,
+  refl,
+  record { rows = omega arith; intervals = omega arith },
+)
 
 region-turn-requires : tie.Need-region_turn-t-requires invariant-loop decreases-loop
 region-turn-requires c κs =

@@ -5,16 +5,15 @@ use Rattle.replay_queries.proofs.queries.answer.Statement.{statement}
 use Rattle.replay_queries.proofs.queries.answer.Tie as tie
 
 ask-requires : tie.Need-ask-next-requires
-ask-requires c κs =
-    (
-      c.counted_slices-p.ensures,
-      (
-        c.length_of.ensures,
-        c.length_of-2.ensures,
-        c.length_of-3.ensures,
-        c.length_of-4.ensures,
-      ),
-    )
+ask-requires c κs = (
+  c.counted_slices-p.ensures,
+  (
+    c.length_of.ensures,
+    c.length_of-2.ensures,
+    c.length_of-3.ensures,
+    c.length_of-4.ensures,
+  ),
+)
 
 pub answer_spec : {M : Type 1} → statement M
 answer_spec =

@@ -30,19 +30,17 @@ checked : (c : tie.After-is_finite invariant-loop decreases-loop) → c.is_finit
 checked c = c.is_finite.ensures ∙ ap finite (c.first-start.ensures _ _)
 
 returns : tie.Need-returns-then-not-is_finite invariant-loop decreases-loop
-returns c =
-    (
-      sym (misplaced_first (at (p c.before.before.before.before.before)) c.args.n (omega arith) (sym (checked c.before) ∙ not-true _ c.if-not-is_finite.true-raw)),
-      λ h. absurd (true≢false h),
-    )
+returns c = (
+  sym (misplaced_first (at (p c.before.before.before.before.before)) c.args.n (omega arith) (sym (checked c.before) ∙ not-true _ c.if-not-is_finite.true-raw)),
+  λ h. absurd (true≢false h),
+)
 
 loop-holds : tie.Need-loop-i-init invariant-loop decreases-loop
-loop-holds c =
-    (
-      omega arith,
-      c.first-start.ensures _ _,
-      in_place_first (at (p c.before.before.before.before.before)) (sym (checked c.before) ∙ not-false _ c.if-not-is_finite.false-raw),
-    )
+loop-holds c = (
+  omega arith,
+  c.first-start.ensures _ _,
+  in_place_first (at (p c.before.before.before.before.before)) (sym (checked c.before) ∙ not-false _ c.if-not-is_finite.false-raw),
+)
 
 following-requires : tie.Need-following-x-requires invariant-loop decreases-loop
 following-requires c κs =
@@ -55,8 +53,7 @@ turned c = test_same _ _ _ _ c.following-x.ensures c.loop-i.invariant.1 c.is_mis
 
 returns-2 : tie.Need-returns-then-is_misplaced invariant-loop decreases-loop
 returns-2 c =
-    let l = c.loop-i in
-    (
+    let l = c.loop-i in (
       sym (misplaced_found (at (p c.before.before.before.before.before.before.before.before.before.before)) c.args.n (omega arith) l.i c.loop-i-test.true
           (turned c.before ∙ c.if-is_misplaced.true)),
       λ h. absurd (true≢false h),

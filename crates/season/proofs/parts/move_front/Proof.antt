@@ -50,8 +50,7 @@ loop-holds c = (omega arith, refl, refl)
 
 loop-again : tie.Need-loop-i-preserved invariant-loop decreases-loop
 loop-again c =
-    let l = c.loop-i in
-    (
+    let l = c.loop-i in (
       omega (arith, c.loop-i-test.true),
       length-set l.bytes l.i _ ∙ l.invariant.1,
       next c.args.bytes.now l.bytes c.args.from c.args.end l.i c.requires.0 c.requires.1 c.loop-i-test.true l.invariant.2,

@@ -22,14 +22,13 @@ decreases-loop bytes last weights breaks₀ coefficients₀ other-breaks₀ othe
     length bytes - at
 
 loop-holds : tie.Need-loop-at-init invariant-loop decreases-loop
-loop-holds c =
-    (
-      refl,
-      refl,
-      refl,
-      refl,
-      taken_none c.args.bytes.now c.args.last c.args.before c.requires.0,
-    )
+loop-holds c = (
+  refl,
+  refl,
+  refl,
+  refl,
+  taken_none c.args.bytes.now c.args.last c.args.before c.requires.0,
+)
 
 take-one-requires : tie.Need-take_one-one-requires invariant-loop decreases-loop
 take-one-requires c κs =

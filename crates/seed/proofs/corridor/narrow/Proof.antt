@@ -32,14 +32,13 @@ mul-to c =
 
 loop-holds : tie.Need-loop-j-init invariant-loop decreases-loop
 unfolding narrowed
-loop-holds c =
-    (
-      omega arith,
-      row_end c.args.anchor _ c.args.d _ c.requires.2 c.requires.1,
-      row_end c.args.i _ c.args.d _ c.requires.3
-          c.requires.1,
-      refl,
-    )
+loop-holds c = (
+  omega arith,
+  row_end c.args.anchor _ c.args.d _ c.requires.2 c.requires.1,
+  row_end c.args.i _ c.args.d _ c.requires.3
+      c.requires.1,
+  refl,
+)
 
 loop-again : tie.Need-loop-j-preserved invariant-loop decreases-loop
 unfolding axis_turn of_bits round

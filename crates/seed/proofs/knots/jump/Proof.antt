@@ -35,14 +35,13 @@ mul-third c =
 
 loop-holds : tie.Need-loop-j-init invariant-loop decreases-loop
 unfolding jump_of
-loop-holds c =
-    (
-      omega arith,
-      row_end c.args.a _ c.args.d _ c.requires.1 c.requires.0,
-      row_end c.args.b _ c.args.d _ c.requires.2 c.requires.0,
-      row_end c.args.c _ c.args.d _ c.requires.3 c.requires.0,
-      refl,
-    )
+loop-holds c = (
+  omega arith,
+  row_end c.args.a _ c.args.d _ c.requires.1 c.requires.0,
+  row_end c.args.b _ c.args.d _ c.requires.2 c.requires.0,
+  row_end c.args.c _ c.args.d _ c.requires.3 c.requires.0,
+  refl,
+)
 
 loop-again : tie.Need-loop-j-preserved invariant-loop decreases-loop
 unfolding jump_turn

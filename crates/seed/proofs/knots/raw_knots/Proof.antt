@@ -1,6 +1,6 @@
 -- `knots::raw_knots` meets its contract. The invariant is `Begun`.
 use mathlib.Core.Path.{◌≡◌, refl, ◌∙◌}
-use Prim.Native.Nat.{ℕ, ◌-◌, ◌<◌}
+use Prim.Native.Nat.{◌-◌, ◌<◌}
 use native.Mathlib.Omega.{arith}
 use lib.ListN.{length, length-set}
 use Rattle.seed.specs.Anchors.{next_anchor}

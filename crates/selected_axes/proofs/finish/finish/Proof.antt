@@ -15,15 +15,14 @@ use Rattle.selected_axes.proofs.finish.finish.Statement.{statement}
 use Rattle.selected_axes.proofs.finish.finish.Tie as tie
 
 put-physical-requires : tie.Need-put_physical-requires
-put-physical-requires c κs =
-    (
-      c.requires.0,
-      c.requires.2,
-      c.requires.3,
-      c.requires.4,
-      c.requires.5,
-      wide (memory_at c.args.p c.args.work.now).t c.args.p.count c.requires.1,
-    )
+put-physical-requires c κs = (
+  c.requires.0,
+  c.requires.2,
+  c.requires.3,
+  c.requires.4,
+  c.requires.5,
+  wide (memory_at c.args.p c.args.work.now).t c.args.p.count c.requires.1,
+)
 
 -- the errors were read: where it began
 abbrev begun : tie.After-errors_in-errors → tie.Start

@@ -38,13 +38,12 @@ mul-last c =
 
 loop-holds : tie.Need-loop-a-init invariant-loop decreases-loop
 unfolding any
-loop-holds c =
-    (
-      omega arith,
-      row_end c.args.i c.args.n c.args.d _ c.requires.0 c.requires.2,
-      row_end (c.args.n - 1) c.args.n c.args.d _ (omega arith) c.requires.2,
-      refl,
-    )
+loop-holds c = (
+  omega arith,
+  row_end c.args.i c.args.n c.args.d _ c.requires.0 c.requires.2,
+  row_end (c.args.n - 1) c.args.n c.args.d _ (omega arith) c.requires.2,
+  refl,
+)
 
 returns : tie.Need-returns-then-not-abs invariant-loop decreases-loop
 unfolding chord_error of_bits round

@@ -1,14 +1,11 @@
 -- `others::interpolate_others` meets its contract.
-use mathlib.Core.Path.{◌≡◌, refl, sym, ap, ◌∙◌}
-use mathlib.Core.Bool.{true, false, cond}
-use mathlib.Core.List.{List}
-use Prim.Native.Nat.{ℕ, ◌+◌, ◌-◌, ◌*◌, ◌≤◌, ◌<◌}
+use mathlib.Core.Path.{refl, ap, ◌∙◌}
+use Prim.Native.Nat.{ℕ, ◌+◌, ◌*◌, ◌≤◌}
 use native.Mathlib.Omega.{arith}
 use native.Mathlib.Nat.{mul-le-mul_right}
 use borrow.Author.Rules.{rules}
 use borrow.Author.Tests.{ne_eqb}
-use lib.ListN.{length, take}
-use lib.Ieee.{Float}
+use lib.ListN.{length}
 use Rattle.window.proofs.TwoParts.{Apart, both_length, both_second}
 use Rattle.request.specs.Parameters.{parameter_list}
 use Rattle.smoothing.specs.Answer.{unless}

@@ -1,5 +1,5 @@
 -- `results::put_front` meets its contract.
-use mathlib.Core.Path.{◌≡◌, ◌∙◌}
+use mathlib.Core.Path.{◌∙◌}
 use native.Mathlib.Omega.{arith}
 use borrow.Author.Rules.{rules}
 use Rattle.work_slice.proofs.Copying.{front_onto}

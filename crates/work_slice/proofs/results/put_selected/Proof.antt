@@ -1,5 +1,5 @@
 -- `results::put_selected` meets its contract.
-use Prim.Native.Nat.{◌+◌, ◌-◌, ◌*◌}
+use Prim.Native.Nat.{◌-◌}
 use native.Mathlib.Omega.{arith}
 use borrow.Author.Rules.{rules}
 use Rattle.work_slice.proofs.Copying.{spans_fit}
