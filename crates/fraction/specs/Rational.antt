@@ -2,13 +2,13 @@
 -- with ≡, and the ring solver (Ring) and the order lemmas (Order) apply.
 use Rattle.std.specs.Prelude.{Bool, cond, not, T, pos, ℤ}
 use Rattle.std.proofs.Math.Bool.{Bool-set}
-use std.Quotient.{/_rec, /_rec₂, /_set, ◌/◌, cls, eq/}
+use std.Quotient.{/_rec, /_rec₂, /_set, cls, eq/}
 use Rattle.fraction.specs.Fraction.{Fraction, ◌≈◌, add_fractions, fraction_at_most, inverse_fraction, multiply_fractions, negate_fraction, whole_fraction}
 use Rattle.fraction.specs.WellDefined.{add_respects_left, add_respects_right, inverse_respects, le_respects_left, le_respects_right, mul_respects_left, mul_respects_right, neg_respects}
 
 -- the fractions, up to ≈
 abbrev pub ℚ : Type 0
-ℚ = Fraction / ◌≈◌
+ℚ = std.Quotient.◌/◌ Fraction ◌≈◌
 
 -- z / 1
 abbrev pub wholeq : ℤ → ℚ

@@ -1,5 +1,5 @@
 -- What a case of `normal` gives.
-use Rattle.std.specs.Prelude.{ℕ, ◌+◌, ◌≤◌}
+use Rattle.std.specs.Prelude.{◌+◌, ◌≤◌}
 use Rattle.replay_systems.specs.declared.systems.Window.{Window}
 
 -- the window lies among the controls, which are not too many
