@@ -1,5 +1,5 @@
 //! Compiles the unchanged source as the oracle does, with `src/appendix.rs` after the oracle's, and links
-//! the proved functions: `rt staticlib pamitoye` and `rt staticlib leaf_exports` write the archives. `boost.cpp` is
+//! the proved functions: `./build.sh pamitoye` and `./build.sh leaf_exports` write the archives. `boost.cpp` is
 //! compiled where there are a C++ compiler and Boost's headers (Debian's libboost-dev); elsewhere it is left out. `heights.c` is
 //! compiled at two levels of optimisation.
 #[path = "../oracle/build.rs"]

@@ -65,7 +65,7 @@ END
         }
         function rule(n,    s) { s = n == "" ? "+" : "+-- " n " "; while (length(s) < width + 25) s = s "-"; return s "+" }
         { sub(/#.*/, "") }
-        /:/ { n = substr($0, 1, index($0, ":") - 1); uses[n] = substr($0, index($0, ":") + 1); list[++count] = n }
+        /:/ { n = substr($0, 1, index($0, ":") - 1); sub(/ .*/, "", n); uses[n] = substr($0, index($0, ":") + 1); list[++count] = n }
         END {
             m = split(ENVIRON["PROGRAMS"], word, " "); for (k = 1; k <= m; k++) mark[word[k]] = "*"
             m = split(ENVIRON["BARE"], word, " "); for (k = 1; k <= m; k++) mark[word[k]] = "-"

@@ -15,18 +15,18 @@ import sys
 ROOT = os.path.join(os.path.dirname(os.path.abspath(__file__)), "..")
 CRATES = os.path.join(ROOT, "crates")
 WORD = re.compile(r"[^\s(){}\[\];,.|⌜⌝]+")
-IMPORT = re.compile(r"^(?:pub |ghost )?use Rattle·([a-z_0-9]+?)(?:·specs|·proofs)?\.(specs|proofs)\.([^{;]+?)(?:\.\{([^}]*)\})?(?: as (\w+))?;?$")
+IMPORT = re.compile(r"^(?:pub |ghost )?use Rattle\.([a-z_0-9]+?)\.(specs|proofs)\.([^{;]+?)(?:\.\{([^}]*)\})?(?: as (\w+))?;?$")
 DEFINED = re.compile(r"^ *(?:(?:unfoldable|abbrev|pub) )+(record |data )?(\S+?)(?= |$)")
 LAWS = "-- LAWS"
 
 
 def words(text):
-    """The words of a text, an operator `_+q_` also as it is written, `+q`."""
+    """The words of a text, an operator `◌+q◌` also as it is written, `+q`."""
     return set(WORD.findall(re.sub(r"--.*", "", text)))
 
 
 def is_in(name, found):
-    return name in found or (name.startswith("_") and name.strip("_") in found)
+    return name in found or (name.startswith("◌") and name.strip("◌") in found)
 
 
 class File:
@@ -52,7 +52,7 @@ def imports(text):
     names, whole = {}, {}
     for line in text.split("\n"):
         m = IMPORT.match(line)
-        if not m or m.group(2) != "specs" or m.group(3).startswith("declared"):
+        if not m or m.group(2) != "specs" or m.group(3).startswith("declared") or not os.path.isdir(os.path.join(CRATES, m.group(1))):
             continue
         crate, path = m.group(1), m.group(3).split(".")
         for word in (m.group(4) or "").split(","):

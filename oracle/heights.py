@@ -7,7 +7,7 @@
 
 LIBRARY is the archive as a shared object:
 
-    rt staticlib pamitoye
+    ./build.sh pamitoye
     cc -shared -o pamitoye.so -Wl,--whole-archive target/staticlib/libpamitoye.a -Wl,--no-whole-archive
 
 Controls are computed with Python's floats, which round as IEEE doubles do, all else with exact fractions. Every number and every

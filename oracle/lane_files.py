@@ -9,7 +9,7 @@
 
 LIBRARY is the archive as a shared object:
 
-    rt staticlib pamitoye
+    ./build.sh pamitoye
     cc -shared -o pamitoye.so -Wl,--whole-archive target/staticlib/libpamitoye.a -Wl,--no-whole-archive
 
 Every number, every output and every cell of every slice is compared, those that have to stay as they were too; each lent

@@ -3,7 +3,7 @@
 
 LIBRARY is the archive as a shared object:
 
-    rt staticlib pamitoye
+    ./build.sh pamitoye
     cc -shared -o pamitoye.so -Wl,--whole-archive target/staticlib/libpamitoye.a -Wl,--no-whole-archive
 
 graphlib tells which lanes are ready and whether there is a ring; of the ready lanes the lowest-numbered is taken. Numbers,

@@ -1,5 +1,5 @@
 //! Links the proved library: `libpamitoye.a` in the folder that `PAMITOYE_LIB_DIR` names, or else in
-//! `target/staticlib` of the repository, where `rt staticlib pamitoye` writes it.
+//! `target/staticlib` of the repository, where `./build.sh pamitoye` writes it.
 
 use std::env;
 use std::path::{Path, PathBuf};
@@ -14,7 +14,7 @@ fn main() {
     println!("cargo::rerun-if-changed={}", archive.display());
     if !archive.is_file() {
         println!(
-            "cargo::error={} is missing: run `rt staticlib pamitoye` in the repository's root, \
+            "cargo::error={} is missing: run `./build.sh pamitoye` in the repository's root, \
              or name the archive's folder in PAMITOYE_LIB_DIR",
             archive.display()
         );

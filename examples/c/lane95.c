@@ -1,5 +1,5 @@
 /* The 0.95 lane of document 01 from C: points 0, 0.95, 0, tolerance 1. Smooths it, queries it and
- * certifies it. From the repository's root, after `rt staticlib pamitoye`:
+ * certifies it. From the repository's root, after `./build.sh pamitoye`:
  *
  *     cc -std=c11 -Wall -Wextra -Werror -Iinclude examples/c/lane95.c \
  *         target/staticlib/libpamitoye.a -o lane95
