@@ -1,8 +1,6 @@
 -- `builds::pamitoye_build` meets its contract.
 use mathlib.Core.Path.{◌≡◌, ap, ◌∙◌}
-use mathlib.Core.List.{List}
 use borrow.Author.Rules.{rules}
-use lib.Ieee.{Float}
 use Rattle.request.specs.declared.parameters.Spacing.{Spacing}
 use Rattle.smoothing.specs.Answer.{Answer, number_of}
 use Rattle.smoothing.specs.Request.{Lane, Limits}

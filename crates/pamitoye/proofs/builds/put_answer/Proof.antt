@@ -1,5 +1,5 @@
 -- `builds::put_answer` meets its contract: by the case of the answer.
-use mathlib.Core.Path.{◌≡◌, sym, ap, ◌∙◌}
+use mathlib.Core.Path.{sym, ap, ◌∙◌}
 use borrow.Author.Rules.{rules}
 use Rattle.building.specs.declared.Answer.{Answer}
 use Rattle.building.specs.Outcome.{outcome_of}
