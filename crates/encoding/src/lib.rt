@@ -62,11 +62,14 @@ pub fn wholes(bytes: &[u8], cells: &mut [u64])
     }
 }
 
+// The pattern of infinity: those of a NaN lie above it, but for the sign.
+const INFINITY: u64 = 0x7ff0_0000_0000_0000;
+
 // The f64 of a bit pattern; any NaN's pattern gives a NaN.
 pub fn number(bits: u64) -> f64
     ensures { result ≡ of_bits binary64 bits }
 {
-    if bits % 0x8000_0000_0000_0000 > 0x7ff0_0000_0000_0000 {
+    if bits % 0x8000_0000_0000_0000 > INFINITY {
         return 0.0 / 0.0;
     }
     f64::from_bits(bits)

@@ -14,6 +14,9 @@ pub enum Found {
     Nothing,
 }
 
+// A third group from here on says that a fourth follows.
+const FOURTH_FOLLOWS: usize = 128;
+
 // The number in groups from a place of the bytes on.
 pub fn number_at(bytes: &[u8], at: usize) -> Found
     ensures { result ≡ number_at bytes.now at }
@@ -47,7 +50,7 @@ pub fn number_at(bytes: &[u8], at: usize) -> Found
         return Found::Nothing;
     }
     let c = bytes[third] as usize;
-    if c < 128 {
+    if c < FOURTH_FOLLOWS {
         if c == 0 {
             return Found::Nothing;
         }

@@ -57,6 +57,9 @@ enum Tail {
     Nothing,
 }
 
+// The last of the numbers of modes.
+const LAST_MODE: usize = 1;
+
 // They, from a place on.
 fn tail_at(file: &[u8], at: usize) -> Tail
     ensures { (tail_in file.now result ≡ tail_form.read (drop at file.now)) ×
@@ -69,7 +72,7 @@ fn tail_at(file: &[u8], at: usize) -> Tail
     else {
         return Tail::Nothing;
     };
-    if 1 < mode {
+    if LAST_MODE < mode {
         return Tail::Nothing;
     }
     let Found::Number {

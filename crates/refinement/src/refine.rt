@@ -66,6 +66,9 @@ fn try_round(work: &mut [f64], p: Plan, segments: usize, report: Report) -> Roun
     crate::round::round_from(work, p, count, report)
 }
 
+// A round is made where at least so many are left.
+const LEAST_LEFT: usize = 1;
+
 // The source's `loop`, with `left` rounds still allowed. Settled are bounds of at most 0.99.
 pub fn refine(work: &mut [f64], p: Plan, segments: usize, left: usize, report: Report) -> Refined
     requires roomy { Roomy p (length work.old) × (segments + 16 ≤ p.room) × Rising (memory_at p work.old).t p.count }
@@ -92,7 +95,7 @@ pub fn refine(work: &mut [f64], p: Plan, segments: usize, left: usize, report: R
                 report: so_far,
             });
         }
-        if rest < 1 {
+        if rest < LEAST_LEFT {
             return Refined::Exhausted(w);
         }
         let r = try_round(work, q, segments, so_far);

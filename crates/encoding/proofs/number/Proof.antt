@@ -11,11 +11,11 @@ zero-over-zero : div binary64 (of_bits binary64 0) (of_bits binary64 0) ≡ nan
 unfolding div of_bits
 zero-over-zero = refl
 
-returns : tie.Need-returns-then-bits-gt9218868437227405312
-returns c = zero-over-zero ∙ sym (nan_pattern c.args.bits c.if-bits-gt9218868437227405312.true)
+returns : tie.Need-returns-then-bits-gt-INFINITY
+returns c = zero-over-zero ∙ sym (nan_pattern c.args.bits c.if-bits-gt-INFINITY.true)
 
 float-from-bits-result : tie.Need-float_from_bits-result
-float-from-bits-result c = number_pattern c.args.bits c.if-bits-gt9218868437227405312.false
+float-from-bits-result c = number_pattern c.args.bits c.if-bits-gt-INFINITY.false
 
 pub number_spec : {M : Type 1} → statement M
 number_spec = tie.close (tie.spec returns float-from-bits-result (λ c. search rules))

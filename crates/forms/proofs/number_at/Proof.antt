@@ -71,10 +71,10 @@ returns-7 : tie.Need-returns-then-c-eq0
 returns-7 c =
     answer7 c.args.bytes.now c.args.at (omega arith) (omega arith) (omega arith) (omega arith) (omega arith)
 
-mul-t21 : tie.Need-overflow_mul-result-then-c-lt128
+mul-t21 : tie.Need-overflow_mul-result-then-c-lt-FOURTH_FOLLOWS
 mul-t21 c = search rules
 
-add-t22 : tie.Need-overflow_add-result-then-c-lt128
+add-t22 : tie.Need-overflow_add-result-then-c-lt-FOURTH_FOLLOWS
 add-t22 c =
     omega (
       arith,
@@ -83,7 +83,7 @@ add-t22 c =
           (c.args.at + 1),
     )
 
-mul-t23 : tie.Need-overflow_mul-result-then-c-lt128-2
+mul-t23 : tie.Need-overflow_mul-result-then-c-lt-FOURTH_FOLLOWS-2
 mul-t23 c =
     omega (
       arith,
@@ -92,7 +92,7 @@ mul-t23 c =
           (c.args.at + 1),
     )
 
-add-t24 : tie.Need-overflow_add-result-then-c-lt128-2
+add-t24 : tie.Need-overflow_add-result-then-c-lt-FOURTH_FOLLOWS-2
 add-t24 c =
     omega (
       arith,
@@ -101,10 +101,10 @@ add-t24 c =
           (c.args.at + 1),
     )
 
-add-t25 : tie.Need-overflow_add-result-then-c-lt128-3
+add-t25 : tie.Need-overflow_add-result-then-c-lt-FOURTH_FOLLOWS-3
 add-t25 c = search rules
 
-returns-8 : tie.Need-returns-then-c-lt128
+returns-8 : tie.Need-returns-then-c-lt-FOURTH_FOLLOWS
 returns-8 c =
     answer8 c.args.bytes.now c.args.at (omega arith) (omega arith) (omega arith) (omega arith) (omega arith)
 

@@ -11,11 +11,11 @@ returns c =
     let a = c.args in
     (tail_unread1 a.file.now a.at (sym c.in_default.is ∙ c.number_at.ensures), omega arith)
 
-returns-2 : tie.Need-returns-then-mode-gt1
+returns-2 : tie.Need-returns-then-mode-gt-LAST_MODE
 returns-2 c =
     let a = c.args in (
       tail_mode a.file.now a.at _ _ (sym c.in-Number.is ∙ c.number_at.ensures)
-          (omega (arith, c.if-mode-gt1.true)),
+          (omega (arith, c.if-mode-gt-LAST_MODE.true)),
       omega arith,
     )
 
@@ -23,7 +23,7 @@ returns-3 : tie.Need-returns-in_default-number_at
 returns-3 c =
     let a = c.args in (
       tail_unread2 a.file.now a.at _ _ (sym c.in-Number.is ∙ c.number_at.ensures)
-          (omega (arith, c.if-mode-gt1.false)) (sym c.in_default-number_at.is ∙ c.number_at-2.ensures),
+          (omega (arith, c.if-mode-gt-LAST_MODE.false)) (sym c.in_default-number_at.is ∙ c.number_at-2.ensures),
       omega arith,
     )
 
@@ -31,7 +31,7 @@ returns-4 : tie.Need-returns-in_default-number_at-2
 returns-4 c =
     let a = c.args in (
       tail_unread3 a.file.now a.at _ _ (sym c.in-Number.is ∙ c.number_at.ensures)
-          (omega (arith, c.if-mode-gt1.false)) _ _ (sym c.in-Number-number_at.is ∙ c.number_at-2.ensures)
+          (omega (arith, c.if-mode-gt-LAST_MODE.false)) _ _ (sym c.in-Number-number_at.is ∙ c.number_at-2.ensures)
           (sym c.in_default-number_at-2.is ∙ c.number_at-3.ensures),
       omega arith,
     )
@@ -39,7 +39,7 @@ returns-4 c =
 returns-5 : tie.Need-returns
 returns-5 c =
     let a = c.args in
-    tail_read a.file.now a.at _ _ (sym c.in-Number.is ∙ c.number_at.ensures) (omega (arith, c.if-mode-gt1.false)) _ _
+    tail_read a.file.now a.at _ _ (sym c.in-Number.is ∙ c.number_at.ensures) (omega (arith, c.if-mode-gt-LAST_MODE.false)) _ _
     (sym c.in-Number-number_at.is ∙ c.number_at-2.ensures) _ _
     (sym c.in-Number-number_at-2.is ∙ c.number_at-3.ensures)
 

@@ -53,10 +53,10 @@ returns c =
       (l.invariant.3, l.invariant.2, l.invariant.1),
     )
 
-same-length-2 : tie.Need-shape_of-work-then-rest-lt1 invariant-loop decreases-loop
+same-length-2 : tie.Need-shape_of-work-then-rest-lt-LEAST_LEFT invariant-loop decreases-loop
 same-length-2 c = c.loop-p.invariant.0
 
-returns-2 : tie.Need-returns-then-rest-lt1 invariant-loop decreases-loop
+returns-2 : tie.Need-returns-then-rest-lt-LEAST_LEFT invariant-loop decreases-loop
 unfolding of_bits round
 returns-2 c =
     let a = c.args in
@@ -72,7 +72,7 @@ returns-2 c =
 try-round-requires : tie.Need-try_round-r-requires invariant-loop decreases-loop
 try-round-requires c κs =
     let l = c.loop-p in
-    let some = c.if-rest-lt1.false in
+    let some = c.if-rest-lt-LEAST_LEFT.false in
     ((l.invariant.1, c.requires.0.1, l.invariant.2), (omega (arith, l.invariant.5), (omega (arith, l.invariant.6, some), omega (arith, l.invariant.7, some))))
 
 same-length-3 : tie.Need-shape_of-work-then-number-gt0 invariant-loop decreases-loop
@@ -86,7 +86,7 @@ returns-3 c =
     let w = c.worst-w in
     let v = c.try_round-r in
     let st = state_at (sized a.p l.m) (counts_of l.so_far) l.work in
-    let some : 0 < l.rest = omega (arith, c.if-rest-lt1.false) in (
+    let some : 0 < l.rest = omega (arith, c.if-rest-lt-LEAST_LEFT.false) in (
       refine_refused a.segments (task_at a.p a.work.now) st w.result w.ensures l.rest _ l.invariant.4
           c.if-w.false
           v.result.number (state_at (sized a.p v.result.count) (counts_of v.result.report) v.new.work) some
@@ -102,7 +102,7 @@ loop-again c =
     let w = c.worst-w in
     let v = c.try_round-r in
     let st = state_at (sized a.p l.m) (counts_of l.so_far) l.work in
-    let some : 0 < l.rest = omega (arith, c.if-rest-lt1.false) in
+    let some : 0 < l.rest = omega (arith, c.if-rest-lt-LEAST_LEFT.false) in
     let z : v.result.number ≡ 0 = omega (arith, c.if-number-gt0.false) in
     let k = v.ensures.1.0 z in
     let f = v.ensures.1.1 in
