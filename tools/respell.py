@@ -4,7 +4,7 @@
 usage: tools/respell.py [--list]     at the top of the repository, once, on what the toolchain's port.py made
 
 Functions of src/, strings, exported names, inputs and outputs stay. A name that a file imports from the toolchain's library stays in that
-file; a name that would meet another one keeps a number behind it. --list prints the rows and writes nothing.
+file. Where a definition and a law about it would have one name, the law's ends in _law. --list prints the rows and writes nothing.
 """
 import os
 import re
