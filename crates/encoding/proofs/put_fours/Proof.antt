@@ -72,18 +72,24 @@ put-whole-requires : tie.Need-put_whole-requires invariant-loop decreases-loop
 put-whole-requires c κs = room c.before.before c.loop-i.i c.loop-i.cells c.loop-i-test.true c.loop-i.invariant (omega arith)
 
 put-whole-requires-2 : tie.Need-put_whole-requires-in-loop-i invariant-loop decreases-loop
-put-whole-requires-2 c κs = let l = turn c.before.before.before in room l (l.loop-i.i + 1) _ c.loop-i-test.true (one c.before.before.before) (omega arith)
+put-whole-requires-2 c κs =
+    let p = c.before.before.before in
+    let l = turn p in room l (l.loop-i.i + 1) _ c.loop-i-test.true (one p) (omega arith)
 
 put-whole-requires-3 : tie.Need-put_whole-requires-in-loop-i-2 invariant-loop decreases-loop
-put-whole-requires-3 c κs = let l = turn (first c.before.before.before) in room l (l.loop-i.i + 2) _ (first c.before.before.before).loop-i-test.true (two c.before.before.before) (omega arith)
+put-whole-requires-3 c κs =
+    let p = c.before.before.before in
+    let l = turn (first p) in room l (l.loop-i.i + 2) _ (first p).loop-i-test.true (two p) (omega arith)
 
 put-whole-requires-4 : tie.Need-put_whole-requires-in-loop-i-3 invariant-loop decreases-loop
 put-whole-requires-4 c κs = let l = turn (first (second c.before.before.before)) in
     room l (l.loop-i.i + 3) _ (first (second c.before.before.before)).loop-i-test.true (three c.before.before.before) (omega arith)
 
 loop-again : tie.Need-loop-i-preserved invariant-loop decreases-loop
-loop-again c = let l = turn (first (second c.before.before.before.before.before.before)) in
-    more l (l.loop-i.i + 3) (l.loop-i.i + 4) _ _ (first (second c.before.before.before.before.before.before)).loop-i-test.true (three c.before.before.before.before.before.before) (omega arith) (omega arith)
+loop-again c =
+    let p = c.before.before.before.before.before.before in
+    let l = turn (first (second p)) in
+    more l (l.loop-i.i + 3) (l.loop-i.i + 4) _ _ (first (second p)).loop-i-test.true (three p) (omega arith) (omega arith)
     c.put_whole-in-loop-i-3.ensures
 
 loop-less : tie.Need-loop-i-smaller invariant-loop decreases-loop

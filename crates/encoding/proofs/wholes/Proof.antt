@@ -41,14 +41,16 @@ loop-again c before f =
 
 add-i : tie.Need-overflow_add-i invariant-loop decreases-loop
 add-i c =
-    let s = start c.before.before.before.before.before in
-    let n = filled_length low_first s.args.bytes.now s.args.cells.now c.loop-i.i c.loop-i.cells (filled c.before.before.before.before.before) in
+    let p = c.before.before.before.before.before in
+    let s = start p in
+    let n = filled_length low_first s.args.bytes.now s.args.cells.now c.loop-i.i c.loop-i.cells (filled p) in
     omega (arith, n, c.loop-i-test.true, s.requires)
 
 loop-less : tie.Need-loop-i-smaller invariant-loop decreases-loop
 loop-less c =
-    let s = start c.before.before.before.before.before in
-    let n = filled_length low_first s.args.bytes.now s.args.cells.now c.loop-i.i c.loop-i.cells (filled c.before.before.before.before.before) in
+    let p = c.before.before.before.before.before in
+    let s = start p in
+    let n = filled_length low_first s.args.bytes.now s.args.cells.now c.loop-i.i c.loop-i.cells (filled p) in
     let m = filled_length low_first s.args.bytes.now s.args.cells.now _ _ c.put_fours-i.ensures in
     omega (arith, n, m, c.loop-i-test.true)
 

@@ -67,24 +67,28 @@ mul-if2 c = let h = few_points (counts c.before.before) (within c.before) in ome
 
 returns-3 : tie.Need-returns-then-bytes-next
 returns-3 c =
-    let n = length-drop (next c.before.before.before) (bytes c.before.before.before) in
-    refused_read (bytes c.before.before.before) (start c.before.before.before).args.cells.now 25
-    (job_bad (bytes c.before.before.before) (counts c.before.before.before) (drop (next c.before.before.before) (bytes c.before.before.before)) (read-so c.before.before.before) (within c.before.before) (λ f. omega (arith, n, f, c.if-bytes-next.true)))
+    let p = c.before.before.before in
+    let n = length-drop (next p) (bytes p) in
+    refused_read (bytes p) (start p).args.cells.now 25
+    (job_bad (bytes p) (counts p) (drop (next p) (bytes p)) (read-so p) (within c.before.before) (λ f. omega (arith, n, f, c.if-bytes-next.true)))
 
 part-floats-end-2 : tie.Need-slice_bounds-floats-end-2
 part-floats-end-2 c =
-    let h = few_points (counts c.before.before.before.before) (within c.before.before.before) in omega (arith, h, (start c.before.before.before.before).requires)
+    let p = c.before.before.before.before in
+    let h = few_points (counts p) (within c.before.before.before) in omega (arith, h, (start p).requires)
 
 returns-4 : tie.Need-returns
 returns-4 c =
-    let l = bytes c.before.before.before.before.before.before.before.before in
-    let rest = drop (next c.before.before.before.before.before.before.before.before) l in
-    let cells = (start c.before.before.before.before.before.before.before.before).args.cells.now in
-    let m = 1 + (counts c.before.before.before.before.before.before.before.before).d * (counts c.before.before.before.before.before.before.before.before).n in
-    let few = few_points (counts c.before.before.before.before.before.before.before.before) (within c.before.before.before.before.before.before.before) in
-    done_read l cells (counts c.before.before.before.before.before.before.before.before) rest _
-    (job_read l (counts c.before.before.before.before.before.before.before.before) rest (read-so c.before.before.before.before.before.before.before.before) (within c.before.before.before.before.before.before.before) (omega (arith, length-drop (next c.before.before.before.before.before.before.before.before) l, c.if-bytes-next.false)))
-    (put_numbers l (next c.before.before.before.before.before.before.before.before) m cells _ (omega (arith, few, (start c.before.before.before.before.before.before.before.before).requires)) (ended c.before.before.before.before.before.before.before.before) c.floats.ensures)
+    let p = c.before.before.before.before.before.before.before.before in
+    let q = c.before.before.before.before.before.before.before in
+    let l = bytes p in
+    let rest = drop (next p) l in
+    let cells = (start p).args.cells.now in
+    let m = 1 + (counts p).d * (counts p).n in
+    let few = few_points (counts p) (within q) in
+    done_read l cells (counts p) rest _
+    (job_read l (counts p) rest (read-so p) (within q) (omega (arith, length-drop (next p) l, c.if-bytes-next.false)))
+    (put_numbers l (next p) m cells _ (omega (arith, few, (start p).requires)) (ended p) c.floats.ensures)
 
 pub read_spec : {M : Type 1} → statement M
 read_spec =

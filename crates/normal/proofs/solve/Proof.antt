@@ -45,10 +45,11 @@ returns-2 c =
 
 returns-3 : tie.Need-returns
 returns-3 c =
+    let q = c.before.before.before.before.before.before.before in
     let p = c.factor in
     let a = c.args in
-    let f = scaled c.before.before.before.before.before.before.before ∙ pivots _ _ _ _ _ p.ensures.0 p.ensures.1 (not-false _ c.if-not-factor.false-raw)
-    ∙ ap (finish_of a.n a.d) (sym (factored c.before.before.before.before.before.before.before)) in
+    let f = scaled q ∙ pivots _ _ _ _ _ p.ensures.0 p.ensures.1 (not-false _ c.if-not-factor.false-raw)
+    ∙ ap (finish_of a.n a.d) (sym (factored q)) in
     let e = c.finish.ensures in
     (e.0 ∙ sym (ap (λ (o : SolveOutcome). o.number) f), e.1 ∙ sym (ap (λ (o : SolveOutcome). o.system) f))
 

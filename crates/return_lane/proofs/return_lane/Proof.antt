@@ -61,8 +61,9 @@ module _ (c : tie.Else-short-2) where
 
 returns-4 : tie.Need-returns-then-not-rise_back
 returns-4 c =
-    let s = begun c.before.before in (
-      not_rising s.args.curve (lane s) (lent s) (roomy c.before.before) (rw (sym c.rise_back.ensures ∙ not-true _ c.if-not-rise_back.true-raw)),
+    let p = c.before.before in
+    let s = begun p in (
+      not_rising s.args.curve (lane s) (lent s) (roomy p) (rw (sym c.rise_back.ensures ∙ not-true _ c.if-not-rise_back.true-raw)),
       λ e. absurd (omega arith),
     )
 
@@ -94,18 +95,22 @@ put-set-requires c κs =
 
 put-set-requires-2 : tie.Need-put_set-requires-2
 put-set-requires-2 c κs =
-    let s = begun c.before.before.before.before.before.before.before.before.before.before.before.before.before in
-    let l = lengths _ _ _ (roomy c.before.before.before.before.before.before.before.before.before.before.before.before.before) in
-    let k = others_cells s.args.curve (lane s) (roomy c.before.before.before.before.before.before.before.before.before.before.before.before.before).formed in
+    let p = c.before.before.before.before.before.before.before.before.before.before.before.before.before in
+    let s = begun p in
+    let l = lengths _ _ _ (roomy p) in
+    let k = others_cells s.args.curve (lane s) (roomy p).formed in
     (l.2, omega (arith, k), omega (arith, k, l.3))
 
 returns-6 : tie.Need-returns
 returns-6 c =
-    let s = begun c.before.before.before.before.before.before.before.before.before.before.before.before.before.before.before.before.before.before in
+    let p = c.before.before.before.before.before.before.before.before.before.before.before.before.before.before.before.before.before.before in
+    let q = c.before.before.before.before.before.before.before.before.before.before.before.before.before.before.before.before in
+    let r = c.before.before.before.before.before.before.before.before.before.before.before.before.before.before in
+    let s = begun p in
     let after : _ ≡ _ =
     λ i. slices (c.put_set.ensures.0 i) (c.put_set.ensures.1 i) (c.put_set-2.ensures.0 i) (c.put_set-2.ensures.1 i) in (
-      done s.args.curve (lane s) (lent s) (roomy c.before.before.before.before.before.before.before.before.before.before.before.before.before.before.before.before.before.before) _ (selected-rise c.before.before.before.before.before.before.before.before.before.before.before.before.before.before.before.before) (others_rise c.before.before.before.before.before.before.before.before.before.before.before.before.before.before) after,
-      λ z. used_well_formed s.args.curve (lane s) (roomy c.before.before.before.before.before.before.before.before.before.before.before.before.before.before.before.before.before.before).formed (lent s) _ (selected-rise c.before.before.before.before.before.before.before.before.before.before.before.before.before.before.before.before) (others_rise c.before.before.before.before.before.before.before.before.before.before.before.before.before.before) after,
+      done s.args.curve (lane s) (lent s) (roomy p) _ (selected-rise q) (others_rise r) after,
+      λ z. used_well_formed s.args.curve (lane s) (roomy p).formed (lent s) _ (selected-rise q) (others_rise r) after,
     )
 
 pub return_lane_spec : {M : Type 1} → statement M

@@ -100,10 +100,11 @@ with-others-requires c κs =
 
 returns-2 : tie.Need-returns-in-Done
 returns-2 c =
+    let q = c.before.before.before.before.before.before.before in
     let e = c.in-Done.is in
-    let s = begun c.before.before.before.before.before.before.before in (
+    let s = begun q in (
       c.with_others.ensures.0
-          ∙ sym (passed c.before.before.before.before.before.before.before ∙ both_done (limits s) (task s) (units s) (other c.before.before.before.before.before.before.before) _ _ (smoothed c.before.before.before.before.before.before.before) e),
+          ∙ sym (passed q ∙ both_done (limits s) (task s) (units s) (other q) _ _ (smoothed q) e),
       λ z.
           let k = c.with_others.ensures.1 z in
           let R = c.smooth-s.ensures.1 e in
@@ -117,19 +118,21 @@ returns-2 c =
 
 returns-3 : tie.Need-returns-in-Refused
 returns-3 c =
+    let p = c.before.before.before.before in
     let e = c.in-Refused.is in
-    let s = begun c.before.before.before.before in (
+    let s = begun p in (
       ended_refused _ _ _ c.ended-in-Refused.ensures
-          ∙ sym (passed c.before.before.before.before ∙ both_refused (limits s) (task s) (units s) (other c.before.before.before.before) _ _ (smoothed c.before.before.before.before) _ e),
+          ∙ sym (passed p ∙ both_refused (limits s) (task s) (units s) (other p) _ _ (smoothed p) _ e),
       λ z. absurd (refused_not_done _ _ c.ended-in-Refused.ensures z),
     )
 
 returns-4 : tie.Need-returns-in-Exhausted
 returns-4 c =
+    let p = c.before.before.before.before in
     let e = c.in-Exhausted.is in
-    let s = begun c.before.before.before.before in (
+    let s = begun p in (
       ended_exhausted _ _ _ c.ended-in-Exhausted.ensures
-          ∙ sym (passed c.before.before.before.before ∙ both_exhausted (limits s) (task s) (units s) (other c.before.before.before.before) _ _ (smoothed c.before.before.before.before) _ e),
+          ∙ sym (passed p ∙ both_exhausted (limits s) (task s) (units s) (other p) _ _ (smoothed p) _ e),
       λ z. absurd (exhausted_not_done _ _ c.ended-in-Exhausted.ensures z),
     )
 

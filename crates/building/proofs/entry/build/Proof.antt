@@ -92,11 +92,12 @@ finish-requires c κs =
 
 returns-2 : tie.Need-returns
 returns-2 c =
-    let s = begun c.before.before.before.before.before.before.before.before.before.before.before.before.before.before.before.before.before.before.before.before.before.before.before in
+    let p = c.before.before.before.before.before.before.before.before.before.before.before.before.before.before.before.before.before.before.before.before.before.before.before in
+    let s = begun p in
     let f = c.finish-built in
     let l : length f.new.work ≡ length (work s) = omega (arith, c.work-1.given) in
     went_on (answer s) (checked_of (lane s) (limits s)) s.args.mode s.args.d _ _ (work s) _ (lent s) _
-    (answer_on (lane s) (limits s) (work s) (lent s) (none c.before.before.before.before.before.before.before.before.before.before.before.before.before.before.before.before.before.before.before.before.before.before.before))
+    (answer_on (lane s) (limits s) (work s) (lent s) (none p))
     f.ensures.0 f.ensures.1.0
     (c.clear.ensures ∙ ap zeros l ∙ work_cleared (lane s) (limits s) (work s))
     f.ensures.1.1

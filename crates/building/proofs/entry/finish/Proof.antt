@@ -85,23 +85,24 @@ module _ (c : tie.In-Done) where
 
 write-results-requires : tie.Need-write_results-requires
 write-results-requires c κs =
-    let s = begun c.before.before.before.before.before.before in
-    let P = places c.before.before.before.before.before.before in
-    let r = r c.before.before.before.before.before.before in
+    let q = c.before.before.before.before.before.before in
+    let s = begun q in
+    let P = places q in
+    let r = r q in
     let e = c.room_of-room in
     let F = s.requires.1 in
-    let k : r.k ≤ s.args.d = omega (arith, sum c.before.before.before.before.before.before) in
-    let j : r.j ≤ s.args.d = omega (arith, sum c.before.before.before.before.before.before) in
+    let k : r.k ≤ s.args.d = omega (arith, sum q) in
+    let j : r.j ≤ s.args.d = omega (arith, sum q) in
     let two = P.roomy.six in
     let rows : (r.computed.count - 5) * (6 * r.k) ≤ s.args.limits.segments * (6 * s.args.d) =
     mul-le-mul (omega (arith, P.few)) (omega (arith, k)) in
     let others : r.computed.other_segments * (6 * r.j) ≤ s.args.n * (6 * s.args.d) =
     mul-le-mul (omega (arith, P.others_few)) (omega (arith, j)) in
-    let plan : ◌≡◌ {A = Plan} (sized (plan_of (l c.before.before.before.before.before.before) (m c.before.before.before.before.before.before)) r.computed.count) _ =
+    let plan : ◌≡◌ {A = Plan} (sized (plan_of (l q) (m q)) r.computed.count) _ =
     λ i. record { axes = sym P.k_is i; samples = s.args.n; room = sym e.ensures i; count = r.computed.count } in
     record {
-      roomy = subst (λ (p : Plan). Roomy p (length (after c.before.before.before.before.before.before))) plan P.roomy;
-      others_fit = fits c.before.before.before.before.before.before e.result r.k r.j e.ensures (sum c.before.before.before.before.before.before);
+      roomy = subst (λ (p : Plan). Roomy p (length (after q))) plan P.roomy;
+      others_fit = fits q e.result r.k r.j e.ensures (sum q);
       others_few = omega (arith, j, s.requires.0.d_most);
       waypoints_fit = omega (arith, e.ensures);
       segments_few = P.others_few;
@@ -114,9 +115,10 @@ write-results-requires c κs =
 
 accept-requires : tie.Need-accept-requires
 accept-requires c κs =
-    let P = places c.before.before.before.before.before.before.before.before.before.before.before.before.before.before.before.before.before in
-    let cells = (begun c.before.before.before.before.before.before.before.before.before.before.before.before.before.before.before.before.before).requires.0.points_are in
-    (P.two, (begun c.before.before.before.before.before.before.before.before.before.before.before.before.before.before.before.before.before).requires.0.n_most, omega (arith, P.roomy.six), omega (arith, cells), P.listed)
+    let p = c.before.before.before.before.before.before.before.before.before.before.before.before.before.before.before.before.before in
+    let P = places p in
+    let cells = (begun p).requires.0.points_are in
+    (P.two, (begun p).requires.0.n_most, omega (arith, P.roomy.six), omega (arith, cells), P.listed)
 
 -- the results were written
 abbrev roomed : tie.After-accept → tie.After-room_of-room

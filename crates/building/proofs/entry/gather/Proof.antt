@@ -79,15 +79,16 @@ module _ (c : tie.After-others-rest) where
 
 compute-requires : tie.Need-compute-computed-requires
 compute-requires c κs =
-    let s = start c.before.before.before.before.before.before in
+    let p = c.before.before.before.before.before.before in
+    let s = start p in
     let D = s.requires.0 in
     let r = c.room_of-room in
     let e : r.result ≡ max s.args.n s.args.limits.segments + 16 = r.ensures in
-    let sum = j_sum (parted c.before.before.before.before.before.before) in
-    let fit = work_fits r.result (k c.before.before.before.before.before.before) (j c.before.before.before.before.before.before) s.args.d (length s.args.work.now) sum (rw e D.work_fits) in
-    let R : Roomy (record { axes = k c.before.before.before.before.before.before; samples = s.args.n; room = r.result; count = 6 }) (length s.args.work.now) =
+    let sum = j_sum (parted p) in
+    let fit = work_fits r.result (k p) (j p) s.args.d (length s.args.work.now) sum (rw e D.work_fits) in
+    let R : Roomy (record { axes = k p; samples = s.args.n; room = r.result; count = 6 }) (length s.args.work.now) =
     record {
-      few = k_few (picked (first c.before.before.before.before.before.before));
+      few = k_few (picked (first p));
       six = omega arith;
       knots_fit = omega arith;
       waypoints_fit = omega arith;
@@ -102,8 +103,8 @@ compute-requires c κs =
           omega (arith, sum, D.d_most),
           D.n_most,
           omega (arith, D.points_are),
-          others_below (parted c.before.before.before.before.before.before),
-          picked_below (picked (first c.before.before.before.before.before.before)),
+          others_below (parted p),
+          picked_below (picked (first p)),
         ),
         listed_long (lane s) (passed s),
       ),
@@ -111,29 +112,30 @@ compute-requires c κs =
 
 returns : tie.Need-returns
 returns c =
+    let u = c.before.before.before.before.before.before.before.before.before in
     let v = c.compute-computed in
     let t = c.tolerances_of-eps in
-    let s = start c.before.before.before.before.before.before.before.before.before in
+    let s = start u in
     let l = lane s in
     let r = c.room_of-room in
-    let count = (first c.before.before.before.before.before.before.before.before.before).chosen-chosen.ensures.0 in
-    let plan : ◌≡◌ {A = Plan} (record { axes = k c.before.before.before.before.before.before.before.before.before; samples = s.args.n; room = r.result; count = 6 })
+    let count = (first u).chosen-chosen.ensures.0 in
+    let plan : ◌≡◌ {A = Plan} (record { axes = k u; samples = s.args.n; room = r.result; count = 6 })
     (plan_of l (limits_of s.args.limits)) =
     λ i. record { axes = count i; samples = s.args.n; room = r.ensures i; count = 6 } in
     record {
       is =
-          (λ i. computed_in (sym plan i) (sym (j_is (parted c.before.before.before.before.before.before.before.before.before)) i) v.result v.new.work)
+          (λ i. computed_in (sym plan i) (sym (j_is (parted u)) i) v.result v.new.work)
           ∙ v.ensures.0
-          ∙ all_is (parted c.before.before.before.before.before.before.before.before.before) t.result.cells t.ensures (limits_of s.args.limits);
+          ∙ all_is (parted u) t.result.cells t.ensures (limits_of s.args.limits);
       places = λ e.
           let p = v.ensures.1 e in
           record {
             k_is = count;
-            j_is = j_is (parted c.before.before.before.before.before.before.before.before.before);
+            j_is = j_is (parted u);
             two = two_waypoints l (passed s);
             listed = listed_long l (passed s);
             all_axes = axes_count l (passed s);
-            axes_are = (first c.before.before.before.before.before.before.before.before.before).chosen-chosen.ensures.1;
+            axes_are = (first u).chosen-chosen.ensures.1;
             roomy = subst (λ (q : Plan). Roomy (sized q v.result.count) (length v.new.work)) plan p.0;
             few = p.1;
             others_few = p.2;

@@ -37,7 +37,8 @@ formed c = sym (c.bad_axes.ensures (lane c.before.before.before.before.before) r
 
 tolerant : (c : tie.Else-bad_tolerance) → bad_tolerance (lane c.before.before.before.before.before.before.before) ≡ false
 tolerant c =
-    sym (c.bad_tolerance.ensures (lane c.before.before.before.before.before.before.before) refl (sym c.count_of-k.ensures)) ∙ c.if-bad_tolerance.false
+    let p = c.before.before.before.before.before.before.before in
+    sym (c.bad_tolerance.ensures (lane p) refl (sym c.count_of-k.ensures)) ∙ c.if-bad_tolerance.false
 
 -- what 26 is asked of
 too-fine-requires : tie.Need-too_fine-requires
@@ -71,27 +72,38 @@ returns-3 c =
 returns-4 : tie.Need-returns-then-bad_tolerance
 unfolding refusal_before
 returns-4 c =
+    let p = c.before.before.before.before.before.before.before in
+    let q = c.before.before.before.before.before.before in
     let n = sym c.count_of-k.ensures in
-    rw (fit c.before.before.before.before.before.before, some c.before.before.before.before, formed c.before.before, sym (c.bad_tolerance.ensures (lane c.before.before.before.before.before.before.before) refl n) ∙ c.if-bad_tolerance.true)
+    rw (fit q, some c.before.before.before.before, formed c.before.before, sym (c.bad_tolerance.ensures (lane p) refl n) ∙ c.if-bad_tolerance.true)
 
 returns-5 : tie.Need-returns-then-too_fine
 unfolding refusal_before
 returns-5 c =
-    rw (fit c.before.before.before.before.before.before.before.before, some c.before.before.before.before.before.before, formed c.before.before.before.before, tolerant c.before.before, sym c.too_fine.ensures ∙ c.if-too_fine.true)
+    let p = c.before.before.before.before.before.before.before.before in
+    let q = c.before.before.before.before.before.before in
+    rw (fit p, some q, formed c.before.before.before.before, tolerant c.before.before, sym c.too_fine.ensures ∙ c.if-too_fine.true)
 
 placed-requires : tie.Need-placed-placement-requires
 placed-requires c κs =
-    (waypoint_count c.args.d c.args.n c.args.points.now (fit c.before.before.before.before.before.before.before.before), c.requires.1, c.requires.2)
+    let p = c.before.before.before.before.before.before.before.before in
+    (waypoint_count c.args.d c.args.n c.args.points.now (fit p), c.requires.1, c.requires.2)
 
 returns-6 : tie.Need-returns-then-placement
 unfolding refusal_before
 returns-6 c =
-    rw (fit c.before.before.before.before.before.before.before.before.before.before, some c.before.before.before.before.before.before.before.before, formed c.before.before.before.before.before.before, tolerant c.before.before.before.before, coarse c.before.before, sym c.placed-placement.ensures.0 ∙ c.if-placement.true)
+    let p = c.before.before.before.before.before.before.before.before.before.before in
+    let q = c.before.before.before.before.before.before.before.before in
+    let r = c.before.before.before.before.before.before in
+    rw (fit p, some q, formed r, tolerant c.before.before.before.before, coarse c.before.before, sym c.placed-placement.ensures.0 ∙ c.if-placement.true)
 
 returns-7 : tie.Need-returns
 unfolding refusal_before
 returns-7 c =
-    rw (fit c.before.before.before.before.before.before.before.before.before.before, some c.before.before.before.before.before.before.before.before, formed c.before.before.before.before.before.before, tolerant c.before.before.before.before, coarse c.before.before, sym c.placed-placement.ensures.0 ∙ c.if-placement.false)
+    let p = c.before.before.before.before.before.before.before.before.before.before in
+    let q = c.before.before.before.before.before.before.before.before in
+    let r = c.before.before.before.before.before.before in
+    rw (fit p, some q, formed r, tolerant c.before.before.before.before, coarse c.before.before, sym c.placed-placement.ensures.0 ∙ c.if-placement.false)
 
 pub refusal_before_spec : {M : Type 1} → statement M
 refusal_before_spec =

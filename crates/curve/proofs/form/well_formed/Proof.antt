@@ -26,7 +26,9 @@ sizes : (c : tie.Else-not-well_shaped) → let a = (start c).args in Shaped a.cu
 sizes c = let a = (start c).args in shaped a.curve a.breaks.now _ a.other_breaks.now _ (passed c)
 
 returns : tie.Need-returns-then-not-well_shaped
-returns c = sym (shape_and_segments c.args.curve (lent c.before.before.before.before.before.before) ∙ rw (sym c.well_shaped.ensures ∙ not-true _ c.if-not-well_shaped.true-raw))
+returns c =
+    let p = c.before.before.before.before.before.before in
+    sym (shape_and_segments c.args.curve (lent p) ∙ rw (sym c.well_shaped.ensures ∙ not-true _ c.if-not-well_shaped.true-raw))
 
 segments-formed-requires : tie.Need-segments_formed-requires
 segments-formed-requires c κs = let z = sizes c in (z.set.enough, z.set.room)

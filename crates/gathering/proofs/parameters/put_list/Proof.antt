@@ -44,8 +44,9 @@ p s = let a = s.args in parameter_list a.spacing a.list.now a.points.now a.d (n 
 begun : (c : tie.After-first-current invariant-loop decreases-loop) → Begun c.args.cells.now (at (p c.before.before.before.before)) (set c.args.cells.now 0 c.first-current.result)
 unfolding join
 begun c =
+    let q = c.before.before.before.before in
     let l = c.args.cells.now in
-    put_step true 0 0 (n c.before.before.before.before) (at (p c.before.before.before.before)) l l (set l 0 c.first-current.result) c.first-current.result (omega arith) (λ b. omega arith)
+    put_step true 0 0 (n q) (at (p q)) l l (set l 0 c.first-current.result) c.first-current.result (omega arith) (λ b. omega arith)
     (put_none true 0 l) refl (c.first-current.ensures c.args.points.now c.args.d)
 
 loop-holds : tie.Need-loop-i-init invariant-loop decreases-loop
@@ -58,12 +59,13 @@ following-requires c κs =
 
 loop-again : tie.Need-loop-i-preserved invariant-loop decreases-loop
 loop-again c =
+    let q = c.before.before.before.before.before.before.before in
     let l = c.loop-i in
     let x = c.following-current.result in
     let e : 0 + (l.i + 1) ≡ l.i + 1 = omega arith in
-    let step : (old : List Float) → length old ≡ n c.before.before.before.before.before.before.before → Put true 0 (l.i + 1) (at (p c.before.before.before.before.before.before.before)) old l.cells
-    → Put true 0 (l.i + 1 + 1) (at (p c.before.before.before.before.before.before.before)) old (set l.cells (l.i + 1) x) =
-    λ old k b. put_step true 0 (l.i + 1) (n c.before.before.before.before.before.before.before) (at (p c.before.before.before.before.before.before.before)) old l.cells (set l.cells (l.i + 1) x) x (omega arith) (λ t. omega arith)
+    let step : (old : List Float) → length old ≡ n q → Put true 0 (l.i + 1) (at (p q)) old l.cells
+    → Put true 0 (l.i + 1 + 1) (at (p q)) old (set l.cells (l.i + 1) x) =
+    λ old k b. put_step true 0 (l.i + 1) (n q) (at (p q)) old l.cells (set l.cells (l.i + 1) x) x (omega arith) (λ t. omega arith)
     b.1 (rw e) c.following-current.ensures in
     let first = begun c.before.before.before in
     let last = step c.args.cells.now refl (l.invariant.3 c.args.cells.now refl first) in
@@ -71,10 +73,11 @@ loop-again c =
 
 returns : tie.Need-returns invariant-loop decreases-loop
 returns c =
+    let q = c.before.before.before.before.before.before in
     let l = c.loop-i in
-    let e : l.i + 1 ≡ n c.before.before.before.before.before.before = omega arith in
+    let e : l.i + 1 ≡ n q = omega arith in
     let all = (l.invariant.3 c.args.cells.now refl (begun c.before.before)).1 in
-    (rw e at all) ∙ written_all (list_of (n c.before.before.before.before.before.before) (at (p c.before.before.before.before.before.before))) c.args.cells.now (list_length (n c.before.before.before.before.before.before) (at (p c.before.before.before.before.before.before)))
+    (rw e at all) ∙ written_all (list_of (n q) (at (p q))) c.args.cells.now (list_length (n q) (at (p q)))
 
 pub put_list_spec : {M : Type 1} → statement M
 put_list_spec =

@@ -46,15 +46,19 @@ axis-place-requires c κs =
 
 in-set-requires : tie.Need-in_set-requires
 in-set-requires c κs =
-    let s = start c.before.before.before.before.before.before.before in
-    selected_sized s.args.curve (four s) s.args.axis (good c.before.before.before.before.before.before) c.if-d-axis.false c.axis_place-at.result
+    let p = c.before.before.before.before.before.before.before in
+    let q = c.before.before.before.before.before.before in
+    let s = start p in
+    selected_sized s.args.curve (four s) s.args.axis (good q) c.if-d-axis.false c.axis_place-at.result
     c.axis_place-at.ensures c.if-at-k.true
 
 returns-3 : tie.Need-returns-then-at-k
 returns-3 c =
-    let s = start c.before.before.before.before.before.before.before.before.before in
+    let p = c.before.before.before.before.before.before.before.before.before in
+    let q = c.before.before.before.before.before.before.before.before in
+    let s = start p in
     answered s.args.curve (four s) s.args.axis _ s.args.out.now
-    (selected_answer s.args.curve (four s) s.args.axis (good c.before.before.before.before.before.before.before.before) c.if-d-axis.false c.axis_place-at.result
+    (selected_answer s.args.curve (four s) s.args.axis (good q) c.if-d-axis.false c.axis_place-at.result
     c.axis_place-at.ensures _ s.args.out.now c.if-at-k.true c.in_set.ensures)
 
 sub-in-set : tie.Need-overflow_sub-d
@@ -64,15 +68,19 @@ sub-in-set c =
 
 in-set-requires-2 : tie.Need-in_set-requires-2
 in-set-requires-2 c κs =
-    let s = start c.before.before.before.before.before.before.before in
-    others_sized s.args.curve (four s) s.args.axis (good c.before.before.before.before.before.before) c.if-d-axis.false c.axis_place-at.result
+    let p = c.before.before.before.before.before.before.before in
+    let q = c.before.before.before.before.before.before in
+    let s = start p in
+    others_sized s.args.curve (four s) s.args.axis (good q) c.if-d-axis.false c.axis_place-at.result
     c.axis_place-at.ensures c.if-at-k.false
 
 returns-4 : tie.Need-returns
 returns-4 c =
-    let s = start c.before.before.before.before.before.before.before.before.before in
+    let p = c.before.before.before.before.before.before.before.before.before in
+    let q = c.before.before.before.before.before.before.before.before in
+    let s = start p in
     answered s.args.curve (four s) s.args.axis _ s.args.out.now
-    (others_answer s.args.curve (four s) s.args.axis (good c.before.before.before.before.before.before.before.before) c.if-d-axis.false c.axis_place-at.result
+    (others_answer s.args.curve (four s) s.args.axis (good q) c.if-d-axis.false c.axis_place-at.result
     c.axis_place-at.ensures _ s.args.out.now c.if-at-k.false c.in_set-2.ensures)
 
 pub heights_spec : {M : Type 1} → statement M

@@ -57,9 +57,10 @@ part-build-end c =
 returns : tie.Need-returns
 unfolding axes_of tolerance_of
 returns c =
+    let p = c.before.before.before.before.before.before.before.before.before.before.before.before.before.before.before.before.before.before.before.before.before.before.before.before.before.before.before.before.before.before.before.before in
     let a = c.args in
-    let s = lent c.before.before.before.before.before.before.before.before.before.before.before.before.before.before.before.before.before.before.before.before.before.before.before.before.before.before.before.before.before.before.before.before in
-    let e = same c.before.before.before.before.before.before.before.before.before.before.before.before.before.before.before.before.before.before.before.before.before.before.before.before.before.before.before.before.before.before.before.before in (
+    let s = lent p in
+    let e = same p in (
       c.build-built.ensures.0 ∙ ap reported e,
       λ x h. errors_stand a.c a.cells.now s _ x (c.build-built.ensures.1.1.1 ∙ ap (λ (y : Answer Result). results_after y s) e) h,
     )

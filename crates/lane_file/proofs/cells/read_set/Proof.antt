@@ -49,16 +49,18 @@ module _ (w : tie.After-wholes) where
 
 put-widths-requires : tie.Need-put_widths-requires
 put-widths-requires c κs =
-    let a = (start c.before.before.before.before).args in
-    widths_room a.file.now a.at a.n a.m a.coefficients.now (cells c.before.before.before.before) (take (count c.before.before.before.before - 0) (breaks c.before.before.before.before)) (taken c.before.before.before.before)
-    (cells_are c.before.before.before.before) (start c.before.before.before.before).requires.3
+    let p = c.before.before.before.before in
+    let a = (start p).args in
+    widths_room a.file.now a.at a.n a.m a.coefficients.now (cells p) (take (count p - 0) (breaks p)) (taken p)
+    (cells_are p) (start p).requires.3
 
 returns : tie.Need-returns
 returns c =
-    let a = (start c.before.before.before.before.before.before.before).args in (
-      breaks_are c.before.before.before.before.before.before.before,
-      widths_put a.file.now a.at a.n a.m a.coefficients.now (cells c.before.before.before.before.before.before.before) c.put_widths.new.cells
-          (take (count c.before.before.before.before.before.before.before - 0) (breaks c.before.before.before.before.before.before.before)) (taken c.before.before.before.before.before.before.before) (cells_are c.before.before.before.before.before.before.before) c.put_widths.ensures,
+    let p = c.before.before.before.before.before.before.before in
+    let a = (start p).args in (
+      breaks_are p,
+      widths_put a.file.now a.at a.n a.m a.coefficients.now (cells p) c.put_widths.new.cells
+          (take (count p - 0) (breaks p)) (taken p) (cells_are p) c.put_widths.ensures,
     )
 
 pub read_set_spec : {M : Type 1} → statement M

@@ -24,7 +24,8 @@ read-set-requires c κs =
 
 read-set-requires-2 : tie.Need-read_set-requires-2
 read-set-requires-2 c κs =
-    let r = enough c.before.before.before.before.before.before.before.before.before.before.before.before.before.before.before.before.before in (
+    let p = c.before.before.before.before.before.before.before.before.before.before.before.before.before.before.before.before.before in
+    let r = enough p in (
       c.requires.0.others_small,
       omega (arith, c.requires.0.long, c.other_place-other.ensures.0),
       r.other_breaks,

@@ -65,17 +65,19 @@ formed-requires c κs = reads c
 
 returns-2 : tie.Need-returns-then-not-formed
 returns-2 c =
-    refusal 24 _ _ _ (lent c.before.before.before) _ _ refl (omega arith) c.refused-then-not-formed.ensures.0 c.refused-then-not-formed.ensures.1
-    (read_not_formed (file c.before.before.before) (lent c.before.before.before) (head c.before.before.before) (reads c.before.before.before) (sym c.formed.ensures ∙ not-true _ c.if-not-formed.true-raw))
+    let p = c.before.before.before in
+    refusal 24 _ _ _ (lent p) _ _ refl (omega arith) c.refused-then-not-formed.ensures.0 c.refused-then-not-formed.ensures.1
+    (read_not_formed (file p) (lent p) (head p) (reads p) (sym c.formed.ensures ∙ not-true _ c.if-not-formed.true-raw))
 
 too-short-requires : tie.Need-too_short-short-requires
 too-short-requires c κs = reads c.before.before
 
 returns-3 : tie.Need-returns-then-short
 returns-3 c =
-    refusal 19 _ _ _ (lent c.before.before.before.before.before) _ _ refl (omega arith) c.refused-then-short.ensures.0 c.refused-then-short.ensures.1
-    (read_too_short (file c.before.before.before.before.before) (lent c.before.before.before.before.before) (head c.before.before.before.before.before) (reads c.before.before.before.before.before) (formed c.before.before.before)
-    (short_is (file c.before.before.before.before.before) (head c.before.before.before.before.before) (lent c.before.before.before.before.before) ∙ sym c.too_short-short.ensures ∙ c.if-short.true))
+    let p = c.before.before.before.before.before in
+    refusal 19 _ _ _ (lent p) _ _ refl (omega arith) c.refused-then-short.ensures.0 c.refused-then-short.ensures.1
+    (read_too_short (file p) (lent p) (head p) (reads p) (formed c.before.before.before)
+    (short_is (file p) (head p) (lent p) ∙ sym c.too_short-short.ensures ∙ c.if-short.true))
 
 read-sets-requires : tie.Need-read_sets-requires
 read-sets-requires c κs = (
@@ -90,12 +92,14 @@ curve-at-requires c κs =
 
 returns-4 : tie.Need-returns
 returns-4 c =
-    let m = read_done (file c.before.before.before.before.before.before.before.before.before.before.before.before.before.before.before.before.before.before) (lent c.before.before.before.before.before.before.before.before.before.before.before.before.before.before.before.before.before.before) (head c.before.before.before.before.before.before.before.before.before.before.before.before.before.before.before.before.before.before) (reads c.before.before.before.before.before.before.before.before.before.before.before.before.before.before.before.before.before.before) (formed c.before.before.before.before.before.before.before.before.before.before.before.before.before.before.before.before)
-    (short_is (file c.before.before.before.before.before.before.before.before.before.before.before.before.before.before.before.before.before.before) (head c.before.before.before.before.before.before.before.before.before.before.before.before.before.before.before.before.before.before) (lent c.before.before.before.before.before.before.before.before.before.before.before.before.before.before.before.before.before.before) ∙ sym c.too_short-short.ensures ∙ c.if-short.false) in
+    let p = c.before.before.before.before.before.before.before.before.before.before.before.before.before.before.before.before.before.before in
+    let r = c.before.before.before.before.before.before.before.before.before.before.before.before.before.before.before.before in
+    let m = read_done (file p) (lent p) (head p) (reads p) (formed r)
+    (short_is (file p) (head p) (lent p) ∙ sym c.too_short-short.ensures ∙ c.if-short.false) in
     let q = c.curve_at-curve.ensures in
     let v = c.read_sets.ensures in
-    let t = taken (file c.before.before.before.before.before.before.before.before.before.before.before.before.before.before.before.before.before.before) (lent c.before.before.before.before.before.before.before.before.before.before.before.before.before.before.before.before.before.before) (head c.before.before.before.before.before.before.before.before.before.before.before.before.before.before.before.before.before.before) (reads c.before.before.before.before.before.before.before.before.before.before.before.before.before.before.before.before.before.before) (formed c.before.before.before.before.before.before.before.before.before.before.before.before.before.before.before.before) in
-    ((λ i. read_outcome 0 (q i) (v i)) ∙ m, λ z. subst2 (file c.before.before.before.before.before.before.before.before.before.before.before.before.before.before.before.before.before.before) _ _ _ _ (sym q) (sym v) t)
+    let t = taken (file p) (lent p) (head p) (reads p) (formed r) in
+    ((λ i. read_outcome 0 (q i) (v i)) ∙ m, λ z. subst2 (file p) _ _ _ _ (sym q) (sym v) t)
 
 pub read_spec : {M : Type 1} → statement M
 read_spec =

@@ -76,10 +76,12 @@ add-count c =
 
 returns-2 : tie.Need-returns-then-file-count
 returns-2 c =
-    let a = (start c.before.before.before.before.before).args in
-    let n = rows_lengths a.curve (lent c.before.before.before.before.before) (small c.before.before.before.before) in
-    too_short_law a.curve (lent c.before.before.before.before.before) a.file.now (formed c.before.before.before.before)
-    (omega (arith, file_length a.curve (lent c.before.before.before.before.before), n.0, n.1, c.head_length.ensures.0, c.if-file-count.true))
+    let p = c.before.before.before.before.before in
+    let q = c.before.before.before.before in
+    let a = (start p).args in
+    let n = rows_lengths a.curve (lent p) (small q) in
+    too_short_law a.curve (lent p) a.file.now (formed q)
+    (omega (arith, file_length a.curve (lent p), n.0, n.1, c.head_length.ensures.0, c.if-file-count.true))
 
 put-head-requires : tie.Need-put_head-next-requires
 put-head-requires c κs =
@@ -107,9 +109,11 @@ put-patterns-requires c κs =
 
 returns-3 : tie.Need-returns
 returns-3 c =
-    let a = (start c.before.before.before.before.before.before.before.before.before.before.before.before.before.before.before).args in
-    let s = lent c.before.before.before.before.before.before.before.before.before.before.before.before.before.before.before in
-    let z = small c.before.before.before.before.before.before.before.before.before.before.before.before.before.before in
+    let r = c.before.before.before.before.before.before.before.before.before.before.before.before.before.before.before in
+    let u = c.before.before.before.before.before.before.before.before.before.before.before.before.before.before in
+    let a = (start r).args in
+    let s = lent r in
+    let z = small u in
     let n = file_length a.curve s in
     let k = rows_lengths a.curve s z in
     let m = c.head_length.ensures.0 in
@@ -118,7 +122,7 @@ returns-3 c =
     omega (arith, z.set.coefficients_count) in
     let q : length s.other_coefficients - a.curve.other_segments - 0
     ≡ coefficient_count a.curve.other_segments (a.curve.d - a.curve.k) = omega (arith, z.others.coefficients_count) in
-    put_whole a.curve s a.file.now _ _ (formed c.before.before.before.before.before.before.before.before.before.before.before.before.before.before) (held c.before.before.before.before.before.before.before.before.before.before.before.before.before.before.before) long (omega (arith, n, k.0, k.1, m))
+    put_whole a.curve s a.file.now _ _ (formed u) (held r) long (omega (arith, n, k.0, k.1, m))
     (file_put a.curve s a.file.now _ _ _ long c.put_head-next.ensures.0 c.put_head-next.ensures.1
     (c.put_patterns.ensures
     ∙ (λ i. written c.put_head-next.result ((patterns_form (head_of a.curve)).write (patterns_from a.curve

@@ -29,20 +29,23 @@ returns-3 c = none_selected (curve c.before.before.before.before.before) (slices
 
 returns-4 : tie.Need-returns-then-not-axes_formed
 returns-4 c =
-    bad_axes_law (curve c.before.before.before.before.before.before.before.before) (slices c.before.before.before.before.before.before.before.before) (sym c.axes_formed.ensures ∙ not-true _ c.if-not-axes_formed.true-raw)
+    let p = c.before.before.before.before.before.before.before.before in
+    bad_axes_law (curve p) (slices p) (sym c.axes_formed.ensures ∙ not-true _ c.if-not-axes_formed.true-raw)
 
 returns-5 : tie.Need-returns-then-not-sets_formed
 returns-5 c =
-    bad_sets (curve c.before.before.before.before.before.before.before.before.before.before) (slices c.before.before.before.before.before.before.before.before.before.before) (sym c.sets_formed.ensures ∙ not-true _ c.if-not-sets_formed.true-raw)
+    let p = c.before.before.before.before.before.before.before.before.before.before in
+    bad_sets (curve p) (slices p) (sym c.sets_formed.ensures ∙ not-true _ c.if-not-sets_formed.true-raw)
 
 returns-6 : tie.Need-returns
 returns-6 c =
+    let p = c.before.before.before.before.before.before.before.before.before.before.before.before.before.before.before in
     let l = c.args.file.now in
     let next = c.args.head.next in
-    let x : c.float.result ≡ (curve c.before.before.before.before.before.before.before.before.before.before.before.before.before.before.before).start = c.float.ensures ∙ number_at l next in
-    let y : c.float-2.result ≡ (curve c.before.before.before.before.before.before.before.before.before.before.before.before.before.before.before).end = c.float-2.ensures ∙ number_at l (next + 8) in
+    let x : c.float.result ≡ (curve p).start = c.float.ensures ∙ number_at l next in
+    let y : c.float-2.result ≡ (curve p).end = c.float-2.ensures ∙ number_at l (next + 8) in
     c.range_formed.ensures ∙ (λ i. range_formed (x i) (y i))
-    ∙ range_left (curve c.before.before.before.before.before.before.before.before.before.before.before.before.before.before.before) (slices c.before.before.before.before.before.before.before.before.before.before.before.before.before.before.before)
+    ∙ range_left (curve p) (slices p)
     c.if-d-lt1.false
     c.if-d-gt16.false
     c.if-k-lt1.false c.requires.k_high

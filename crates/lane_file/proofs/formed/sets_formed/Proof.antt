@@ -44,18 +44,19 @@ returns c = rw (sym (selected c.before) ∙ not-true _ c.if-not-set_formed.true-
 
 returns-2 : tie.Need-returns
 returns-2 c =
+    let q = c.before.before.before.before.before.before in
     let p = c.other_place-other.ensures.0 in
     let at = c.other_place-other.result in
-    let n = (head c.before.before.before.before.before.before).other_segments in
-    let m = (head c.before.before.before.before.before.before).d - (head c.before.before.before.before.before.before).k in
-    let t = map number_of (coefficients_at (file c.before.before.before.before.before.before) (other_place (head c.before.before.before.before.before.before)) n m) in
+    let n = (head q).other_segments in
+    let m = (head q).d - (head q).k in
+    let t = map number_of (coefficients_at (file q) (other_place (head q)) n m) in
     let r = c.break_count-2 in
-    rw (sym (selected c.before.before.before.before.before.before) ∙ not-false _ c.if-not-set_formed.false-raw)
-    (others_in (file c.before.before.before.before.before.before) at n (at + 8 * r.result - at) (omega (arith, r.ensures.0)) _ m t
-    (c.others_formed.ensures t (coefficients_count (file c.before.before.before.before.before.before) (other_place (head c.before.before.before.before.before.before)) n m))
-    ∙ ap (λ (at : ℕ). others_formed m n (breaks_at (file c.before.before.before.before.before.before) at n) (with_widths (breaks_at (file c.before.before.before.before.before.before) at n) t)) p
-    ∙ ap (others_formed m n (breaks_at (file c.before.before.before.before.before.before) (other_place (head c.before.before.before.before.before.before)) n))
-    (sym (widened_numbers (breaks_at (file c.before.before.before.before.before.before) (other_place (head c.before.before.before.before.before.before)) n) (coefficients_at (file c.before.before.before.before.before.before) (other_place (head c.before.before.before.before.before.before)) n m))))
+    rw (sym (selected q) ∙ not-false _ c.if-not-set_formed.false-raw)
+    (others_in (file q) at n (at + 8 * r.result - at) (omega (arith, r.ensures.0)) _ m t
+    (c.others_formed.ensures t (coefficients_count (file q) (other_place (head q)) n m))
+    ∙ ap (λ (at : ℕ). others_formed m n (breaks_at (file q) at n) (with_widths (breaks_at (file q) at n) t)) p
+    ∙ ap (others_formed m n (breaks_at (file q) (other_place (head q)) n))
+    (sym (widened_numbers (breaks_at (file q) (other_place (head q)) n) (coefficients_at (file q) (other_place (head q)) n m))))
 
 pub sets_formed_spec : {M : Type 1} → statement M
 sets_formed_spec =

@@ -67,8 +67,9 @@ returns-2 c =
 
 returns-3 : tie.Need-returns-then-d-k
 returns-3 c =
-    unread (file c.before.before) c.unread-then-d-k.result c.unread-then-d-k.ensures
-    (head_above (file c.before.before) (d c.before.before) (second c.before.before) (d-read c.before.before) (k c.before.before) (third c.before.before) (k-read c.before.before) c.if-d-k.true)
+    let p = c.before.before in
+    unread (file p) c.unread-then-d-k.result c.unread-then-d-k.ensures
+    (head_above (file p) (d p) (second p) (d-read p) (k p) (third p) (k-read p) c.if-d-k.true)
 
 axes-at-requires : tie.Need-axes_at-list-requires
 axes-at-requires c κs =
@@ -76,29 +77,32 @@ axes-at-requires c κs =
 
 returns-4 : tie.Need-returns-then-not-list
 returns-4 c =
-    unread (file c.before.before.before.before.before) c.unread-then-not-list.result c.unread-then-not-list.ensures
-    (head_unread3 (file c.before.before.before.before.before) (d c.before.before.before.before.before) (second c.before.before.before.before.before) (d-read c.before.before.before.before.before) (k c.before.before.before.before.before) (third c.before.before.before.before.before) (k-read c.before.before.before.before.before) c.if-d-k.false
+    let p = c.before.before.before.before.before in
+    unread (file p) c.unread-then-not-list.result c.unread-then-not-list.ensures
+    (head_unread3 (file p) (d p) (second p) (d-read p) (k p) (third p) (k-read p) c.if-d-k.false
     (c.axes_at-list.ensures.0 (not-true _ c.if-not-list.true)))
 
 returns-5 : tie.Need-returns-in_default-tail_at
 returns-5 c =
+    let p = c.before.before.before.before.before.before.before.before in
     let x = c.axes_at-list.ensures.1 (not-false _ c.if-not-list.false) in
-    unread (file c.before.before.before.before.before.before.before.before) c.unread-in_default-tail_at.result c.unread-in_default-tail_at.ensures
-    (head_unread4 (file c.before.before.before.before.before.before.before.before) (d c.before.before.before.before.before.before.before.before) (second c.before.before.before.before.before.before.before.before) (d-read c.before.before.before.before.before.before.before.before) (k c.before.before.before.before.before.before.before.before) (third c.before.before.before.before.before.before.before.before) (k-read c.before.before.before.before.before.before.before.before) c.if-d-k.false x.list
+    unread (file p) c.unread-in_default-tail_at.result c.unread-in_default-tail_at.ensures
+    (head_unread4 (file p) (d p) (second p) (d-read p) (k p) (third p) (k-read p) c.if-d-k.false x.list
     c.axes_at-list.result.next x.read
-    (sym c.tail_at.ensures.0 ∙ ap (tail_in (file c.before.before.before.before.before.before.before.before)) c.in_default-tail_at.is))
+    (sym c.tail_at.ensures.0 ∙ ap (tail_in (file p)) c.in_default-tail_at.is))
 
 returns-6 : tie.Need-returns
 returns-6 c =
+    let p = c.before.before.before.before.before.before.before in
     let x = c.axes_at-list.ensures.1 (not-false _ c.if-not-list.false) in (
       λ e. absurd (true≢false e),
       λ e. record {
         axes = x.list;
-        read = head_read (file c.before.before.before.before.before.before.before) (d c.before.before.before.before.before.before.before) (second c.before.before.before.before.before.before.before) (d-read c.before.before.before.before.before.before.before) (k c.before.before.before.before.before.before.before) (third c.before.before.before.before.before.before.before) (k-read c.before.before.before.before.before.before.before) c.if-d-k.false x.list
+        read = head_read (file p) (d p) (second p) (d-read p) (k p) (third p) (k-read p) c.if-d-k.false x.list
             c.axes_at-list.result.next x.read _ _ _ c.in-Three.next
-            (sym c.tail_at.ensures.0 ∙ ap (tail_in (file c.before.before.before.before.before.before.before)) c.in-Three.is);
+            (sym c.tail_at.ensures.0 ∙ ap (tail_in (file p)) c.in-Three.is);
         held = x.held;
-        ended = subst (λ (r : Tail). tail_end r ≤ length (file c.before.before.before.before.before.before.before)) c.in-Three.is c.tail_at.ensures.1;
+        ended = subst (λ (r : Tail). tail_end r ≤ length (file p)) c.in-Three.is c.tail_at.ensures.1;
       },
     )
 

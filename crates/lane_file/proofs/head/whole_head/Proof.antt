@@ -49,16 +49,18 @@ sub-if2 : tie.Need-overflow_sub-file
 sub-if2 c = (head c.before).ended
 
 returns-2 : tie.Need-returns-then-file-next
-returns-2 c = (
-  λ f. whole_bad (file c.before.before.before) (found c.before.before.before) (head c.before.before.before) (λ e. omega (arith, e, c.if-file-next.true, c.word_count-count.ensures.0)),
-  λ f. absurd (true≢false (sym f ∙ c.unread.ensures)),
-)
+returns-2 c =
+    let p = c.before.before.before in (
+      λ f. whole_bad (file p) (found p) (head p) (λ e. omega (arith, e, c.if-file-next.true, c.word_count-count.ensures.0)),
+      λ f. absurd (true≢false (sym f ∙ c.unread.ensures)),
+    )
 
 returns-3 : tie.Need-returns
-returns-3 c = (
-  λ f. absurd (true≢false (sym (not-false _ c.if-not-head.false) ∙ f)),
-  λ f. whole_read (file c.before.before) (found c.before.before) (head c.before.before) (bytes c.before.before) (omega (arith, c.if-file-next.false, c.word_count-count.ensures.0)),
-)
+returns-3 c =
+    let p = c.before.before in (
+      λ f. absurd (true≢false (sym (not-false _ c.if-not-head.false) ∙ f)),
+      λ f. whole_read (file p) (found p) (head p) (bytes p) (omega (arith, c.if-file-next.false, c.word_count-count.ensures.0)),
+    )
 
 pub whole_head_spec : {M : Type 1} → statement M
 whole_head_spec =

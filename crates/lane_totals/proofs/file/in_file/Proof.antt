@@ -37,11 +37,12 @@ never-short c =
     s.requires.0.0 s.requires.0.1 s.requires.0.2 s.requires.0.3
 
 returns : tie.Need-returns-then-read_number-ne0
-returns c = (
-  c.one_away.ensures.0
-      ∙ file_away (file c.before.before.before.before.before.before.before.before.before.before.before) (lent c.before.before.before.before.before.before.before.before.before.before.before) (λ z. c.if-read_number-ne0.true (c.read_number.ensures ∙ number c.before.before.before.before.before.before.before.before.before.before.before ∙ z)) (never-short c.before.before.before.before.before.before.before.before.before.before.before),
-  kept_wider 1 0 20000 _ (omega arith) c.one_away.ensures.1,
-)
+returns c =
+    let p = c.before.before.before.before.before.before.before.before.before.before.before in (
+      c.one_away.ensures.0
+          ∙ file_away (file p) (lent p) (λ z. c.if-read_number-ne0.true (c.read_number.ensures ∙ number p ∙ z)) (never-short p),
+      kept_wider 1 0 20000 _ (omega arith) c.one_away.ensures.1,
+    )
 
 -- the curve was read
 done : (c : tie.Else-read_number-ne0) → read_number c.read-read.result.answer
@@ -50,11 +51,13 @@ done c = sym c.read_number.ensures ∙ c.if-read_number-ne0.false
 
 in-curve-requires : tie.Need-in_curve-requires
 in-curve-requires c κs =
-    ((c.read-read.ensures.1 (done c.before)).formed, (start c.before.before.before.before.before.before.before.before.before.before.before).requires.1)
+    let p = c.before.before.before.before.before.before.before.before.before.before.before in
+    ((c.read-read.ensures.1 (done c.before)).formed, (start p).requires.1)
 
 returns-2 : tie.Need-returns
 returns-2 c =
-    (c.in_curve.ensures.0 ∙ file_read (file c.before.before.before.before.before.before.before.before.before.before.before.before) (lent c.before.before.before.before.before.before.before.before.before.before.before.before) _ c.read-read.ensures.0 (done c.before.before), c.in_curve.ensures.1)
+    let p = c.before.before.before.before.before.before.before.before.before.before.before.before in
+    (c.in_curve.ensures.0 ∙ file_read (file p) (lent p) _ c.read-read.ensures.0 (done c.before.before), c.in_curve.ensures.1)
 
 pub in_file_spec : {M : Type 1} → statement M
 in_file_spec =

@@ -46,23 +46,24 @@ answered s axes tolerance spacing = answer_to (asked s axes tolerance spacing) (
 
 returns : tie.Need-returns
 returns c =
+    let p = c.before.before.before.before.before.before.before.before.before.before.before.before.before.before.before.before.before.before.before.before.before.before.before.before.before.before.before.before.before.before.before.before.before.before.before.before.before.before.before.before.before.before.before in
     let a = c.args in
     let b = c.build-built in
     let n = c.number-number in
-    let e : answered c.before.before.before.before.before.before.before.before.before.before.before.before.before.before.before.before.before.before.before.before.before.before.before.before.before.before.before.before.before.before.before.before.before.before.before.before.before.before.before.before.before.before.before c.axes_of.result c.tolerance_of.result c.spacing_of.result
-    ≡ answered c.before.before.before.before.before.before.before.before.before.before.before.before.before.before.before.before.before.before.before.before.before.before.before.before.before.before.before.before.before.before.before.before.before.before.before.before.before.before.before.before.before.before.before (chosen_axes a.all) (chosen_tolerance a.uniform a.tolerance) (chosen_spacing a.spacing) =
-    λ i. answered c.before.before.before.before.before.before.before.before.before.before.before.before.before.before.before.before.before.before.before.before.before.before.before.before.before.before.before.before.before.before.before.before.before.before.before.before.before.before.before.before.before.before.before (c.axes_of.ensures i) (c.tolerance_of.ensures i) (c.spacing_of.ensures i) in
+    let e : answered p c.axes_of.result c.tolerance_of.result c.spacing_of.result
+    ≡ answered p (chosen_axes a.all) (chosen_tolerance a.uniform a.tolerance) (chosen_spacing a.spacing) =
+    λ i. answered p (c.axes_of.ensures i) (c.tolerance_of.ensures i) (c.spacing_of.ensures i) in
     let number = n.ensures ∙ ap number_of b.ensures.0 ∙ ap (λ (z : Answer Result). number_of (reported z)) e in
     let all = all_written c.mode_of.result a.d _ (outcome_of b.result.answer) b.result.curve n.result b.ensures.0
     b.ensures.1.0
-    n.ensures (old c.before.before.before.before.before.before.before.before.before.before.before.before.before.before.before.before.before.before.before.before.before.before.before.before.before.before.before.before.before.before.before.before.before.before.before.before.before.before.before.before.before.before.before) b.ensures.1.1.0 b.ensures.1.1.1 c.put_answer.ensures.0 c.put_answer.ensures.1
+    n.ensures (old p) b.ensures.1.1.0 b.ensures.1.1.1 c.put_answer.ensures.0 c.put_answer.ensures.1
     c.put_curve.ensures
-    ∙ (λ i. build_outputs_after (c.mode_of.ensures i) a.d (e i) (old c.before.before.before.before.before.before.before.before.before.before.before.before.before.before.before.before.before.before.before.before.before.before.before.before.before.before.before.before.before.before.before.before.before.before.before.before.before.before.before.before.before.before.before)) in (
+    ∙ (λ i. build_outputs_after (c.mode_of.ensures i) a.d (e i) (old p)) in (
       number,
       (
         all,
-        formed_curve (lane c.before.before.before.before.before.before.before.before.before.before.before.before.before.before.before.before.before.before.before.before.before.before.before.before.before.before.before.before.before.before.before.before.before.before.before.before.before.before.before.before.before.before.before) (limits c.before.before.before.before.before.before.before.before.before.before.before.before.before.before.before.before.before.before.before.before.before.before.before.before.before.before.before.before.before.before.before.before.before.before.before.before.before.before.before.before.before.before.before) c.shared_slice_known-4-1.given
-            a.clamp (lengths_of a.work.now (lent c.before.before.before.before.before.before.before.before.before.before.before.before.before.before.before.before.before.before.before.before.before.before.before.before.before.before.before.before.before.before.before.before.before.before.before.before.before.before.before.before.before.before.before)) (old c.before.before.before.before.before.before.before.before.before.before.before.before.before.before.before.before.before.before.before.before.before.before.before.before.before.before.before.before.before.before.before.before.before.before.before.before.before.before.before.before.before.before.before) number all,
+        formed_curve (lane p) (limits p) c.shared_slice_known-4-1.given
+            a.clamp (lengths_of a.work.now (lent p)) (old p) number all,
       ),
     )
 

@@ -71,12 +71,15 @@ returns-4 c =
 
 write-all-requires : tie.Need-write_all-requires
 write-all-requires c κs =
-    let p = passed c.before.before.before.before.before.before.before in
-    (p.formed, (c.all_inside-inside.ensures, rooms _ _ (given (start c.before.before.before.before.before.before.before.before.before.before.before)) p.long))
+    let q = c.before.before.before.before.before.before.before.before.before.before.before in
+    let r = c.before.before.before.before.before.before.before in
+    let p = passed r in
+    (p.formed, (c.all_inside-inside.ensures, rooms _ _ (given (start q)) p.long))
 
 returns-5 : tie.Need-returns
 returns-5 c =
-    all_done _ _ _ _ _ (passed c.before.before.before.before.before.before.before.before.before.before.before.before.before.before.before.before) _ (rw c.first_refused-first.ensures at c.if-first-count.false)
+    let p = c.before.before.before.before.before.before.before.before.before.before.before.before.before.before.before.before in
+    all_done _ _ _ _ _ (passed p) _ (rw c.first_refused-first.ensures at c.if-first-count.false)
     c.write_all.ensures.0
 
 pub evaluate_all_formed_spec : {M : Type 1} → statement M

@@ -63,11 +63,12 @@ write-all-requires c κs =
 
 -- the queries at one parameter are the query at it
 returns-4 : tie.Need-returns
-returns-4 c = (
-  done _ _ _ _ _ (passed c.before.before.before.before.before.before.before.before.before.before.before.before.before.before.before.before) _ (sym (ap (λ (r : Ranged). r.refused) c.in_range-ranged.ensures) ∙ c.if-ranged.false)
-      c.write_all-last.ensures.0,
-  c.write_all-last.ensures.1 0 refl,
-)
+returns-4 c =
+    let p = c.before.before.before.before.before.before.before.before.before.before.before.before.before.before.before.before in (
+      done _ _ _ _ _ (passed p) _ (sym (ap (λ (r : Ranged). r.refused) c.in_range-ranged.ensures) ∙ c.if-ranged.false)
+          c.write_all-last.ensures.0,
+      c.write_all-last.ensures.1 0 refl,
+    )
 
 pub evaluate_near_spec : {M : Type 1} → statement M
 evaluate_near_spec =

@@ -73,8 +73,10 @@ few c =
 
 loop-holds : tie.Need-loop-i-init invariant-loop decreases-loop
 unfolding join
-loop-holds c = let n = c.requires.1.1.1.1.0 in
-    (omega arith, n.0, n.1, as_long (given c.before.before.before.before.before.before.before.before.before), filled_none c.args.order 0 (given c.before.before.before.before.before.before.before.before.before), λ j e. absurd (omega arith))
+loop-holds c =
+    let p = c.before.before.before.before.before.before.before.before.before in
+    let n = c.requires.1.1.1.1.0 in
+    (omega arith, n.0, n.1, as_long (given p), filled_none c.args.order 0 (given p), λ j e. absurd (omega arith))
 
 answered-requires : tie.Need-answered-ranged-requires invariant-loop decreases-loop
 answered-requires c κs = λ h. (start c.before.before).requires.1.1.1.0 h c.loop-i.i c.loop-i-test.true
@@ -127,10 +129,14 @@ put-axes-requires c κs = let b = start c.before.before.before.before.before.bef
     )
 
 add-i : tie.Need-overflow_add-i invariant-loop decreases-loop
-add-i c = omega (arith, c.loop-i-test.true, (start c.before.before.before.before.before.before.before.before.before.before.before.before.before.before.before.before.before.before.before).well_formed)
+add-i c =
+    let p = c.before.before.before.before.before.before.before.before.before.before.before.before.before.before.before.before.before.before.before in
+    omega (arith, c.loop-i-test.true, (start p).well_formed)
 
 loop-again : tie.Need-loop-i-preserved invariant-loop decreases-loop
-loop-again c = let b = start c.before.before.before.before.before.before.before.before.before.before.before.before.before.before.before.before.before.before.before in
+loop-again c =
+    let p = c.before.before.before.before.before.before.before.before.before.before.before.before.before.before.before.before.before.before.before in
+    let b = start p in
     let g = b.args in
     let f = well_formed_law b in
     let d = g.curve.d in

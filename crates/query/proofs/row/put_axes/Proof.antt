@@ -35,7 +35,8 @@ given b = outputs b.args.q.now b.args.dq.now b.args.ddq.now b.args.dddq.now
 loop-holds : tie.Need-loop-a-init invariant-loop decreases-loop
 unfolding join
 loop-holds c =
-    (omega arith, as_long (given c.before.before.before.before.before.before), filled_none c.args.order c.args.at (given c.before.before.before.before.before.before))
+    let p = c.before.before.before.before.before.before in
+    (omega arith, as_long (given p), filled_none c.args.order c.args.at (given p))
 
 axis-requires : tie.Need-axis-v-requires invariant-loop decreases-loop
 axis-requires c κs =
@@ -48,8 +49,9 @@ add-put-axis c =
 
 put-axis-requires : tie.Need-put_axis-requires invariant-loop decreases-loop
 put-axis-requires c κs =
+    let p = c.before.before.before.before.before.before.before.before.before.before.before.before.before.before.before.before in
     let l = c.loop-a in
-    room_for c.args.order (c.args.at + l.a + 1) (c.args.at + (c.args.k + c.args.m)) (given c.before.before.before.before.before.before.before.before.before.before.before.before.before.before.before.before)
+    room_for c.args.order (c.args.at + l.a + 1) (c.args.at + (c.args.k + c.args.m)) (given p)
     (outputs l.q l.dq l.ddq l.dddq) (omega arith) l.invariant.1 c.requires.1.1
 
 add_a : tie.Need-overflow_add-a invariant-loop decreases-loop
@@ -57,7 +59,9 @@ add_a c =
     omega (arith, c.loop-a-test.true, c.requires.0.0)
 
 loop-again : tie.Need-loop-a-preserved invariant-loop decreases-loop
-loop-again c = let l = c.loop-a in
+loop-again c =
+    let p = c.before.before.before.before.before.before.before.before.before.before.before.before.before.before.before.before.before.before.before.before.before.before.before.before.before in
+    let l = c.loop-a in
     let g = c.args in
     let s = c.stand in
     let v = c.axis-v in
@@ -65,8 +69,8 @@ loop-again c = let l = c.loop-a in
     let o = outputs l.q l.dq l.ddq l.dddq in
     let w = axis g.selected.now g.other.now g.k g.m g.table.now g.here g.there g.scale g.outside in
     let h = c.loop-a-test.true in
-    let r = rows_next g.order g.at 1 l.a d (g.at + l.a) (λ part b. part (w b) ∷ []) (given c.before.before.before.before.before.before.before.before.before.before.before.before.before.before.before.before.before.before.before.before.before.before.before.before.before) o _ (omega arith) (λ part j. refl)
-    h (room_for g.order (g.at + d * 1) (g.at + d) (given c.before.before.before.before.before.before.before.before.before.before.before.before.before.before.before.before.before.before.before.before.before.before.before.before.before) (given c.before.before.before.before.before.before.before.before.before.before.before.before.before.before.before.before.before.before.before.before.before.before.before.before.before) (omega arith) (as_long (given c.before.before.before.before.before.before.before.before.before.before.before.before.before.before.before.before.before.before.before.before.before.before.before.before.before)) c.requires.1.1) l.invariant.2
+    let r = rows_next g.order g.at 1 l.a d (g.at + l.a) (λ part b. part (w b) ∷ []) (given p) o _ (omega arith) (λ part j. refl)
+    h (room_for g.order (g.at + d * 1) (g.at + d) (given p) (given p) (omega arith) (as_long (given p)) c.requires.1.1) l.invariant.2
     (c.put_axis.ensures ∙ ap (λ (x : Derivatives). filled g.order (g.at + l.a) (λ part. part x ∷ []) o)
     (s.ensures ∙ ap (standing g.outside) v.ensures)) in
     (omega (arith, h), r.0, r.1)

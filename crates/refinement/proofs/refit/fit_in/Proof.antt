@@ -21,10 +21,11 @@ fit-requires c κs =
 
 returns : tie.Need-returns
 returns c =
+    let q = c.before.before.before.before.before.before.before in
     let a = c.args in
     let f = c.fit in (
       fit_answer a.p a.work.now c.requires.0 a.a a.z c.requires.1 c.requires.2 a.strength _ f.ensures.0,
-      fit_memory a.p a.work.now c.requires.0 a.a a.z c.requires.1 c.requires.2 a.strength f.new.work (omega (arith, fits c.before.before.before.before.before.before.before))
+      fit_memory a.p a.work.now c.requires.0 a.a a.z c.requires.1 c.requires.2 a.strength f.new.work (omega (arith, fits q))
           f.ensures.1.0,
     )
 

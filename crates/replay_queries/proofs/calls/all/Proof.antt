@@ -8,7 +8,9 @@ use Rattle.replay_queries.proofs.calls.all.Tie as tie
 
 -- the slices were lent twice, and are as long as before
 abbrev called : tie.After-slice_known-16-1 → tie.After-evaluate_all-answers
-called c = c.before.before.before.before.before.before.before.before.before.before.before.before.before.before.before.before.before.before.before.before.before.before.before
+called c =
+    let p = c.before.before.before.before.before.before.before.before.before.before.before.before.before.before.before.before.before.before.before.before.before.before.before in
+    p
 
 same_length : tie.Need-shape_of-q
 same_length c = omega (

@@ -67,10 +67,11 @@ returns c =
 
 loop-again : tie.Need-loop-i-preserved invariant-loop decreases-loop
 loop-again c =
+    let p = c.before.before.before.before in
     let l = c.loop-i in
     let f = c.following-current.ensures in
-    let e = normal c.before.before.before.before _ (l.i + 1) f in
-    (omega arith, f, e, any_next (test (begun c.before.before.before.before)) l.i l.invariant.3 (le_same _ _ _ _ e l.invariant.2 c.if-x-previous.false))
+    let e = normal p _ (l.i + 1) f in
+    (omega arith, f, e, any_next (test (begun p)) l.i l.invariant.3 (le_same _ _ _ _ e l.invariant.2 c.if-x-previous.false))
 
 returns-2 : tie.Need-returns invariant-loop decreases-loop
 returns-2 c =

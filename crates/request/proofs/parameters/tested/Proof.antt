@@ -53,16 +53,18 @@ turned c = test_same _ _ _ _ c.following-x.ensures c.loop-i.invariant.1 c.is_mis
 
 returns-2 : tie.Need-returns-then-is_misplaced invariant-loop decreases-loop
 returns-2 c =
+    let q = c.before.before.before.before.before.before.before.before.before.before in
     let l = c.loop-i in (
-      sym (misplaced_found (at (p c.before.before.before.before.before.before.before.before.before.before)) c.args.n (omega arith) l.i c.loop-i-test.true
+      sym (misplaced_found (at (p q)) c.args.n (omega arith) l.i c.loop-i-test.true
           (turned c.before ∙ c.if-is_misplaced.true)),
       λ h. absurd (true≢false h),
     )
 
 loop-again : tie.Need-loop-i-preserved invariant-loop decreases-loop
 loop-again c =
+    let q = c.before.before.before.before.before.before.before.before.before.before in
     let l = c.loop-i in
-    (omega arith, c.following-x.ensures, in_place_next (at (p c.before.before.before.before.before.before.before.before.before.before)) l.i l.invariant.2 (turned c.before ∙ c.if-is_misplaced.false))
+    (omega arith, c.following-x.ensures, in_place_next (at (p q)) l.i l.invariant.2 (turned c.before ∙ c.if-is_misplaced.false))
 
 returns-3 : tie.Need-returns invariant-loop decreases-loop
 unfolding length_of

@@ -62,10 +62,11 @@ put-widths-requires c κs =
 
 returns : tie.Need-returns
 returns c =
-    let s = begun c.before.before.before.before.before.before.before in
+    let p = c.before.before.before.before.before.before.before in
+    let s = begun p in
     let a = s.args in
-    let e = read_back a.breaks.now a.lent_breaks.now _ s.requires.0 (first c.before.before.before.before.before.before.before).put_breaks.ensures in (
-      (first c.before.before.before.before.before.before.before).put_breaks.ensures,
+    let e = read_back a.breaks.now a.lent_breaks.now _ s.requires.0 (first p).put_breaks.ensures in (
+      (first p).put_breaks.ensures,
       widths-behind a.m a.n a.breaks.now a.coefficients.now _ a.lent_coefficients.now _ _ e (omega (arith, s.requires.2))
           c.put_segments.ensures c.put_widths.ensures,
     )

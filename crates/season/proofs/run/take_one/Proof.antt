@@ -78,9 +78,11 @@ merged-requires c κs =
 
 returns-4 : tie.Need-returns-in-File
 returns-4 c =
-    let s = start c.before.before.before.before.before.before.before.before.before.before.before.before.before.before.before.before.before in
+    let p = c.before.before.before.before.before.before.before.before.before.before.before.before.before.before.before.before.before in
+    let q = c.before.before.before.before.before.before.before.before.before.before.before.before.before.before.before.before in
+    let s = start p in
     let a = s.args in
-    let f = found c.before.before.before.before.before.before.before.before.before.before.before.before.before.before.before.before _ c.in-File.is in (
+    let f = found q _ c.in-File.is in (
       subst (λ (x : Sums). TakenIn a.bytes.now a.at a.last a.before
           (record { stopped = false; at = c.in-File.to; sums = x }))
           (sym c.merged-sums.ensures)

@@ -95,54 +95,59 @@ module _ (c : tie.After-refine-r) where
 
 conclude-requires : tie.Need-conclude-requires
 conclude-requires c κs =
-    let s = s c.before.before.before.before.before in
+    let q = c.before.before.before.before.before in
+    let s = s q in
     let p = s.requires in
     let g = c.in-Done in
-    let t = stands c.before.before.before.before.before _ g.is in (
+    let t = stands q _ g.is in (
       t.2,
       t.1,
       p.3,
       p.4,
       p.5,
       p.6,
-      settled_intervals (limits s) (task s) (units s) (state (first c.before.before.before.before.before)) (begins c.before.before.before.before.before) _ (refined c.before.before.before.before.before _ g.is)
+      settled_intervals (limits s) (task s) (units s) (state (first q)) (begins q) _ (refined q _ g.is)
           (lengths s.args.p s.args.work.now p.0).s p.4 p.2,
     )
 
 returns-2 : tie.Need-returns-in-Done
 returns-2 c =
-    let s = s c.before.before.before.before.before.before.before.before in
+    let p = c.before.before.before.before.before.before.before.before in
+    let q = c.before.before.before.before.before.before.before.before.before.before in
+    let s = s p in
     let v = c.refine-r in
     let g = c.in-Done in
     let w = c.conclude in
-    let t = stands c.before.before.before.before.before.before.before.before _ g.is in
-    let o = refined c.before.before.before.before.before.before.before.before _ g.is in
-    let k = ((first c.before.before.before.before.before.before.before.before).start-s.ensures.1.0 (not_refused c.before.before.before.before.before.before.before.before.before.before)).2 in
+    let t = stands p _ g.is in
+    let o = refined p _ g.is in
+    let k = ((first p).start-s.ensures.1.0 (not_refused q)).2 in
     let same : length w.new.work ≡ length v.new.work = omega arith in (
-      rounds_settle (limits s) (task s) (units s) (state (first c.before.before.before.before.before.before.before.before)) (begins c.before.before.before.before.before.before.before.before) _ o _ _ (t.0 ∙ k) w.ensures.0,
+      rounds_settle (limits s) (task s) (units s) (state (first p)) (begins p) _ o _ _ (t.0 ∙ k) w.ensures.0,
       λ _. (
         rw (w.ensures.1, same) t.2,
-        rw w.ensures.1 (settled_few (limits s) (task s) (units s) (state (first c.before.before.before.before.before.before.before.before)) (begins c.before.before.before.before.before.before.before.before) _ o),
+        rw w.ensures.1 (settled_few (limits s) (task s) (units s) (state (first p)) (begins p) _ o),
       ),
     )
 
 returns-3 : tie.Need-returns-in-Refused
 returns-3 c =
-    let s = s c.before.before.before.before in
+    let q = c.before.before.before.before in
+    let s = s q in
     let e = c.ended-in-Refused in
     let g = c.in-Refused in (
       answer_refused s.args.p e.result c.refine-r.new.work _ e.ensures.0
-          ∙ rounds_refuse (limits s) (task s) (units s) (state (first c.before.before.before.before)) (begins c.before.before.before.before) _ (refined c.before.before.before.before _ g.is),
+          ∙ rounds_refuse (limits s) (task s) (units s) (state (first q)) (begins q) _ (refined q _ g.is),
       λ h. absurd (refused_done e.result.ending _ e.ensures.0 h),
     )
 
 returns-4 : tie.Need-returns-in-Exhausted
 returns-4 c =
-    let s = s c.before.before.before.before in
+    let q = c.before.before.before.before in
+    let s = s q in
     let e = c.ended-in-Exhausted in
     let g = c.in-Exhausted in (
       answer_exhausted s.args.p e.result c.refine-r.new.work _ e.ensures.0
-          ∙ rounds_exhaust (limits s) (task s) (units s) (state (first c.before.before.before.before)) (begins c.before.before.before.before) _ (refined c.before.before.before.before _ g.is),
+          ∙ rounds_exhaust (limits s) (task s) (units s) (state (first q)) (begins q) _ (refined q _ g.is),
       λ h. absurd (exhausted_done e.result.ending _ e.ensures.0 h),
     )
 

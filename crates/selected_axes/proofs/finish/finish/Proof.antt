@@ -63,16 +63,18 @@ returns c = finish_refused (audited c.before.before) (counts c.before.before) _ 
 
 returns-2 : tie.Need-returns-then-is_excessive
 returns-2 c =
+    let p = c.before.before.before.before.before in
     let z : c.number_of-number.result ≡ 0 = omega (arith, c.if-number-gt0.false) in
-    finish_excessive (audited c.before.before.before.before.before) (counts c.before.before.before.before.before) _ z (sym c.if-is_excessive.true ∙ c.is_excessive.ensures)
+    finish_excessive (audited p) (counts p) _ z (sym c.if-is_excessive.true ∙ c.is_excessive.ensures)
 
 returns-3 : tie.Need-returns
 returns-3 c =
-    let p = (begun c.before.before.before.before.before).args.p in
+    let q = c.before.before.before.before.before in
+    let p = (begun q).args.p in
     let x = memory_at p c.audit_in-a.new.work in
     let z : c.number_of-number.result ≡ 0 = omega (arith, c.if-number-gt0.false) in
     ap (λ (k : Counts). unless 0 (selected_in p (take p.axes c.errors_in-errors.result) k x)) c.after_audit-more.ensures
-    ∙ finish_done (audited c.before.before.before.before.before) (counts c.before.before.before.before.before) z (sym c.if-is_excessive.false ∙ c.is_excessive.ensures)
+    ∙ finish_done (audited q) (counts q) z (sym c.if-is_excessive.false ∙ c.is_excessive.ensures)
 
 pub finish_spec : {M : Type 1} → statement M
 finish_spec =

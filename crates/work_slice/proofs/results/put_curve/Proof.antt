@@ -36,18 +36,20 @@ module _ (c : tie.After-copy-2) where
 
 put-widths-requires : tie.Need-put_widths-requires
 put-widths-requires c κs =
-    let a = (begun c.before.before.before.before).args in
+    let p = c.before.before.before.before in
+    let a = (begun p).args in
     let e = c.copy-2.ensures
     ∙ part_onto a.c (a.c + a.segments * (6 * a.k)) a.cells.now a.coefficients.now (omega arith) (omega arith) (omega arith) in
-    let n = rows-length c.before.before.before.before in
-    omega (arith, ap length e, onto_length (rows c.before.before.before.before) a.coefficients.now (omega arith), breaks_length c.before.before.before.before)
+    let n = rows-length p in
+    omega (arith, ap length e, onto_length (rows p) a.coefficients.now (omega arith), breaks_length p)
 
 returns : tie.Need-returns
 returns c =
-    let a = (begun c.before.before.before.before.before.before.before).args in (
-      (first c.before.before.before.before.before.before.before).copy.ensures
+    let p = c.before.before.before.before.before.before.before in
+    let a = (begun p).args in (
+      (first p).copy.ensures
           ∙ part_onto a.a (a.a + a.segments + 1) a.cells.now a.breaks.now (omega arith) (omega arith) (omega arith),
-      widths_onto (breaks c.before.before.before.before.before.before.before) (rows c.before.before.before.before.before.before.before) a.coefficients.now _ _ (rows-length c.before.before.before.before.before.before.before) (omega arith)
+      widths_onto (breaks p) (rows p) a.coefficients.now _ _ (rows-length p) (omega arith)
           (c.copy-2.ensures
           ∙ part_onto a.c (a.c + a.segments * (6 * a.k)) a.cells.now a.coefficients.now (omega arith) (omega arith)
           (omega arith)) c.put_widths.ensures,

@@ -121,7 +121,8 @@ part-is-overflowing-end c =
 judged : (c : tie.After-is_overflowing)
     → c.is_overflowing.result ≡ overflows (task (start c.before.before.before.before))
 judged c =
-    c.is_overflowing.ensures ∙ overflow_is _ _ (both_second (written c.before.before.before.before) ∙ rows_are c.before.before.before.before)
+    let p = c.before.before.before.before in
+    c.is_overflowing.ensures ∙ overflow_is _ _ (both_second (written p) ∙ rows_are p)
 
 returns-2 : tie.Need-returns-then-is_overflowing
 unfolding task_of
@@ -133,11 +134,13 @@ returns-2 c =
 returns-3 : tie.Need-returns
 unfolding task_of
 returns-3 c =
-    let e = sym (tested c.before.before.before.before.before.before.before.before) ∙ c.if-is_unreliable.false in
+    let q = c.before.before.before.before.before in
+    let r = c.before.before.before.before.before.before.before.before in
+    let e = sym (tested r) ∙ c.if-is_unreliable.false in
     let o = sym (judged c.before) ∙ c.if-is_overflowing.false in
-    let a = (start c.before.before.before.before.before).args in
-    let s = put_stays (put (first c.before.before.before.before.before)) (written c.before.before.before.before.before) in
-    (rw (e, o) refl, λ n i. record { n = a.p.samples; k = a.p.axes; s = s i; y = (both_second (written c.before.before.before.before.before) ∙ rows_are c.before.before.before.before.before) i })
+    let a = (start q).args in
+    let s = put_stays (put (first q)) (written q) in
+    (rw (e, o) refl, λ n i. record { n = a.p.samples; k = a.p.axes; s = s i; y = (both_second (written q) ∙ rows_are q) i })
 
 pub prepare_spec : {M : Type 1} → statement M
 prepare_spec =
