@@ -10,11 +10,7 @@ ghost use Rattle.window.specs.Window.{copied};
 pub fn clear(s: &mut [f64])
     ensures { s.new ≡ zeros (length s.old) }
 {
-    let mut i = 0;
-    while i < s.len() {
-        s[i] = 0.0;
-        i += 1;
-    }
+    s.fill(0.0);
 }
 
 // The cells of `src` into `dst`, from the front, as far as both reach; further cells of `dst` are
@@ -22,9 +18,6 @@ pub fn clear(s: &mut [f64])
 pub fn copy(dst: &mut [f64], src: &[f64])
     ensures { dst.new ≡ copied src.now dst.old }
 {
-    let mut i = 0;
-    while i < dst.len() && i < src.len() {
-        dst[i] = src[i];
-        i += 1;
-    }
+    let n = dst.len().min(src.len());
+    dst[..n].copy_from_slice(&src[..n]);
 }
