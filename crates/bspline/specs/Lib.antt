@@ -1,6 +1,5 @@
 -- Definitions that the contracts cite.
 pub mod Search
-pub mod Side
 pub mod Values
 pub mod Powers
 pub mod Insertion

@@ -5,18 +5,6 @@ ghost use Rattle.arith.specs.Operations.{floats};
 ghost use Rattle.bspline.specs.Values.{inner_loop, values_of};
 ghost use Rattle.bspline.specs.Powers.{previous_of, expand, put_row, degree_turn, powers_of};
 
-// A value for each function.
-#[derive(Clone, Copy)]
-pub struct Basis {
-    pub values: [f64; 6],
-}
-
-// Six coefficients for each function, those of function i from 6 * i on.
-#[derive(Clone, Copy)]
-pub struct Taylor {
-    pub rows: [f64; 36],
-}
-
 // What a row gives to the row in its place, and to the one after it.
 #[derive(Clone, Copy)]
 struct Expanded {
@@ -25,43 +13,40 @@ struct Expanded {
 }
 
 // The values of degree j from those of degree j - 1.
-fn raise(left: [f64; 6], right: [f64; 6], j: usize, before: [f64; 6]) -> Basis
+fn raise(left: [f64; 6], right: [f64; 6], j: usize, before: [f64; 6]) -> [f64; 6]
     requires { j < 6 }
-    ensures { result.values ≡ inner_loop floats left right j before }
+    ensures { result ≡ inner_loop floats left right j before }
 {
     let mut b = before;
     let mut saved = 0.0;
-    let mut r = 0;
-    while r < j {
+    for r in 0..j {
         let v = b[r] / (right[r + 1] + left[j - r]);
         b[r] = saved + right[r + 1] * v;
         saved = left[j - r] * v;
-        r += 1;
     }
     b[j] = saved;
-    Basis { values: b }
+    b
 }
 
 // The six functions of the span, at x.
-pub fn values(t: &[f64], span: usize, x: f64) -> Basis
+pub fn values(t: &[f64], span: usize, x: f64) -> [f64; 6]
     requires { (4 ≤ span) × (span + 5 < length t.now) }
-    ensures { result.values ≡ values_of floats t.now span x }
+    ensures { result ≡ values_of floats t.now span x }
 {
     let mut b = [0.0; 6];
     b[0] = 1.0;
     let mut left = [0.0; 6];
     let mut right = [0.0; 6];
-    let mut j = 1;
-    while j < 6 {
+    for j in 1..6 {
         left[j] = x - t[span + 1 - j];
         right[j] = t[span + j] - x;
-        b = raise(left, right, j, b).values;
-        j += 1;
+        b = raise(left, right, j, b);
     }
-    Basis { values: b }
+    b
 }
 
 // The coefficient before k of the row at `at`, over den; zero before the first.
+#[tactic(auto, unfolding(crate::specs::Powers::previous_of))]
 fn previous(b: &[f64; 36], at: usize, k: usize, den: f64) -> f64
     requires { at + k ≤ 36 }
     ensures { result ≡ previous_of floats b.now at k den }
@@ -85,13 +70,11 @@ fn expand_row(
     let den = left + right;
     let mut next = [0.0; 6];
     let mut upper = [0.0; 6];
-    let mut k = 0;
-    while k < j + 1 {
+    for k in 0..j + 1 {
         let v = b[at + k] / den;
         let prev = previous(b, at, k, den);
         next[k] = saved[k] + right * v - prev;
         upper[k] = left * v + prev;
-        k += 1;
     }
     Expanded { next, upper }
 }
@@ -101,10 +84,8 @@ fn put_row(b: &mut [f64; 36], at: usize, row: &[f64; 6])
     requires { at + 6 ≤ 36 }
     ensures { b.new ≡ put_row floats b.old at row.now }
 {
-    let mut k = 0;
-    while k < 6 {
+    for k in 0..6 {
         b[at + k] = row[k];
-        k += 1;
     }
 }
 
@@ -114,30 +95,26 @@ fn raise_rows(t: &[f64], span: usize, x: f64, j: usize, b: &mut [f64; 36])
     ensures { b.new ≡ degree_turn floats t.now span x j b.old }
 {
     let mut saved = [0.0; 6];
-    let mut r = 0;
-    while r < j {
+    for r in 0..j {
         let left = x - t[span + 1 - j + r];
         let right = t[span + r + 1] - x;
         let p = expand_row(b, 6 * r, &saved, left, right, j);
         let next = p.next;
         put_row(b, 6 * r, &next);
         saved = p.upper;
-        r += 1;
     }
     put_row(b, 6 * j, &saved);
 }
 
-// The six functions of the span as powers about x.
-pub fn powers(t: &[f64], span: usize, x: f64) -> Taylor
+// The six functions of the span as powers about x: the six coefficients of function i from 6 * i on.
+pub fn powers(t: &[f64], span: usize, x: f64) -> [f64; 36]
     requires { (4 ≤ span) × (span + 5 < length t.now) }
-    ensures { result.rows ≡ powers_of floats t.now span x }
+    ensures { result ≡ powers_of floats t.now span x }
 {
     let mut b = [0.0; 36];
     b[0] = 1.0;
-    let mut j = 1;
-    while j < 6 {
+    for j in 1..6 {
         raise_rows(t, span, x, j, &mut b);
-        j += 1;
     }
-    Taylor { rows: b }
+    b
 }

@@ -8,20 +8,12 @@ ghost use Rattle.bspline.specs.Placed.{inserted_at};
 
 use crate::Spline;
 
-// The weights of the five controls that a knot mixes.
-#[derive(Clone, Copy)]
-struct Weights {
-    alpha: [f64; 5],
-}
-
 // The cells from `from` up to n, `by` places further right.
 fn shift(s: &mut [f64], from: usize, n: usize, by: usize)
     requires { (from ≤ n) × (n + by ≤ length s.old) }
     ensures { s.new ≡ splice (from + by) (n + by) (window from n s.old) s.old }
 {
-    let mut i = n;
-    while from < i {
-        i -= 1;
+    for i in (from..n).rev() {
         s[i + by] = s[i];
     }
 }
@@ -44,17 +36,15 @@ fn weight(t: &[f64], x: f64, i: usize) -> f64
 }
 
 // The weights of the controls k - 4 to k.
-fn insert_weights(t: &[f64], k: usize, x: f64) -> Weights
+fn insert_weights(t: &[f64], k: usize, x: f64) -> [f64; 5]
     requires { (5 ≤ k) × (k + 5 < length t.now) }
-    ensures { result.alpha ≡ weights_of floats t.now x k }
+    ensures { result ≡ weights_of floats t.now x k }
 {
     let mut alpha = [0.0; 5];
-    let mut r = 0;
-    while r < 5 {
+    for r in 0..5 {
         alpha[r] = weight(t, x, k - 4 + r);
-        r += 1;
     }
-    Weights { alpha }
+    alpha
 }
 
 // The control at `at` mixed with the one before it.
@@ -62,26 +52,21 @@ fn mix_row(c: &mut [f64], d: usize, at: usize, a: f64)
     requires { (d ≤ at) × (at + d ≤ length c.old) }
     ensures { c.new ≡ splice at (at + d) (mixed_row floats a d at c.old) c.old }
 {
-    let mut j = 0;
-    while j < d {
+    for j in 0..d {
         c[at + j] = (1.0 - a) * c[at - d + j] + a * c[at + j];
-        j += 1;
     }
 }
 
 // The m + 1 controls of d axes from the m, for a knot in span k. The cells after them are unchanged.
-fn insert_controls(c: &mut [f64], w: Weights, d: usize, m: usize, k: usize)
+fn insert_controls(c: &mut [f64], w: [f64; 5], d: usize, m: usize, k: usize)
     requires { (5 ≤ k) × (k < m) × ((m + 1) * d ≤ length c.old) }
-    ensures { c.new ≡ mixed_controls floats (weight_at floats w.alpha k) d m k (take (m * d) c.old) ++ drop
+    ensures { c.new ≡ mixed_controls floats (weight_at floats w k) d m k (take (m * d) c.old) ++ drop
         ((m + 1) * d) c.old }
 {
     shift(c, k * d, m * d, d);
     let low = k - 4;
-    let mut i = k + 1;
-    while low < i {
-        i -= 1;
-        let a = w.alpha[i - low];
-        mix_row(c, d, i * d, a);
+    for i in (low..k + 1).rev() {
+        mix_row(c, d, i * d, w[i - low]);
     }
 }
 

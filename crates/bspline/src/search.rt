@@ -1,69 +1,44 @@
 // Where a parameter lies among knots or breaks.
-ghost use Rattle.std.specs.Prelude.{◌≡◌, ◌<◌, length};
+ghost use Rattle.std.specs.Prelude.{◌≡◌, Bool, Float};
 ghost use Rattle.std.specs.Float.{nan};
 ghost use Rattle.std.specs.Float.Ieee.{le, lt};
 ghost use Rattle.arith.specs.Operations.{floats};
-ghost use Rattle.bspline.specs.Search.{pick_of, partition_point, span_of};
-ghost use Rattle.bspline.specs.Side.{passes};
+ghost use Rattle.bspline.specs.Search.{partition_point, span_of};
 
-// Which elements pass: those at or below x, or those below it.
-#[derive(Clone, Copy)]
-enum Side {
-    AtOrBelow,
-    Below,
-}
-
-// Whether v is on the given side of x. A NaN never is.
-fn on_side(v: f64, x: f64, side: Side) -> bool
-    ensures { result ≡ passes side x v }
+// How many leading elements pass: Rust's bisection, step by step, since a list may hold a NaN, and the
+// library's `partition_point` promises a place only for a list that is partitioned.
+fn bisect<F: Fn(f64) -> bool>(list: &[f64], passes: F) -> usize
+    requires { F.IsAlwaysCallable passes }
+    ensures { (test : Float → Bool) → ((v : Float) (b : Bool) → F.post passes v b → b ≡ test v)
+        → result ≡ partition_point nan test list.now }
 {
-    match side {
-        Side::AtOrBelow => v <= x,
-        Side::Below => v < x,
-    }
-}
-
-// `high` where the element at `at` passes, `low` where it does not.
-fn pick(list: &[f64], x: f64, side: Side, at: usize, high: usize, low: usize) -> usize
-    requires { at < length list.now }
-    ensures { result ≡ pick_of nan (passes side x) list.now at high low }
-{
-    if on_side(list[at], x, side) {
-        high
-    } else {
-        low
-    }
-}
-
-// The search behind both: Rust's bisection.
-fn bisect(list: &[f64], x: f64, side: Side) -> usize
-    ensures { result ≡ partition_point nan (passes side x) list.now }
-{
-    if list.len() == 0 {
+    if list.is_empty() {
         return 0;
     }
     let mut base = 0;
     let mut size = list.len();
     while 1 < size {
         let half = size / 2;
-        base = pick(list, x, side, base + half, base + half, base);
+        if passes(list[base + half]) {
+            base += half;
+        }
         size -= half;
     }
-    pick(list, x, side, base, base + 1, base)
+    if passes(list[base]) { base + 1 } else { base }
 }
 
 // How many leading elements are at or below x: `list.partition_point(|v| *v <= x)`.
 pub fn partition_point_le(list: &[f64], x: f64) -> usize
     ensures { result ≡ partition_point nan (λ v. le v x) list.now }
 {
-    bisect(list, x, Side::AtOrBelow)
+    bisect(list, |v| v <= x)
 }
 
 // How many leading elements are below x: `list.partition_point(|v| *v < x)`.
 pub fn partition_point_lt(list: &[f64], x: f64) -> usize
     ensures { result ≡ partition_point nan (λ v. lt v x) list.now }
 {
-    bisect(list, x, Side::Below)
+    bisect(list, |v| v < x)
 }
 
 // The span of x among the knots `t` of a spline with m controls, at least 5 and at most m - 1.

@@ -9,57 +9,40 @@ ghost use Rattle.bspline.specs.Segments.{add_turn, scaled_by, segment_of};
 ghost use Rattle.bspline.specs.Placed.{span_put, count_put, spans_put, polynomial_at, segments_at};
 
 use crate::Spline;
-use crate::basis::Taylor;
 
-// The six coefficients of one axis.
-#[derive(Clone, Copy)]
-struct Coefficients {
-    powers: [f64; 6],
-}
-
-// The coefficients with row r of the table, times a control's axis, added.
-fn add_row(rows: Taylor, r: usize, c: f64, before: [f64; 6]) -> Coefficients
+// Row r of the table, times a control's axis, is added to the coefficients.
+fn add_row(p: &mut [f64; 6], rows: &[f64; 36], r: usize, c: f64)
     requires { r < 6 }
-    ensures { result.powers ≡ each (add_turn floats rows.rows r c) 0 6 before }
+    ensures { p.new ≡ each (add_turn floats rows.now r c) 0 6 p.old }
 {
-    let mut p = before;
-    let mut k = 0;
-    while k < 6 {
-        let v = rows.rows[6 * r + k];
-        p[k] = p[k] + v * c;
-        k += 1;
+    for k in 0..6 {
+        p[k] += rows[6 * r + k] * c;
     }
-    Coefficients { powers: p }
 }
 
-// Coefficient k times h to the k.
-fn scale_by(before: [f64; 6], h: f64) -> Coefficients
-    ensures { result.powers ≡ scaled_by floats h before }
+// Coefficient k is multiplied by h to the k.
+fn scale_by(p: &mut [f64; 6], h: f64)
+    ensures { p.new ≡ scaled_by floats h p.old }
 {
-    let mut p = before;
     let mut scale = 1.0;
-    let mut k = 0;
-    while k < 6 {
-        p[k] = p[k] * scale;
-        scale = scale * h;
-        k += 1;
+    for k in 0..6 {
+        p[k] *= scale;
+        scale *= h;
     }
-    Coefficients { powers: p }
 }
 
 // One axis on a span of width h: the axis stands at `at` of the controls c for the span's first
 // control, and d further on for each next one.
-fn segment(rows: Taylor, h: f64, c: &[f64], at: usize, d: usize) -> Coefficients
+fn segment(rows: &[f64; 36], h: f64, c: &[f64], at: usize, d: usize) -> [f64; 6]
     requires { at + 5 * d < length c.now }
-    ensures { result.powers ≡ segment_of floats rows.rows h c.now at d }
+    ensures { result ≡ segment_of floats rows.now h c.now at d }
 {
     let mut p = [0.0; 6];
-    let mut r = 0;
-    while r < 6 {
-        p = add_row(rows, r, c[at + r * d], p).powers;
-        r += 1;
+    for r in 0..6 {
+        add_row(&mut p, rows, r, c[at + r * d]);
     }
-    scale_by(p, h)
+    scale_by(&mut p, h);
+    p
 }
 
 // The segments of all d axes on a span, from `to` on.
@@ -69,22 +52,19 @@ fn put_axes(
     e: usize,
     at: usize,
     d: usize,
-    rows: Taylor,
+    rows: &[f64; 36],
     h: f64,
     to: usize,
 )
     requires { (c + at + 6 * d ≤ e) × (e ≤ to) × (to + 6 * d ≤ length work.old) }
-    ensures { work.new ≡ written to (join d (λ i. segment_of floats rows.rows h (window c e work.old) (at + i)
+    ensures { work.new ≡ written to (join d (λ i. segment_of floats rows.now h (window c e work.old) (at + i)
         d)) work.old }
 {
-    let mut i = 0;
-    while i < d {
-        let s = segment(rows, h, &work[c..e], at + i, d);
-        let p = s.powers;
+    for i in 0..d {
+        let p = segment(rows, h, &work[c..e], at + i, d);
         let a = to + 6 * i;
         let b = a + 6;
-        window::copy(&mut work[a..b], &p);
-        i += 1;
+        work[a..b].copy_from_slice(&p);
     }
 }
 
@@ -122,7 +102,7 @@ fn put_span(
         f,
         (span - 5) * d,
         d,
-        rows,
+        &rows,
         h,
         coefficients + n * (6 * d),
     );
@@ -145,10 +125,8 @@ pub fn put_spans(
         × (breaks + s.count ≤ coefficients + 4) × (coefficients + (s.count - 5) * (6 * s.axes) ≤ length work.old) }
     ensures { work.new ≡ spans_put s breaks coefficients from to work.old }
 {
-    let mut span = from;
-    while span < to {
+    for span in from..to {
         put_span(work, s, breaks, coefficients, span, span - 5);
-        span += 1;
     }
 }
 
@@ -160,12 +138,9 @@ pub fn polynomial(work: &mut [f64], s: Spline, breaks: usize, coefficients: usiz
     ensures { (result ≡ segments_at s work.old)
         × (work.new ≡ polynomial_at s breaks coefficients work.old) }
 {
-    let m = s.count;
     let mut n = 0;
-    let mut span = 5;
-    while span < m {
+    for span in 5..s.count {
         n = put_span(work, s, breaks, coefficients, span, n);
-        span += 1;
     }
     work[breaks + n] = 1.0;
     n

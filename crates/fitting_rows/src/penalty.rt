@@ -10,16 +10,16 @@ const NODES: [f64; 3] = [0.1127016653792583, 0.5, 0.8872983346207417];
 const WEIGHTS: [f64; 3] = [5.0 / 18.0, 4.0 / 9.0, 5.0 / 18.0];
 
 // The third derivatives of six functions with these powers.
-fn third(rows: bspline::basis::Taylor) -> bspline::basis::Basis
-    ensures { result.values ≡ third_of rows.rows }
+fn third(powers: [f64; 36]) -> [f64; 6]
+    ensures { result ≡ third_of powers }
 {
     let mut values = [0.0; 6];
     let mut i = 0;
     while i < 6 {
-        values[i] = 6.0 * rows.rows[6 * i + 3];
+        values[i] = 6.0 * powers[6 * i + 3];
         i += 1;
     }
-    bspline::basis::Basis { values }
+    values
 }
 
 // The row of node r on a span.
@@ -30,9 +30,8 @@ fn penalty_row(t: &[f64], c: &[f64], d: usize, strength: f64, span: usize, r: us
     let left = t[span];
     let h = t[span + 1] - left;
     let powers = bspline::basis::powers(t, span, left + NODES[r] * h);
-    let b = third(powers);
+    let basis = third(powers);
     let weight = strength * float::powi(h, 7) * WEIGHTS[r];
-    let basis = b.values;
     let target = [0.0; 16];
     normal::fitting_row(c, d, span - 5, basis, weight, target)
 }

@@ -74,8 +74,7 @@ fn row_at(
     let i = interval(s, n, x);
     let p = line(s, y, d, i, x);
     let span = bspline::search::span(t, m, x);
-    let b = bspline::basis::values(t, span, x);
-    let basis = b.values;
+    let basis = bspline::basis::values(t, span, x);
     let target = p.cells;
     normal::fitting_row(c, d, span - 5, basis, weight, target)
 }

@@ -69,10 +69,9 @@ fn sample_row(
     requires d_bound { (d ≤ 16) × (2 ≤ n) × (i < n) × (n ≤ length s.now) × (i * d + d ≤ length y.now) }
     ensures { result ≡ sample_row_of (arrays t.now c.now 0 d s.now y.now n) i span }
 {
-    let b = bspline::basis::values(t, span, s[i]);
+    let basis = bspline::basis::values(t, span, s[i]);
     let w = weight(s, n, i);
     let p = point(y, d, i);
-    let basis = b.values;
     let target = p.cells;
     normal::fitting_row(c, d, span - 5, basis, w, target)
 }

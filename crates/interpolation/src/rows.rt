@@ -5,7 +5,6 @@ ghost use Rattle.fitting_rows.specs.Arrays.{ArraysWithin, arrays_at};
 ghost use Rattle.smoothing.specs.Interpolate.{derivative_of};
 ghost use Rattle.interpolation.specs.Rows.{waypoint_row, end_row};
 
-use bspline::basis::{Basis, Taylor};
 use bspline::choose::FACT;
 use fitting_rows::Place;
 
@@ -24,27 +23,26 @@ pub fn waypoint_row(cells: &[f64], q: Place, i: usize) -> normal::Row
     let y_end = y + q.samples * d;
     let x = cells[q.parameters + i];
     let span = bspline::search::span(&cells[t..t_end], m, x);
-    let b = bspline::basis::values(&cells[t..t_end], span, x);
+    let basis = bspline::basis::values(&cells[t..t_end], span, x);
     let p = fitting_rows::samples::point(&cells[y..y_end], d, i);
-    let basis = b.values;
     let target = p.cells;
     normal::fitting_row(&cells[c..c_end], d, span - 5, basis, 1.0, target)
 }
 
 // The derivatives of order r of six functions with these powers, for an interval that is h wide.
-fn derivative(powers: Taylor, h: f64, r: usize) -> Basis
+fn derivative(powers: [f64; 36], h: f64, r: usize) -> [f64; 6]
     requires { r < 6 }
-    ensures { result.values ≡ derivative_of 0 0 [] [] powers.rows h r }
+    ensures { result ≡ derivative_of 0 0 [] [] powers h r }
 {
     let factorial = FACT[r];
     let scale = float::powi(h, r as u32);
     let mut values = [0.0; 6];
     let mut i = 0;
     while i < 6 {
-        values[i] = powers.rows[6 * i + r] * factorial * scale;
+        values[i] = powers[6 * i + r] * factorial * scale;
         i += 1;
     }
-    Basis { values }
+    values
 }
 
 // The row of the derivative of order r at an end u whose interval is h wide.
@@ -60,8 +58,7 @@ pub fn end_row(cells: &[f64], q: Place, u: f64, h: f64, r: usize) -> normal::Row
     let c_end = c + m * d;
     let span = bspline::search::span(&cells[t..t_end], m, u);
     let powers = bspline::basis::powers(&cells[t..t_end], span, u);
-    let b = derivative(powers, h, r);
-    let basis = b.values;
+    let basis = derivative(powers, h, r);
     let target = [0.0; 16];
     normal::fitting_row(&cells[c..c_end], d, span - 5, basis, 1.0, target)
 }

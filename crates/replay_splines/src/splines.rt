@@ -45,8 +45,7 @@ fn values(t: &[f64], span: usize, x: f64, out: &mut [u8], at: usize) -> Line
     if t.len() - span <= 5 {
         return output::unanswered(at);
     }
-    let basis = bspline::basis::values(t, span, x);
-    let six = basis.values;
+    let six = bspline::basis::values(t, span, x);
     let next = output::text(out, at, b"values");
     let next = output::whole(out, next, (span - 5) as u64);
     let next = output::six(out, next, &six);
@@ -67,8 +66,7 @@ fn powers(t: &[f64], span: u64, x: f64, out: &mut [u8], at: usize) -> Line
     if t.len() - place <= 5 {
         return output::unanswered(at);
     }
-    let taylor = bspline::basis::powers(t, place, x);
-    let rows = taylor.rows;
+    let rows = bspline::basis::powers(t, place, x);
     let next = output::text(out, at, b"powers");
     let next = output::rows(out, next, &rows);
     output::end(out, next)

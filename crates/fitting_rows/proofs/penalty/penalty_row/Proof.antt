@@ -9,7 +9,7 @@ returns : tie.Need-returns
 unfolding penalty_row_of of_bits round div
 returns c =
     rw c.fitting_row.ensures (rw (
-      c.third-b.ensures,
+      c.third-basis.ensures,
       c.powers-powers.ensures,
       c.powi.ensures,
     ))

@@ -14,10 +14,10 @@ abbrev turn : List Float → ℕ → List Float → List Float
 turn powers i b = set b i (mul binary64 (floats.literal 6 1) (at powers (6 * i + 3)))
 
 abbrev invariant-loop : tie.invariant-loop-i
-invariant-loop rows values₀ i₀ values i = (i ≤ 6) × (each (turn rows.rows) i 6 values ≡ third_of rows.rows)
+invariant-loop powers values₀ i₀ values i = (i ≤ 6) × (each (turn powers) i 6 values ≡ third_of powers)
 
 abbrev decreases-loop : tie.decreases-loop-i
-decreases-loop rows values₀ i₀ values i = 6 - i
+decreases-loop powers values₀ i₀ values i = 6 - i
 
 loop-holds : tie.Need-loop-i-init invariant-loop decreases-loop
 unfolding third_of

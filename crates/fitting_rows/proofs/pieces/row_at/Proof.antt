@@ -32,7 +32,7 @@ unfolding row_at
 returns c =
     rw c.fitting_row.ensures
     (rw (
-      c.values-b.ensures,
+      c.values-basis.ensures,
       c.line-p.ensures,
       c.span-span.ensures,
       c.interval-i.ensures,

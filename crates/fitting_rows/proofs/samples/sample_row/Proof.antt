@@ -8,7 +8,7 @@ returns : tie.Need-returns
 unfolding sample_row_of
 returns c =
     rw c.fitting_row.ensures (rw (
-      c.values-b.ensures,
+      c.values-basis.ensures,
       c.weight-w.ensures,
       c.point-p.ensures,
     ))

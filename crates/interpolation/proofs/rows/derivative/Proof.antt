@@ -20,7 +20,7 @@ turn rows r factorial scale i v = set v i (mul binary64 (mul binary64 (at rows (
 
 abbrev invariant-loop : tie.invariant-loop-i
 invariant-loop h r powers factorial scale values₀ i₀ values i =
-    (i ≤ 6) × (each (turn powers.rows r factorial scale) i 6 values ≡ derivative_of 0 0 [] [] powers.rows h r)
+    (i ≤ 6) × (each (turn powers r factorial scale) i 6 values ≡ derivative_of 0 0 [] [] powers h r)
 
 abbrev decreases-loop : tie.decreases-loop-i
 decreases-loop h r powers factorial scale values₀ i₀ values i = 6 - i
@@ -30,7 +30,7 @@ unfolding derivative_of factorials of_bits round
 loop-holds c =
     let a = c.args in
     let factorial = get_or (factorials floats) a.r nan in
-    (omega arith, ap (λ (z : Float). each (turn a.powers.rows a.r factorial z) 0 6 (zeros 6)) c.powi-scale.ensures)
+    (omega arith, ap (λ (z : Float). each (turn a.powers a.r factorial z) 0 6 (zeros 6)) c.powi-scale.ensures)
 
 loop-again : tie.Need-loop-i-preserved invariant-loop decreases-loop
 loop-again c = (omega arith, sym (each_turn _ _ _ _ (omega arith)) ∙ c.loop-i.invariant.1)

@@ -19,8 +19,8 @@ returns c =
     let q = c.args.q in
     let k = c.span-span in
     let p = c.powers-powers in
-    let b = c.derivative-b in
-    end_row_is (arrays_at q c.args.cells.now) c.args.u c.args.h c.args.r k.result p.result.rows b.result.values
+    let b = c.derivative-basis in
+    end_row_is (arrays_at q c.args.cells.now) c.args.u c.args.h c.args.r k.result p.result b.result
     c.fitting_row.result k.ensures p.ensures b.ensures c.fitting_row.ensures
 
 pub end_row_spec : {M : Type 1} → statement M

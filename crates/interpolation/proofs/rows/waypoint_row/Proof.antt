@@ -34,10 +34,10 @@ returns c =
     let w = c.args.cells.now in
     let i = c.args.i in
     let y = c.point-p in
-    let b = c.values-b in
+    let b = c.values-basis in
     let k = c.span-span in
     let u = sym (window_cell q.parameters (q.parameters + q.samples) w i nan (omega arith)) in
-    waypoint_row_is (arrays_at q w) i k.result (at w (q.parameters + i)) b.result.values y.result.cells c.fitting_row.result
+    waypoint_row_is (arrays_at q w) i k.result (at w (q.parameters + i)) b.result y.result.cells c.fitting_row.result
     u k.ensures b.ensures y.ensures c.fitting_row.ensures
 
 pub waypoint_row_spec : {M : Type 1} → statement M
