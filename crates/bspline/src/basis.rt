@@ -84,9 +84,7 @@ fn put_row(b: &mut [f64; 36], at: usize, row: &[f64; 6])
     requires { at + 6 ≤ 36 }
     ensures { b.new ≡ put_row floats b.old at row.now }
 {
-    for k in 0..6 {
-        b[at + k] = row[k];
-    }
+    b[at..at + 6].copy_from_slice(row);
 }
 
 // The table of degree j from that of degree j - 1.

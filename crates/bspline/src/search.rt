@@ -45,15 +45,5 @@ pub fn partition_point_lt(list: &[f64], x: f64) -> usize
 pub fn span(t: &[f64], m: usize, x: f64) -> usize
     ensures { result ≡ span_of floats t.now m x }
 {
-    let p = partition_point_le(t, x);
-    if p < 6 {
-        return 5;
-    }
-    if m < 7 {
-        return 5;
-    }
-    if m < p {
-        return m - 1;
-    }
-    p - 1
+    partition_point_le(t, x).saturating_sub(1).min(m.saturating_sub(1)).max(5)
 }
