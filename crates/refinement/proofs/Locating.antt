@@ -2,7 +2,7 @@
 use mathlib.Core.Path.{◌≡◌, refl, sym, ap, subst, ◌∙◌}
 use mathlib.Core.Bool.{Bool, true, false, cond}
 use mathlib.Core.List.{List, [], ◌∷◌, ◌++◌, append-nil}
-use mathlib.Core.Option.{none}
+use Rattle.std.specs.Prelude.{None}
 use Prim.Native.Nat.{ℕ, ◌+◌, ◌-◌, ◌*◌, ◌≤◌, ◌<◌}
 use native.Mathlib.Omega.{arith}
 use native.Mathlib.Numerals.{add-one}
@@ -110,7 +110,7 @@ module _ (p : Plan) (w : List Float) (r : Roomy p (length w)) where
 
     kept_few : length (dedup_of S) ≤ count
     unfolding dedup_of
-    kept_few = omega (arith, thinned_count distinct none S, sorted_long)
+    kept_few = omega (arith, thinned_count distinct None S, sorted_long)
 
     -- the cells v that `sort_once` leaves, k of them kept
     module _ (v : List Float) (k : ℕ) (e : k ≡ length (dedup_of (sort_of (window L (L + count) w))))

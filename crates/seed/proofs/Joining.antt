@@ -3,30 +3,14 @@ use mathlib.Core.Path.{◌≡◌, refl, subst}
 use mathlib.Core.Bool.{Bool, true, false, cond}
 use mathlib.Core.List.{List, [], ◌∷◌}
 use Prim.Native.Nat.{ℕ, ◌+◌, ◌-◌, ◌≤◌, ◌<◌, max, min}
-use native.Mathlib.Decide.{dec_lt}
 use native.Mathlib.Numerals.{add-one}
 use native.Mathlib.Omega.{arith}
-use borrow.Author.Tests.{le-leb, lt-leb}
 use lib.Dec.{leb}
 use lib.ListN.{length, drop, drop_of_length-le}
 use lib.Seq.{drop-cons}
 use lib.Ieee.{Float, nan}
 use Rattle.window.specs.Cells.{at}
 use Rattle.seed.specs.Regions.{Range, range, range_of, merged, regions_of}
-
-pub leb_down : (a z : ℕ) → leb (a - 5) z ≡ leb a (z + 5)
-leb_down a z = elim (dec_lt (z + 5) a) [
-  | yes g ↦ rw (lt-leb (a - 5) z (omega arith), lt-leb a (z + 5) g)
-  | no g ↦ rw (le-leb (a - 5) z (omega arith), le-leb a (z + 5) (omega arith))
-]
-
--- the end of a window, found without a sum
-module _ (last less over k : ℕ) (p : less ≡ last - 6) (q : over ≡ less - k) where
-  pub over_le : over ≤ last
-  over_le = omega arith
-
-  pub clipped : last - over ≡ min (k + 6) last
-  clipped = omega arith
 
 module _ (t : List Float) (m : ℕ) (x : List Float) (i : ℕ) where
   -- the first location's controls

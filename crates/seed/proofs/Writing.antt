@@ -4,12 +4,13 @@ use mathlib.Core.List.{List, [], ◌∷◌, ◌++◌, append_assoc, append-nil}
 use Prim.Native.Nat.{ℕ, zero, suc, ◌+◌, ◌-◌, ◌*◌, ◌≤◌, ◌<◌}
 use native.Mathlib.Decide.{dec_lt}
 use native.Mathlib.Omega.{arith}
-use lib.ListN.{length, set, length-append}
+use lib.ListN.{length, length-append}
 use lib.Ieee.{Float}
 use Rattle.arith.specs.Loop.{whilst}
 use Rattle.window.proofs.Windows.{length_window, window_before}
+use Rattle.window.specs.Window.{splice}
 use Rattle.window.specs.Rows.{written}
-use Rattle.window.proofs.Written.{written_none, set_next}
+use Rattle.window.proofs.Written.{written_none, written_next}
 use Rattle.seed.specs.declared.Waypoints.{Waypoints}
 use Rattle.seed.specs.Anchors.{anchors_of, next_anchor}
 use Rattle.seed.specs.Knots.{around, anchor_knots, raw_knots}
@@ -17,28 +18,11 @@ use Rattle.seed.specs.Placed.{WaypointsLaid, parameters_at, points_at}
 use Rattle.seed.proofs.Scanning.{after, after_more, after_none, anchors_are, next_between}
 
 -- three cells more of a list that is written from a on, after the k that v has
-write_three : (a : ℕ) (v l : List Float) (k : ℕ) (x y z : Float) → length v ≡ k → a + k + 2 < length l
-    → set (set (set (written a v l) (a + k) x) (a + k + 1) y) (a + k + 2) z ≡ written a (v ++ (x ∷ (y ∷ (z ∷ [])))) l
-write_three a v l k x y z h g =
-    let e : a + k + 1 ≡ a + (k + 1) = omega arith in
-    let f : a + k + 2 ≡ a + (k + 1 + 1) = omega arith in
-    let m = longer v x k h in
-    rw (
-      one v k x h (omega arith),
-      e,
-      one (v ++ (x ∷ [])) (k + 1) y m (omega arith),
-      f,
-      one (v ++ (x ∷ []) ++ (y ∷ [])) (k + 1 + 1) z (longer (v ++ (x ∷ [])) y (k + 1) m) (omega arith),
-      append_assoc (v ++ (x ∷ [])) (y ∷ []) (z ∷ []),
-      append_assoc v (x ∷ []) (y ∷ (z ∷ [])),
-    )
-  where
-    longer : (v : List Float) (x : Float) (k : ℕ) → length v ≡ k → length (v ++ (x ∷ [])) ≡ k + 1
-    longer v x k h = rw (length-append v (x ∷ []), h)
-
-    one : (v : List Float) (k : ℕ) (x : Float) → length v ≡ k → a + k < length l → set (written a v l) (a + k) x
-        ≡ written a (v ++ (x ∷ [])) l
-    one v k x h g = rw (← h) (set_next a v l x (omega arith))
+write_three : (a : ℕ) (v l : List Float) (k : ℕ) (u : List Float) → length v ≡ k → length u ≡ 3 → a + k ≤ length l
+    → splice (a + k) (a + k + 3) u (written a v l) ≡ written a (v ++ u) l
+write_three a v l k u h g room =
+    rw (← h)
+    (ap (λ (n : ℕ). splice (a + length v) (a + length v + n) u (written a v l)) (sym g) ∙ written_next a v l u (omega arith))
 
 module _ (s y : List Float) (d : ℕ) where
   -- the knots of the anchors a, b and those after b
@@ -68,6 +52,10 @@ module _ (s y : List Float) (d : ℕ) where
       nothing : length s ≡ 0 → raw_knots s y d ≡ []
       nothing e = unfold raw_knots anchors_of anchor_knots whilst in rw e
 
+  around_length : (a b c : ℕ) → length (around s y d a b c) ≡ 3
+  unfolding around
+  around_length a b c = refl
+
   -- ---- what holds before each triple: the cells written and the knots to come are the raw knots
   pub record Begun (from : ℕ) (work₀ work : List Float) (a b k : ℕ) : Type 0 where
     pub done : List Float
@@ -96,29 +84,32 @@ module _ (s y : List Float) (d : ℕ) where
         }
 
     module _ (work : List Float) (a b k : ℕ) where
-      pub begun_more : (u v w : Float) → b + 1 < length s → from + 3 * length s ≤ length work₀ + 6 → (u ∷ (v ∷ (w ∷ [])))
-          ≡ around s y d a b (next_anchor s y d b) → Begun from work₀ work a b k
-          → Begun from work₀ (set (set (set work (from + k) u) (from + k + 1) v) (from + k + 2) w) b (next_anchor s y d b) (k + 3)
-      begun_more u v w h g e z = go z.left z.enough z.all
+      pub begun_more : (v : List Float) → b + 1 < length s → from + 3 * length s ≤ length work₀ + 6
+          → v ≡ around s y d a b (next_anchor s y d b) → Begun from work₀ work a b k
+          → Begun from work₀ (splice (from + k) (from + k + 3) v work) b (next_anchor s y d b) (k + 3)
+      begun_more v h g e z = go z.left z.enough z.all
         where
+          three : length v ≡ 3
+          three = rw e (around_length a b (next_anchor s y d b))
+
           later : b < next_anchor s y d b
           later = (next_between s y d b h).0
 
           go : (left : ℕ) → length s ≤ left + b + 1 → z.done ++ knots_from left a b ≡ raw_knots s y d
-              → Begun from work₀ (set (set (set work (from + k) u) (from + k + 1) v) (from + k + 2) w) b (next_anchor s y d b) (k + 3)
+              → Begun from work₀ (splice (from + k) (from + k + 3) v work) b (next_anchor s y d b) (k + 3)
           go zero f q = absurd (omega arith)
           go (suc left) f q =
               record {
-                done = z.done ++ (u ∷ (v ∷ (w ∷ [])));
-                count = rw (length-append z.done (u ∷ (v ∷ (w ∷ []))), z.count);
-                is = rw z.is (write_three from z.done work₀ k u v w z.count (omega (arith, z.room)));
+                done = z.done ++ v;
+                count = rw (length-append z.done v, z.count, three);
+                is = rw z.is (write_three from z.done work₀ k v z.count three (omega (arith, z.room)));
                 left = left;
                 enough = omega (arith, later);
                 first = z.second;
                 second = (next_between s y d b h).1;
                 room = omega (arith, later, z.room);
                 all =
-                    append_assoc z.done (u ∷ (v ∷ (w ∷ []))) (knots_from left b (next_anchor s y d b))
+                    append_assoc z.done v (knots_from left b (next_anchor s y d b))
                     ∙ ap (λ (l : List Float). z.done ++ (l ++ knots_from left b (next_anchor s y d b))) e
                     ∙ ap (λ (l : List Float). z.done ++ l) (sym (from_more left a b h))
                     ∙ q;

@@ -1,41 +1,29 @@
 // The anchors that a corridor of slopes finds, one after the other.
-ghost use Rattle.std.specs.Prelude.{◌≡◌, ◌&&◌, true, not, ◌+◌, ◌*◌, ◌≤◌, ◌<◌, length, take};
+ghost use Rattle.std.specs.Prelude.{◌≡◌, ◌&&◌, ◌+◌, ◌*◌, ◌≤◌, ◌<◌, length, take};
 ghost use Rattle.std.specs.Float.Ieee.{le};
 ghost use Rattle.arith.specs.Operations.{floats};
 ghost use Rattle.window.specs.Cells.{at};
-ghost use Rattle.seed.specs.Corridor.{corridor, lowest, highest, narrowed};
-ghost use Rattle.seed.specs.Anchors.{fits, next_anchor};
+ghost use Rattle.seed.specs.Corridor.{corridor, narrowed};
+ghost use Rattle.seed.specs.Anchors.{next_anchor};
 
-// The least and the greatest slope of each axis, and whether the point in hand lies between.
+// The least and the greatest slope of each axis.
 #[derive(Clone, Copy)]
 struct Bounds {
     lo: [f64; 16],
     hi: [f64; 16],
-    ok: bool,
 }
 
 // The corridor at an anchor: every slope fits.
-fn opened(d: usize) -> Bounds
-    requires { d ≤ 16 }
-    ensures { corridor (take d result.lo) (take d result.hi) result.ok ≡ corridor (lowest d) (highest d) true }
-{
-    let low = -1.0 / 0.0;
-    let high = 1.0 / 0.0;
-    let lo = [low; 16];
-    let hi = [high; 16];
-    Bounds { lo, hi, ok: true }
-}
+const OPEN: Bounds = Bounds {
+    lo: [f64::NEG_INFINITY; 16],
+    hi: [f64::INFINITY; 16],
+};
 
-// Whether `ok` holds and the slope lies between the bounds. A NaN does not.
-fn between(ok: bool, low: f64, slope: f64, high: f64) -> bool
-    ensures { result ≡ (ok && (le low slope && le slope high)) }
+// Whether the slope lies between the bounds. A NaN does not.
+fn between(low: f64, slope: f64, high: f64) -> bool
+    ensures { result ≡ (le low slope && le slope high) }
 {
-    if ok {
-        if low <= slope {
-            return slope <= high;
-        }
-    }
-    false
+    low <= slope && slope <= high
 }
 
 // The slope from the cell `from` to the cell `to`, whose waypoints lie ds apart.
@@ -46,56 +34,40 @@ pub(crate) fn slope(y: &[f64], from: usize, to: usize, ds: f64) -> f64
     (y[to] - y[from]) / ds
 }
 
-// The corridor from the waypoint `anchor`, drawn in by waypoint i.
-fn narrow(s: &[f64], y: &[f64], d: usize, anchor: usize, i: usize, c: Bounds) -> Bounds
+// The corridor from the waypoint `anchor` is drawn in by waypoint i. Whether the slope to it lies between
+// the bounds on every axis.
+fn narrow(c: &mut Bounds, s: &[f64], y: &[f64], d: usize, anchor: usize, i: usize) -> bool
     requires { (d ≤ 16) × (length s.now * d ≤ length y.now) × (anchor < length s.now) × (i < length s.now) }
-    ensures { corridor (take d result.lo) (take d result.hi) result.ok ≡ narrowed s.now y.now d anchor i (take d
-        c.lo) (take d c.hi) }
+    ensures { corridor (take d c.new.lo) (take d c.new.hi) result ≡ narrowed s.now y.now d anchor i (take d
+        c.old.lo) (take d c.old.hi) }
 {
     let ds = s[i] - s[anchor];
     let from = anchor * d;
     let to = i * d;
-    let mut lo = c.lo;
-    let mut hi = c.hi;
     let mut ok = true;
-    let mut j = 0;
-    while j < d {
+    for j in 0..d {
         let slope = slope(y, from + j, to + j, ds);
-        let low = float::max(lo[j], slope - 0.65 / ds);
-        let high = float::min(hi[j], slope + 0.65 / ds);
-        lo[j] = low;
-        hi[j] = high;
-        ok = between(ok, low, slope, high);
-        j += 1;
+        let low = float::max(c.lo[j], slope - 0.65 / ds);
+        let high = float::min(c.hi[j], slope + 0.65 / ds);
+        c.lo[j] = low;
+        c.hi[j] = high;
+        ok = between(low, slope, high) && ok;
     }
-    Bounds { lo, hi, ok }
+    ok
 }
 
-// Whether waypoint i breaks the corridor, so that the one before it becomes an anchor. The first
-// waypoint after an anchor never does.
-fn breaks(ok: bool, anchor: usize, i: usize) -> bool
-    requires { anchor < i }
-    ensures { result ≡ not (fits ok anchor i) }
-{
-    if ok {
-        return false;
-    }
-    1 < i - anchor
-}
-
-// The anchor after the waypoint `anchor`; the last waypoint where the corridor holds to the end.
+// The anchor after the waypoint `anchor`; the last waypoint where the corridor holds to the end. The
+// first waypoint after an anchor never breaks the corridor.
 pub(crate) fn next_anchor(s: &[f64], y: &[f64], d: usize, anchor: usize) -> usize
     requires { (d ≤ 16) × (length s.now * d ≤ length y.now) × (anchor < length s.now) }
     ensures { result ≡ next_anchor s.now y.now d anchor }
 {
-    let mut c = opened(d);
-    let mut i = anchor + 1;
-    while i < s.len() {
-        c = narrow(s, y, d, anchor, i, c);
-        if breaks(c.ok, anchor, i) {
+    let mut c = OPEN;
+    for i in anchor + 1..s.len() {
+        let ok = narrow(&mut c, s, y, d, anchor, i);
+        if !ok && 1 < i - anchor {
             return i - 1;
         }
-        i += 1;
     }
     s.len() - 1
 }

@@ -1,5 +1,5 @@
 // The knots around the anchors: three around each inner one, sorted, and thinned.
-ghost use Rattle.std.specs.Prelude.{◌≡◌, [], ◌∷◌, ◌++◌, ◌+◌, ◌*◌, ◌≤◌, ◌<◌, length, drop};
+ghost use Rattle.std.specs.Prelude.{◌≡◌, ◌++◌, ◌+◌, ◌*◌, ◌≤◌, ◌<◌, length, drop};
 ghost use Rattle.sorting.specs.Sort.{sort_of};
 ghost use Rattle.sorting.specs.Thin.{kept_of};
 ghost use Rattle.window.specs.Rows.{written};
@@ -9,14 +9,6 @@ ghost use Rattle.seed.specs.Placed.{WaypointsLaid, parameters_at, points_at, see
 
 use crate::Waypoints;
 use crate::corridor::{next_anchor, slope};
-
-// The knots around an anchor.
-#[derive(Clone, Copy)]
-struct Three {
-    left: f64,
-    middle: f64,
-    right: f64,
-}
 
 // The largest change of slope at the waypoint b, from a and to c, over all axes.
 fn jump(s: &[f64], y: &[f64], d: usize, a: usize, b: usize, c: usize) -> f64
@@ -29,12 +21,10 @@ fn jump(s: &[f64], y: &[f64], d: usize, a: usize, b: usize, c: usize) -> f64
     let second = b * d;
     let third = c * d;
     let mut jump = 0.0;
-    let mut j = 0;
-    while j < d {
+    for j in 0..d {
         let after = slope(y, second + j, third + j, h1);
         let before = slope(y, first + j, second + j, h0);
         jump = float::max(jump, float::abs(after - before));
-        j += 1;
     }
     jump
 }
@@ -47,17 +37,13 @@ fn width(h0: f64, h1: f64, jump: f64) -> f64
 }
 
 // The three knots around the anchor b, between the anchors a and c.
-fn knots_around(s: &[f64], y: &[f64], d: usize, a: usize, b: usize, c: usize) -> Three
+fn knots_around(s: &[f64], y: &[f64], d: usize, a: usize, b: usize, c: usize) -> [f64; 3]
     requires { (length s.now * d ≤ length y.now) × (a < length s.now) × (b < length s.now) × (c < length s.now) }
-    ensures { (result.left ∷ (result.middle ∷ (result.right ∷ []))) ≡ around s.now y.now d a b c }
+    ensures { result ≡ around s.now y.now d a b c }
 {
     let middle = s[b];
     let w = width(middle - s[a], s[c] - middle, jump(s, y, d, a, b, c));
-    Three {
-        left: middle - w,
-        middle,
-        right: middle + w,
-    }
+    [middle - w, middle, middle + w]
 }
 
 // The anchor after the waypoint `anchor`.
@@ -73,9 +59,9 @@ fn anchor_after(work: &[f64], p: Waypoints, anchor: usize) -> usize
 }
 
 // The three knots around the anchor b, between the anchors a and c.
-fn knots_at(work: &[f64], p: Waypoints, a: usize, b: usize, c: usize) -> Three
+fn knots_at(work: &[f64], p: Waypoints, a: usize, b: usize, c: usize) -> [f64; 3]
     requires { WaypointsLaid p (length work.now) × (a < p.samples) × (b < p.samples) × (c < p.samples) }
-    ensures { (result.left ∷ (result.middle ∷ (result.right ∷ []))) ≡ around (parameters_at p work.now)
+    ensures { result ≡ around (parameters_at p work.now)
         (points_at p work.now) p.axes a b c }
 {
     let s = p.parameters;
@@ -100,9 +86,7 @@ fn raw_knots(work: &mut [f64], p: Waypoints) -> usize
     while b < last {
         let c = anchor_after(work, p, b);
         let t = knots_at(work, p, a, b, c);
-        work[from + k] = t.left;
-        work[from + k + 1] = t.middle;
-        work[from + k + 2] = t.right;
+        work[from + k..from + k + 3].copy_from_slice(&t);
         k += 3;
         a = b;
         b = c;

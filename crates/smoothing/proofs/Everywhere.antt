@@ -1,6 +1,6 @@
 -- What holds of every element of a list, kept by the steps that make the knots and the locations; and that these are numbers of the format.
 use Rattle.std.proofs.Common.{◌≡◌, ℕ, zero, suc, ◌+◌, ◌-◌, ◌<◌, Bool, true, false, cond, T, List, [], ◌∷◌, ◌++◌, length, pos, sym, refl, subst, arith}
-use mathlib.Core.Option.{Option, some}
+use Rattle.std.specs.Prelude.{Option, Some}
 use lib.Ieee.{Float, fin, binary64, fits, round}
 use lib.Ieee.Fits.{add-fits, sub-fits, div-fits}
 use lib.Ieee.Positive.{positive}
@@ -46,10 +46,10 @@ module _ (P : Float → Type 0) where
   thinned_all : (test : Option Float → Float → Bool) (last : Option Float) (l : List Float) → All P l → All P (thinned test last l)
   unfolding thinned
   thinned_all test last [] h = tt
-  thinned_all test last (x ∷ l) h = go (test last x) (thinned_all test (some x) l h.1) (thinned_all test last l h.1)
+  thinned_all test last (x ∷ l) h = go (test last x) (thinned_all test (Some x) l h.1) (thinned_all test last l h.1)
     where
-      go : (b : Bool) → All P (thinned test (some x) l) → All P (thinned test last l)
-          → All P (cond b (x ∷ thinned test (some x) l) (thinned test last l))
+      go : (b : Bool) → All P (thinned test (Some x) l) → All P (thinned test last l)
+          → All P (cond b (x ∷ thinned test (Some x) l) (thinned test last l))
       go true k g = (h.0, k)
       go false k g = g
 

@@ -26,7 +26,7 @@ use Rattle.polynomial.specs.Interval.{piece_at, all_finite, largest_turn, axis_t
 use Rattle.polynomial.specs.Piece.{add_term, piece_power, error_of, add_share, bernstein_of, bernstein_coefficients, piece_from, error_form}
 use Rattle.polynomial.specs.Span.{advanced}
 use Rattle.sorting.specs.Sort.{placed, sort_of}
-use Rattle.sorting.specs.Thin.{thinned, distinct, gap, inside, apart, test_of, dedup_of, kept_of}
+use Rattle.sorting.specs.Thin.{thinned, distinct, gap, inside, apart, dedup_of, kept_of}
 use Rattle.seed.specs.Anchors.{fits, scan_turn, anchors_of}
 use Rattle.seed.specs.Corridor.{axis_turn as axis_turn₂, narrowed}
 use Rattle.seed.specs.Knots.{jump_turn, jump_of, width_of, around, anchor_knots, raw_knots, seed_of}
@@ -75,7 +75,7 @@ unfolding is_nan of_bits to_bits add sub mul div le lt eq ne round of_int neg tu
     counted sample_turn samples_of piece_of mesh_turn mesh_of sparse_turn sparse_of nodes_of penalty_turn penalties_of assembled_of add_turn₂ added_to
     solved_of fit_of
     bounds_with audit_turn audit_of piece_at piece_from error_form all_finite largest_turn axis_turn axes_of ended_by walk_turn interval_of add_term piece_power
-    error_of add_share bernstein_of bernstein_coefficients advanced placed sort_of thinned distinct gap inside apart test_of dedup_of kept_of
+    error_of add_share bernstein_of bernstein_coefficients advanced placed sort_of thinned distinct gap inside apart dedup_of kept_of
     fits scan_turn anchors_of axis_turn₂ narrowed jump_turn jump_of width_of around anchor_knots raw_knots seed_of range_of merged regions_of
     any even_of sum_of square_of chord_length parameter_list
     length_of normalised_of misplaced unreliable unfit first_of axes_formed and_then unless number_of

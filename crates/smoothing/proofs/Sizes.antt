@@ -1,6 +1,6 @@
 -- How long the arrays of `build` are, from the chord to the last round; max_segments bounds them, and max_refinements the rounds.
 use Rattle.std.proofs.Common.{◌≡◌, ℕ, ◌+◌, ◌-◌, ◌*◌, ◌≤◌, Bool, true, false, cond, ltb, List, [], ◌∷◌, ◌++◌, length, replicate, ◌∙◌, subst, arith, length-append, ltb-false}
-use mathlib.Core.Option.{none}
+use Rattle.std.specs.Prelude.{None}
 use lib.ListN.{length-replicate}
 use lib.Ieee.{Float, nan}
 use Rattle.arith.specs.Operations.{floats}
@@ -45,7 +45,7 @@ locations_few q st =
     let raw = raw_locations q st in
     let few : length raw ≤ q.n - 1 =
     join_most (q.n - 1) _ (λ i. one (selected q.k st.bounds i) (middle_of st.b (at st.witness i))) in
-    omega (arith, thinned_count distinct none (sort_of raw), sort_count raw, few)
+    omega (arith, thinned_count distinct None (sort_of raw), sort_count raw, few)
   where
     one : (b : Bool) (x : Float) → length (cond b (x ∷ []) []) ≤ 1
     one true x = omega arith

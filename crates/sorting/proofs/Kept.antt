@@ -2,7 +2,7 @@
 use mathlib.Core.Path.{◌≡◌, refl, sym, ap, ◌∙◌, subst}
 use mathlib.Core.Bool.{Bool, true, false, not, ◌&&◌, cond}
 use mathlib.Core.List.{List, [], ◌∷◌}
-use mathlib.Core.Option.{Option, some, none}
+use Rattle.std.specs.Prelude.{Option, Some, None}
 use Prim.Native.Nat.{ℕ, zero, suc, ◌+◌, ◌-◌, ◌*◌, ◌≤◌, ◌<◌}
 use native.Mathlib.Nat.{mul-pos}
 use native.Mathlib.Omega.{arith}
@@ -132,53 +132,53 @@ rises x v p b h = at_sign v b.number (rw zero_is at b.above) h
 -- ---- the kept list
 apart_inside : (last : Option Float) (x : Float) → apart last x ≡ true → inside x ≡ true
 unfolding apart
-apart_inside none x h = h
-apart_inside (some v) x h = (both (inside x) (lt gap (sub binary64 x v)) h).0
+apart_inside None x h = h
+apart_inside (Some v) x h = (both (inside x) (lt gap (sub binary64 x v)) h).0
 
-apart_after : (v x : Float) → apart (some v) x ≡ true → lt gap (sub binary64 x v) ≡ true
+apart_after : (v x : Float) → apart (Some v) x ≡ true → lt gap (sub binary64 x v) ≡ true
 unfolding apart
 apart_after v x h = (both (inside x) (lt gap (sub binary64 x v)) h).1
 
 thinned_between : (last : Option Float) (l : List Float) (i : ℕ) → i < length (thinned apart last l) → Between (at (thinned apart last l) i)
 unfolding thinned
 thinned_between last [] i h = absurd (omega arith)
-thinned_between last (x ∷ l) i h = go (apart last x) refl (thinned_between (some x) l) (thinned_between last l) i h
+thinned_between last (x ∷ l) i h = go (apart last x) refl (thinned_between (Some x) l) (thinned_between last l) i h
   where
     go : (b : Bool) → apart last x ≡ b
-        → ((i : ℕ) → i < length (thinned apart (some x) l) → Between (at (thinned apart (some x) l) i))
+        → ((i : ℕ) → i < length (thinned apart (Some x) l) → Between (at (thinned apart (Some x) l) i))
         → ((i : ℕ) → i < length (thinned apart last l) → Between (at (thinned apart last l) i))
-        → (i : ℕ) → i < length (cond b (x ∷ thinned apart (some x) l) (thinned apart last l))
-        → Between (at (cond b (x ∷ thinned apart (some x) l) (thinned apart last l)) i)
+        → (i : ℕ) → i < length (cond b (x ∷ thinned apart (Some x) l) (thinned apart last l))
+        → Between (at (cond b (x ∷ thinned apart (Some x) l) (thinned apart last l)) i)
     go true e p q zero h = inside_between x (apart_inside last x e)
     go true e p q (suc i) h = p i (omega arith)
     go false e p q i h = q i h
 
 -- the first that is kept after v is above v
-thinned_after : (v : Float) → Between v → (l : List Float) → 0 < length (thinned apart (some v) l) → lt v (at (thinned apart (some v) l) 0)
+thinned_after : (v : Float) → Between v → (l : List Float) → 0 < length (thinned apart (Some v) l) → lt v (at (thinned apart (Some v) l) 0)
     ≡ true
 unfolding thinned
 thinned_after v b [] h = absurd (omega arith)
-thinned_after v b (x ∷ l) h = go (apart (some v) x) refl (thinned_after v b l) h
+thinned_after v b (x ∷ l) h = go (apart (Some v) x) refl (thinned_after v b l) h
   where
-    go : (t : Bool) → apart (some v) x ≡ t → (0 < length (thinned apart (some v) l) → lt v (at (thinned apart (some v) l) 0) ≡ true)
-        → 0 < length (cond t (x ∷ thinned apart (some x) l) (thinned apart (some v) l))
-        → lt v (at (cond t (x ∷ thinned apart (some x) l) (thinned apart (some v) l)) 0) ≡ true
-    go true e p h = rises x v (inside_between x (apart_inside (some v) x e)).number b (apart_after v x e)
+    go : (t : Bool) → apart (Some v) x ≡ t → (0 < length (thinned apart (Some v) l) → lt v (at (thinned apart (Some v) l) 0) ≡ true)
+        → 0 < length (cond t (x ∷ thinned apart (Some x) l) (thinned apart (Some v) l))
+        → lt v (at (cond t (x ∷ thinned apart (Some x) l) (thinned apart (Some v) l)) 0) ≡ true
+    go true e p h = rises x v (inside_between x (apart_inside (Some v) x e)).number b (apart_after v x e)
     go false e p h = p h
 
 thinned_rises : (last : Option Float) (l : List Float) (i : ℕ) → i + 1 < length (thinned apart last l)
     → lt (at (thinned apart last l) i) (at (thinned apart last l) (i + 1)) ≡ true
 unfolding thinned
 thinned_rises last [] i h = absurd (omega arith)
-thinned_rises last (x ∷ l) i h = go (apart last x) refl (thinned_rises (some x) l) (thinned_rises last l) i h
+thinned_rises last (x ∷ l) i h = go (apart last x) refl (thinned_rises (Some x) l) (thinned_rises last l) i h
   where
     go : (b : Bool) → apart last x ≡ b
-        → ((i : ℕ) → i + 1 < length (thinned apart (some x) l) → lt (at (thinned apart (some x) l) i)
-        (at (thinned apart (some x) l) (i + 1)) ≡ true)
+        → ((i : ℕ) → i + 1 < length (thinned apart (Some x) l) → lt (at (thinned apart (Some x) l) i)
+        (at (thinned apart (Some x) l) (i + 1)) ≡ true)
         → ((i : ℕ) → i + 1 < length (thinned apart last l) → lt (at (thinned apart last l) i) (at (thinned apart last l) (i + 1)) ≡ true)
-        → (i : ℕ) → i + 1 < length (cond b (x ∷ thinned apart (some x) l) (thinned apart last l))
-        → lt (at (cond b (x ∷ thinned apart (some x) l) (thinned apart last l)) i)
-        (at (cond b (x ∷ thinned apart (some x) l) (thinned apart last l)) (i + 1)) ≡ true
+        → (i : ℕ) → i + 1 < length (cond b (x ∷ thinned apart (Some x) l) (thinned apart last l))
+        → lt (at (cond b (x ∷ thinned apart (Some x) l) (thinned apart last l)) i)
+        (at (cond b (x ∷ thinned apart (Some x) l) (thinned apart last l)) (i + 1)) ≡ true
     go true e p q zero h = thinned_after x (inside_between x (apart_inside last x e)) l (omega arith)
     go true e p q (suc i) h = let g : suc i + 1 ≡ suc (i + 1) = omega arith in rw g (p i (omega arith))
     go false e p q i h = q i h
@@ -186,24 +186,24 @@ thinned_rises last (x ∷ l) i h = go (apart last x) refl (thinned_rises (some x
 -- every knot kept lies strictly between 0 and 1
 pub kept_between : (l : List Float) (i : ℕ) → i < length (kept_of l) → Between (at (kept_of l) i)
 unfolding kept_of
-kept_between l = thinned_between none l
+kept_between l = thinned_between None l
 
 -- and is less than the next
 pub kept_rises : (l : List Float) (i : ℕ) → i + 1 < length (kept_of l) → lt (at (kept_of l) i) (at (kept_of l) (i + 1)) ≡ true
 unfolding kept_of
-kept_rises l = thinned_rises none l
+kept_rises l = thinned_rises None l
 
 -- ---- how many
 pub thinned_count : (test : Option Float → Float → Bool) (last : Option Float) (l : List Float) → length (thinned test last l) ≤ length l
 unfolding thinned
 thinned_count test last [] = omega arith
-thinned_count test last (x ∷ l) = go (test last x) (thinned_count test (some x) l) (thinned_count test last l)
+thinned_count test last (x ∷ l) = go (test last x) (thinned_count test (Some x) l) (thinned_count test last l)
   where
-    go : (b : Bool) → length (thinned test (some x) l) ≤ length l → length (thinned test last l) ≤ length l
-        → length (cond b (x ∷ thinned test (some x) l) (thinned test last l)) ≤ length (x ∷ l)
+    go : (b : Bool) → length (thinned test (Some x) l) ≤ length l → length (thinned test last l) ≤ length l
+        → length (cond b (x ∷ thinned test (Some x) l) (thinned test last l)) ≤ length (x ∷ l)
     go true p q = omega arith
     go false p q = omega arith
 
 pub kept_count : (l : List Float) → length (kept_of l) ≤ length l
 unfolding kept_of
-kept_count l = thinned_count apart none l
+kept_count l = thinned_count apart None l

@@ -2,27 +2,20 @@
 use mathlib.Core.Path.{◌≡◌, refl, sym, ap, ◌∙◌}
 use mathlib.Core.Bool.{Bool, true, false, cond}
 use mathlib.Core.List.{List, [], ◌∷◌, ◌++◌, append_assoc, append-nil}
-use mathlib.Core.Option.{Option, some, none}
-use Prim.Native.Nat.{ℕ, zero, suc, ◌+◌, ◌-◌, ◌≤◌, ◌<◌}
+use Rattle.std.specs.Prelude.{Option, Some, None}
+use Prim.Native.Nat.{ℕ, ◌+◌, ◌-◌, ◌≤◌, ◌<◌}
 use native.Mathlib.Numerals.{add-one}
 use native.Mathlib.Omega.{arith}
 use lib.ListN.{length, take, drop, set, length-set, drop_of_length-le, take-append-drop}
 use lib.Seq.{take-suc-set, drop-set-lt, drop-cons, drop-drop, get_or-drop, get_or-set_same, length-take-le}
 use lib.Ieee.{Float, nan}
 use Rattle.window.specs.Cells.{at}
-use Rattle.sorting.specs.Thin.{thinned, inside, apart, last_of}
+use Rattle.sorting.specs.Thin.{thinned, last_of}
 
-pub last_some : (kept : ℕ) (s : List Float) → 0 < kept → last_of kept s ≡ some (at s (kept - 1))
+-- the last of those kept is the one just put
+pub last_put : (s : List Float) (kept : ℕ) (x : Float) → kept < length s → Some x ≡ last_of (kept + 1) (set s kept x)
 unfolding last_of
-last_some zero s h = absurd (omega arith)
-last_some (suc k) s h =
-    let e : suc k - 1 ≡ k = omega arith in rw e
-
--- what is not inside is not kept
-pub outside_apart : (last : Option Float) (x : Float) → inside x ≡ false → false ≡ apart last x
-unfolding apart
-outside_apart none x h = sym h
-outside_apart (some v) x h = rw h
+last_put s kept x h = rw (add-one kept, get_or-set_same s kept x nan h)
 
 module _ (test : Option Float → Float → Bool) (s₀ : List Float) where
   -- of the first i elements, the first `kept` cells hold those that are kept; the cells from there on are as they were
@@ -31,7 +24,7 @@ module _ (test : Option Float → Float → Bool) (s₀ : List Float) where
     pub within : i ≤ length s₀
     pub long : length s ≡ length s₀
     pub rest : drop kept s ≡ drop kept s₀
-    pub is : take kept s ++ thinned test (last_of kept s) (drop i s₀) ≡ thinned test none s₀
+    pub is : take kept s ++ thinned test (last_of kept s) (drop i s₀) ≡ thinned test None s₀
 
   pub walked_none : Walked s₀ 0 0
   unfolding last_of
@@ -62,10 +55,10 @@ module _ (test : Option Float → Float → Bool) (s₀ : List Float) where
               get_or-set_same s kept (at s i) nan
                   (omega (arith, w.below, w.long)),
             )
-            (append_assoc (take kept s) (at s i ∷ []) (thinned test (some (at s i)) (drop (i + 1) s₀)) ∙ sym turn ∙ w.is);
+            (append_assoc (take kept s) (at s i ∷ []) (thinned test (Some (at s i)) (drop (i + 1) s₀)) ∙ sym turn ∙ w.is);
       }
     where
-      turn : take kept s ++ thinned test (last_of kept s) (drop i s₀) ≡ take kept s ++ (at s i ∷ thinned test (some (at s i))
+      turn : take kept s ++ thinned test (last_of kept s) (drop i s₀) ≡ take kept s ++ (at s i ∷ thinned test (Some (at s i))
           (drop (i + 1) s₀))
       turn = rw (drop-cons s₀ i nan h, ← walked_read s kept i w, t, add-one i)
   walked_next s kept i false w h t =
@@ -81,13 +74,13 @@ module _ (test : Option Float → Float → Bool) (s₀ : List Float) where
       turn = rw (drop-cons s₀ i nan h, ← walked_read s kept i w, t, add-one i)
 
   -- the walk is done
-  pub walked_kept : (s : List Float) (kept i : ℕ) → Walked s kept i → length s₀ ≤ i → take kept s ≡ thinned test none s₀
+  pub walked_kept : (s : List Float) (kept i : ℕ) → Walked s kept i → length s₀ ≤ i → take kept s ≡ thinned test None s₀
   unfolding thinned
   walked_kept s kept i w h = sym (append-nil (take kept s)) ∙ (rw (drop_of_length-le s₀ h) at w.is)
 
-  pub walked_count : (s : List Float) (kept i : ℕ) → Walked s kept i → length s₀ ≤ i → kept ≡ length (thinned test none s₀)
+  pub walked_count : (s : List Float) (kept i : ℕ) → Walked s kept i → length s₀ ≤ i → kept ≡ length (thinned test None s₀)
   walked_count s kept i w h = sym (length-take-le kept s (omega (arith, w.below, w.within, w.long)))
       ∙ ap length (walked_kept s kept i w h)
 
-  pub walked_cells : (s : List Float) (kept i : ℕ) → Walked s kept i → length s₀ ≤ i → s ≡ thinned test none s₀ ++ drop kept s₀
+  pub walked_cells : (s : List Float) (kept i : ℕ) → Walked s kept i → length s₀ ≤ i → s ≡ thinned test None s₀ ++ drop kept s₀
   walked_cells s kept i w h = sym (take-append-drop kept s) ∙ rw (walked_kept s kept i w h, w.rest)

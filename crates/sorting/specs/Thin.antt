@@ -1,22 +1,19 @@
 -- Lists from which elements are left out by what was kept last: Rust's `dedup`, and the filter at the end of the source's `seed`.
-use Rattle.std.specs.Prelude.{Bool, true, ◌&&◌, cond, List, [], ◌∷◌, ℕ, zero, suc, ◌^◌, get_or, Float}
-use Rattle.std.proofs.Math.Option.{Option, some, none}
+use Rattle.std.specs.Prelude.{Bool, true, ◌&&◌, cond, List, [], ◌∷◌, ℕ, zero, suc, ◌^◌, get_or, Float, Option, Some, None}
 use Rattle.std.specs.Float.{nan, binary64}
 use Rattle.std.specs.Float.Ieee.{mul, sub, lt, ne}
 use Rattle.arith.specs.Operations.{floats}
-use Rattle.sorting.specs.declared.Rule.{Rule}
-use Rattle.sorting.specs.declared.Rule.TheVariants.{Distinct, Apart}
 
 -- the elements that pass the test, which sees the last one kept, or none, and the element
 unfoldable pub thinned : (Option Float → Float → Bool) → Option Float → List Float → List Float
 thinned test last [] = []
 thinned test last (x ∷ l) =
-    cond (test last x) (x ∷ thinned test (some x) l) (thinned test last l)
+    cond (test last x) (x ∷ thinned test (Some x) l) (thinned test last l)
 
 -- `dedup` drops what equals the last one kept
 unfoldable pub distinct : Option Float → Float → Bool
-distinct none x = true
-distinct (some last) x = ne x last
+distinct None x = true
+distinct (Some last) x = ne x last
 
 -- `gap` of `seed`: 128 · 2^-52
 unfoldable pub gap : Float
@@ -28,23 +25,18 @@ inside x = lt gap x && lt x (sub binary64 floats.one gap)
 
 -- `x > gap && x < 1. - gap && kept.last().is_none_or(|v| x - v > gap)`
 unfoldable pub apart : Option Float → Float → Bool
-apart none x = inside x
-apart (some last) x = inside x && lt gap (sub binary64 x last)
-
--- the test of a rule
-unfoldable pub test_of : Rule → Option Float → Float → Bool
-test_of Distinct = distinct
-test_of Apart = apart
+apart None x = inside x
+apart (Some last) x = inside x && lt gap (sub binary64 x last)
 
 -- `list.dedup()`
 unfoldable pub dedup_of : List Float → List Float
-dedup_of list = thinned distinct none list
+dedup_of list = thinned distinct None list
 
 -- the loop that fills `kept` in `seed`
 unfoldable pub kept_of : List Float → List Float
-kept_of knots = thinned apart none knots
+kept_of knots = thinned apart None knots
 
 -- the last of the first k elements, none where k is 0
 unfoldable pub last_of : ℕ → List Float → Option Float
-last_of zero list = none
-last_of (suc k) list = some (get_or list k nan)
+last_of zero list = None
+last_of (suc k) list = Some (get_or list k nan)

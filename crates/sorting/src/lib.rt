@@ -7,12 +7,3 @@ mod thin;
 
 pub use order::sort;
 pub use thin::{dedup, keep_apart};
-
-// Which elements are kept.
-#[derive(Clone, Copy)]
-enum Rule {
-    // those that differ from the last one kept
-    Distinct,
-    // those over the gap from 0, from 1 and from the last one kept
-    Apart,
-}

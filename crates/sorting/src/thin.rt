@@ -1,9 +1,6 @@
 // The elements that a rule keeps, moved to the front.
-ghost use Rattle.std.specs.Prelude.{◌≡◌, cond, ◌++◌, ◌+◌, ◌≤◌, ◌<◌, length, drop, set};
-ghost use Rattle.std.proofs.Math.Option.{none};
-ghost use Rattle.sorting.specs.Thin.{thinned, distinct, inside, apart, test_of, dedup_of, kept_of, last_of};
-
-use crate::Rule;
+ghost use Rattle.std.specs.Prelude.{◌≡◌, ◌++◌, length, drop, Bool, Float, Option, None};
+ghost use Rattle.sorting.specs.Thin.{thinned, distinct, inside, apart, dedup_of, kept_of};
 
 // The `gap` of the source's `seed`: 128 times 2^-52.
 const GAP: f64 = 128.0 * 2.220446049250313e-16;
@@ -12,74 +9,41 @@ const GAP: f64 = 128.0 * 2.220446049250313e-16;
 fn is_inside(x: f64) -> bool
     ensures { result ≡ inside x }
 {
-    if GAP < x {
-        return x < 1.0 - GAP;
-    }
-    false
+    GAP < x && x < 1.0 - GAP
 }
 
-// Whether x differs from the last of the first `kept` cells, if there is one.
-fn is_distinct(s: &[f64], kept: usize, x: f64) -> bool
-    requires { kept ≤ length s.now }
-    ensures { result ≡ distinct (last_of kept s.now) x }
+// Whether x differs from the last one kept, if there is one.
+fn is_distinct(last: Option<f64>, x: f64) -> bool
+    ensures { result ≡ distinct last x }
 {
-    if kept == 0 {
-        return true;
-    }
-    x != s[kept - 1]
+    last.is_none_or(|v| x != v)
 }
 
-// Whether x is over the gap from 0, from 1, and from the last of the first `kept` cells, if there is
-// one.
-fn is_apart(s: &[f64], kept: usize, x: f64) -> bool
-    requires { kept ≤ length s.now }
-    ensures { result ≡ apart (last_of kept s.now) x }
+// Whether x is over the gap from 0, from 1, and from the last one kept, if there is one.
+fn is_apart(last: Option<f64>, x: f64) -> bool
+    ensures { result ≡ apart last x }
 {
-    if is_inside(x) {
-        if kept == 0 {
-            return true;
-        }
-        return GAP < x - s[kept - 1];
-    }
-    false
+    is_inside(x) && last.is_none_or(|v| GAP < x - v)
 }
 
-// Whether the rule keeps x after the first `kept` cells.
-fn keeps(s: &[f64], kept: usize, x: f64, rule: Rule) -> bool
-    requires { kept ≤ length s.now }
-    ensures { result ≡ test_of rule (last_of kept s.now) x }
+// The elements that `keeps` keeps, which is told the last one kept, if there is one, and the element;
+// they move to the front, and the cells after these are unchanged. How many they are.
+fn thin<F: Fn(Option<f64>, f64) -> bool>(s: &mut [f64], keeps: F) -> usize
+    requires { F.IsAlwaysCallable keeps }
+    ensures { (test : Option Float → Float → Bool)
+        → ((last : Option Float) (x : Float) (b : Bool) → F.post keeps last x b → b ≡ test last x)
+        → (result ≡ length (thinned test None s.old))
+        × (s.new ≡ thinned test None s.old ++ drop result s.old) }
 {
-    match rule {
-        Rule::Distinct => is_distinct(s, kept, x),
-        Rule::Apart => is_apart(s, kept, x),
-    }
-}
-
-// x into the cell `to` where it is kept; the number of cells kept then.
-fn put(s: &mut [f64], to: usize, x: f64, keep: bool) -> usize
-    requires { to < length s.old }
-    ensures value { result ≡ cond keep (to + 1) to }
-    ensures s_after { s.new ≡ cond keep (set s.old to x) s.old }
-{
-    if keep {
-        s[to] = x;
-        return to + 1;
-    }
-    to
-}
-
-// The walk behind both.
-fn thin(s: &mut [f64], rule: Rule) -> usize
-    ensures value { result ≡ length (thinned (test_of rule) none s.old) }
-    ensures s_after { s.new ≡ thinned (test_of rule) none s.old ++ drop result s.old }
-{
+    let mut last = None;
     let mut kept = 0;
-    let mut i = 0;
-    while i < s.len() {
+    for i in 0..s.len() {
         let x = s[i];
-        let keep = keeps(s, kept, x, rule);
-        kept = put(s, kept, x, keep);
-        i += 1;
+        if keeps(last, x) {
+            s[kept] = x;
+            kept += 1;
+            last = Some(x);
+        }
     }
     kept
 }
@@ -89,7 +53,7 @@ pub fn dedup(s: &mut [f64]) -> usize
     ensures value { result ≡ length (dedup_of s.old) }
     ensures s_after { s.new ≡ dedup_of s.old ++ drop result s.old }
 {
-    thin(s, Rule::Distinct)
+    thin(s, is_distinct)
 }
 
 // The cells over the gap from 0, from 1 and from the last one kept, and how many they are; the cells
@@ -98,5 +62,5 @@ pub fn keep_apart(s: &mut [f64]) -> usize
     ensures value { result ≡ length (kept_of s.old) }
     ensures s_after { s.new ≡ kept_of s.old ++ drop result s.old }
 {
-    thin(s, Rule::Apart)
+    thin(s, is_apart)
 }
