@@ -4,8 +4,6 @@ use mathlib.Core.Bool.{Bool, true, false, cond}
 use mathlib.Core.List.{List, ◌++◌, append-nil}
 use Prim.Native.Nat.{ℕ, ◌+◌, ◌-◌, ◌*◌, ◌≤◌, ◌<◌}
 use native.Mathlib.Omega.{arith}
-use borrow.Author.Tests.{eq-eqb, ne_eqb}
-use lib.Dec.{eqb}
 use lib.ListN.{length, take, drop, length-drop, drop_of_length-le}
 use lib.Seq.{drop_at, length-take-le}
 use lib.Ieee.{Float}
@@ -13,7 +11,7 @@ use Rattle.window.specs.Window.{splice}
 use Rattle.window.proofs.Windows.{window_before}
 use Rattle.bspline.specs.Segments.{Polynomial}
 use Rattle.request.specs.Parameters.{unreliable}
-use Rattle.smoothing.specs.Answer.{Answer, and_then, unless}
+use Rattle.smoothing.specs.Answer.{Answer, and_then}
 use Rattle.smoothing.specs.Answer.Answer.{done, refused, exhausted}
 use Rattle.smoothing.specs.Request.{Limits}
 use Rattle.smoothing.specs.Checks.{overflows}
@@ -97,18 +95,14 @@ unfolding NotDone
 exhausted_not_done a w e h = subst NotDone (sym e ∙ h) tt
 
 -- ---- the other axes
-module _ (x : Selected) (o : Answer (Polynomial Float)) (n : ℕ) (p : Polynomial Float) (h : unless n p ≡ o) where
-  pub other_refused : 0 < n → with_other x o ≡ refused n
-  unfolding with_other unless and_then
-  other_refused g =
-      let e : eqb n 0 ≡ false = ne_eqb n 0 (λ z. omega arith) in
-      ap (λ (s : Answer (Polynomial Float)). and_then s (λ y. done (both x y))) (sym h) ∙ rw e
+module _ (x : Selected) (o : Answer (Polynomial Float)) where
+  pub other_refused : (n : ℕ) → refused n ≡ o → with_other x o ≡ refused n
+  unfolding with_other and_then
+  other_refused n h = ap (λ (s : Answer (Polynomial Float)). and_then s (λ y. done (both x y))) (sym h)
 
-  pub other_done : n ≡ 0 → with_other x o ≡ done (both x p)
-  unfolding with_other unless and_then
-  other_done g =
-      let e : eqb n 0 ≡ true = eq-eqb n 0 g in
-      ap (λ (s : Answer (Polynomial Float)). and_then s (λ y. done (both x y))) (sym h) ∙ rw e
+  pub other_done : (p : Polynomial Float) → done p ≡ o → with_other x o ≡ done (both x p)
+  unfolding with_other and_then
+  other_done p h = ap (λ (s : Answer (Polynomial Float)). and_then s (λ y. done (both x y))) (sym h)
 
 -- ---- what is written behind the plan's cells leaves the selected axes as they are
 module _ (p : Plan) (count : ℕ) (w : List Float) (R : Roomy (sized p count) (length w)) (z : List Float) where

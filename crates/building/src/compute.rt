@@ -80,19 +80,16 @@ fn with_others(
         spacing,
         parameters,
     );
-    let number = o.number;
-    if 0 < number {
-        return ended(Ending::Refused(number));
-    }
-    let ending = done.ending;
-    let report = done.report;
     let errors = done.errors;
-    Computed {
-        ending,
-        count: done.count,
-        report,
-        errors,
-        other_segments: o.segments,
+    match o {
+        Ok(other_segments) => Computed {
+            ending: done.ending,
+            count: done.count,
+            report: done.report,
+            errors,
+            other_segments,
+        },
+        Err(e) => ended(Ending::Refused(e.number())),
     }
 }
 

@@ -1,11 +1,12 @@
 -- The source's `fit`: one window [a, z) of controls fitted anew.
-use Rattle.std.specs.Prelude.{ℕ, ◌+◌, ◌-◌, ◌*◌, ◌≤◌, cond, List, ◌++◌, eqb, set, Float}
+use Rattle.std.specs.Prelude.{ℕ, ◌+◌, ◌-◌, ◌*◌, ◌≤◌, cond, List, ◌++◌, eqb, set, Float, Result, Ok, Err}
 use Rattle.std.specs.Float.{binary64}
 use Rattle.std.specs.Float.Ieee.{add}
 use Rattle.arith.specs.Loop.{each}
 use Rattle.window.specs.Cells.{at}
 use Rattle.normal.specs.System.{System, new_of}
-use Rattle.normal.specs.Solve.{SolveOutcome, solve_of}
+use Rattle.normal.specs.declared.Unsolved.{Unsolved}
+use Rattle.normal.specs.Solve.{SolveOutcome, solve_of, refusal_number}
 use Rattle.window.specs.Window.{splice}
 use Rattle.fitting_rows.specs.declared.Place.{Place}
 use Rattle.fitting_rows.specs.Arrays.{Arrays}
@@ -13,8 +14,7 @@ use Rattle.fit.specs.Region.{before}
 use Rattle.fitting_rows.specs.Samples.{below}
 use Rattle.fitting_rows.specs.Pieces.{at_or_below}
 use Rattle.fit.specs.Assembly.{low, high, assembled_of}
-use Rattle.fit.specs.declared.window_fit.Fitted.{Fitted}
-use Rattle.fit.specs.declared.window_fit.Fitted.TheVariants.{Done, BadDiagonal, BadPivot, BadSolution}
+use Rattle.fit.specs.declared.window_fit.Counts.{Counts}
 
 -- What the source returns: document 01's number of the refusal, or 0 and `(first, last, rows)`; a refusal comes alone, with 0 for these.
 pub record Answer : Type 0 where
@@ -27,11 +27,9 @@ abbrev pub answer : ℕ → ℕ → ℕ → ℕ → Answer
 answer number first last rows = record { number = number; first = first; last = last; rows = rows }
 
 -- document 01's number of the code's answer, and its counts
-abbrev pub answer_of : Fitted → Answer
-answer_of (Done k) = answer 0 k.first k.last k.rows
-answer_of BadDiagonal = answer 9 0 0 0
-answer_of BadPivot = answer 10 0 0 0
-answer_of BadSolution = answer 11 0 0 0
+abbrev pub answer_of : Result Counts Unsolved → Answer
+answer_of (Ok k) = answer 0 k.first k.last k.rows
+answer_of (Err e) = answer (refusal_number e) 0 0 0
 
 -- the most rows that a fit of n samples and m controls has: one for each sample, and six for each piece of each span
 abbrev pub rows_most : ℕ → ℕ → ℕ

@@ -14,6 +14,7 @@ ghost use Rattle.fit.specs.Fit.{Bounded, added_to, answer_of, fit_of, cells_afte
 
 use crate::assembly;
 use fitting_rows::Place;
+use normal::Unsolved;
 
 // The samples that the window holds, from `first` up to `last`, and how many rows its fit had.
 #[derive(Clone, Copy)]
@@ -21,15 +22,6 @@ pub struct Counts {
     pub first: usize,
     pub last: usize,
     pub rows: usize,
-}
-
-// The answer of `fit`: the controls are new, or why they are not.
-#[derive(Clone, Copy)]
-pub enum Fitted {
-    Done(Counts),
-    BadDiagonal,
-    BadPivot,
-    BadSolution,
 }
 
 // The parameters from which and up to which a window goes, and the samples from `first` up to `last` that it
@@ -130,7 +122,7 @@ fn add_solution(work: &mut [f64], p: Place, a: usize, z: usize)
 // The source's `fit`: the controls of the window [a, z) fitted to the samples, all others as they are. The
 // system's cells are scratch, and hold afterwards what `solve` left there; on a refusal the controls
 // are unchanged.
-pub fn fit(work: &mut [f64], p: Place, a: usize, z: usize, strength: f64) -> Fitted
+pub fn fit(work: &mut [f64], p: Place, a: usize, z: usize, strength: f64) -> Result<Counts, Unsolved>
     requires { WindowLaid p a z (length work.old) }
     ensures result_value { answer_of result ≡ (fit_of (arrays_at p (before p work.old)) a z strength).answered }
     ensures work_after { work.new ≡ cells_after p (fit_of (arrays_at p (before p work.old)) a z strength) work.old }
@@ -141,14 +133,7 @@ pub fn fit(work: &mut [f64], p: Place, a: usize, z: usize, strength: f64) -> Fit
     let d = p.axes;
     let n = z - a;
     let e = g + (6 * n + n * d + n);
-    let solved = normal::solve(&mut work[g..e], n, d);
-    match solved {
-        normal::Solved::Done => {
-            add_solution(work, p, a, z);
-            Fitted::Done(counts)
-        }
-        normal::Solved::BadDiagonal => Fitted::BadDiagonal,
-        normal::Solved::BadPivot => Fitted::BadPivot,
-        normal::Solved::BadSolution => Fitted::BadSolution,
-    }
+    normal::solve(&mut work[g..e], n, d)?;
+    add_solution(work, p, a, z);
+    Ok(counts)
 }

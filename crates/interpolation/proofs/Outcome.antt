@@ -4,7 +4,8 @@ use mathlib.Core.List.{List, [], ◌∷◌}
 use Prim.Native.Nat.{ℕ, ◌+◌, ◌-◌, ◌*◌, ◌≤◌, ◌<◌}
 use native.Mathlib.Omega.{arith}
 use native.Mathlib.Nat.{mul-le-mul_right}
-use borrow.Author.Tests.{ne_eqb}
+use mathlib.Core.Bool.{false}
+use lib.Dec.{eqb}
 use lib.ListN.{length, length-append}
 use lib.Ieee.{Float}
 use Rattle.arith.specs.Operations.{floats}
@@ -20,6 +21,7 @@ use Rattle.normal.specs.System.{System, size_of}
 use Rattle.normal.specs.Solve.{solve_of}
 use Rattle.fitting_rows.specs.Arrays.{arrays_at}
 use Rattle.smoothing.specs.Answer.{unless}
+use Rattle.smoothing.specs.Answer.Answer.{done, refused}
 use Rattle.smoothing.specs.Interpolate.{waypoint_knots, interpolation_system, interpolate_of}
 use Rattle.bspline.proofs.Breaks.{break_turn, breaks_are}
 use Rattle.bspline.proofs.Breaks.{polynomial_room}
@@ -112,15 +114,14 @@ module _ (p : Nodes) (w : List Float) (r : Roomy p (length w)) where
 -- ---- the answer, from the system a that was solved
 module _ (n d : ℕ) (s y : List Float) (number : ℕ) (a : System)
     (system_is : a ≡ interpolation_system n d s y) (number_is : number ≡ (solve_of (n + 4) d a).number) where
-  pub refused_is : (x : Polynomial Float) → 0 < number → unless number x ≡ interpolate_of n d s y
+  pub refused_is : eqb number 0 ≡ false → refused number ≡ interpolate_of n d s y
   unfolding unless interpolate_of
-  refused_is x h =
-      let f = ne_eqb number 0 (λ z. omega arith) in rw (← system_is, ← number_is, f)
+  refused_is f = rw (← system_is, ← number_is, f)
 
   -- t are the knots, b is the system after it, x the polynomial
   pub done_is : (t : List Float) (b : System) (x : Polynomial Float) → number ≡ 0 → t ≡ waypoint_knots n d s y
-      → b ≡ (solve_of (n + 4) d a).system → x ≡ polynomial_of floats t b.right d (n + 4) → unless 0 x ≡ interpolate_of n d s y
-  unfolding interpolate_of
+      → b ≡ (solve_of (n + 4) d a).system → x ≡ polynomial_of floats t b.right d (n + 4) → done x ≡ interpolate_of n d s y
+  unfolding unless interpolate_of
   done_is t b x z knots_are solution-is p =
       let e : 0 ≡ (solve_of (n + 4) d a).number = sym z ∙ number_is in
       ap (unless 0)

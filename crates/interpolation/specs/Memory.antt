@@ -1,10 +1,14 @@
 -- The arrays of an interpolation in the cells of one lent slice. With E = room and d = axes: parameters E, points E * d, knots E, the
 -- system of samples + 4 controls 7 * E + E * d, breaks E, coefficients 6 * E * d; 10 * E + 8 * E * d in all.
-use Rattle.std.specs.Prelude.{ℕ, ◌+◌, ◌*◌, ◌≤◌, ◌≡◌, List, Float}
+use Rattle.std.specs.Prelude.{ℕ, ◌+◌, ◌*◌, ◌≤◌, ◌≡◌, List, Float, Result, Ok, Err}
 use Rattle.window.specs.Window.{window}
 use Rattle.bspline.specs.Segments.{Polynomial}
 use Rattle.normal.specs.System.{System, size_of, system_of}
+use Rattle.normal.specs.declared.Unsolved.{Unsolved}
+use Rattle.normal.specs.Solve.{refusal_number}
 use Rattle.fitting_rows.specs.declared.Place.{Place}
+use Rattle.smoothing.specs.Answer.{Answer}
+use Rattle.smoothing.specs.Answer.Answer.{done, refused}
 use Rattle.interpolation.specs.declared.Nodes.{Nodes}
 
 -- where breaks and coefficients start
@@ -36,6 +40,11 @@ polynomial_in p segments w =
       breaks = window (breaks_place p) (breaks_place p + segments + 1) w;
       coefficients = window (coefficients_place p) (coefficients_place p + segments * (6 * p.axes)) w;
     }
+
+-- the definition's answer: the polynomial, or the refusal
+abbrev pub interpolated_in : Nodes → Result ℕ Unsolved → List Float → Answer (Polynomial Float)
+interpolated_in p (Ok segments) w = done (polynomial_in p segments w)
+interpolated_in p (Err e) w = refused (refusal_number e)
 
 -- the offsets of the rows and of the system; while rows are made, the first cells of the coefficients are the controls
 abbrev pub place_of : Nodes → Place

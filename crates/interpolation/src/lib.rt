@@ -1,12 +1,12 @@
 // The other axes: a quintic spline through every waypoint, the source's `interpolate`, over one lent slice.
 #![tactic(auto)]
 
-ghost use Rattle.std.specs.Prelude.{◌≡◌, ◌<◌, length};
-ghost use Rattle.smoothing.specs.Answer.{unless};
+ghost use Rattle.std.specs.Prelude.{◌≡◌, ◌<◌, length, IfOk};
 ghost use Rattle.smoothing.specs.Interpolate.{interpolate_of};
-ghost use Rattle.interpolation.specs.Memory.{Roomy, parameters_in, points_in, polynomial_in};
+ghost use Rattle.interpolation.specs.Memory.{Roomy, parameters_in, points_in, interpolated_in};
 
 use fitting_rows::Place;
+use normal::Unsolved;
 
 mod rows; // rows.rt: the rows of waypoints and of ends
 mod assembly; // assembly.rt: the system with all rows
@@ -22,19 +22,12 @@ pub struct Nodes {
     pub room: usize,
 }
 
-// Document 01's number of the refusal (9, 10, 11), or 0; and how many segments there are.
-#[derive(Clone, Copy)]
-pub struct Interpolated {
-    pub number: usize,
-    pub segments: usize,
-}
-
-// The source's `interpolate`.
-pub fn interpolate(work: &mut [f64], p: Nodes) -> Interpolated
+// The source's `interpolate`: 9, 10, 11, or how many segments there are.
+pub fn interpolate(work: &mut [f64], p: Nodes) -> Result<usize, Unsolved>
     requires { Roomy p (length work.old) }
-    ensures work_after { unless result.number (polynomial_in p result.segments work.new)
+    ensures work_after { interpolated_in p result work.new
         ≡ interpolate_of p.samples p.axes (parameters_in p work.old) (points_in p work.old) }
-    ensures segments_lt_samples { result.segments < p.samples }
+    ensures segments_lt_samples { IfOk result (λ segments. segments < p.samples) }
 {
     let e = p.room;
     let d = p.axes;
@@ -50,16 +43,6 @@ pub fn interpolate(work: &mut [f64], p: Nodes) -> Interpolated
         system: 2 * e + b,
     };
     assembly::assemble(work, q);
-    let number = solution::solve(work, q);
-    if 0 < number {
-        return Interpolated {
-            number,
-            segments: 0,
-        };
-    }
-    let segments = solution::put_polynomial(work, p);
-    Interpolated {
-        number: 0,
-        segments,
-    }
+    solution::solve(work, q)?;
+    Ok(solution::put_polynomial(work, p))
 }

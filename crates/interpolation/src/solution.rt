@@ -9,24 +9,12 @@ ghost use Rattle.interpolation.specs.Memory.{NodesLaid, Roomy, system_in, place_
 use crate::Nodes;
 use bspline::Spline;
 use fitting_rows::Place;
-use normal::Solved;
-
-// Document 01's number of the answer.
-fn number_of(solved: Solved) -> usize
-    ensures { result ≡ number_of solved }
-{
-    match solved {
-        Solved::Done => 0,
-        Solved::BadDiagonal => 9,
-        Solved::BadPivot => 10,
-        Solved::BadSolution => 11,
-    }
-}
+use normal::Unsolved;
 
 // Solves the system in its place.
-pub fn solve(work: &mut [f64], q: Place) -> usize
+pub fn solve(work: &mut [f64], q: Place) -> Result<(), Unsolved>
     requires { NodesLaid q (length work.old) }
-    ensures value { result ≡ (solve_of q.count q.axes (system_in q work.old)).number }
+    ensures value { number_of result ≡ (solve_of q.count q.axes (system_in q work.old)).number }
     ensures work_unchanged { arrays_at q work.new ≡ arrays_at q work.old }
     ensures work_after { system_in q work.new ≡ (solve_of q.count q.axes (system_in q work.old)).system }
 {
@@ -34,8 +22,7 @@ pub fn solve(work: &mut [f64], q: Place) -> usize
     let m = q.count;
     let g = q.system;
     let e = g + (6 * m + m * d + m);
-    let solved = normal::solve(&mut work[g..e], m, d);
-    number_of(solved)
+    normal::solve(&mut work[g..e], m, d)
 }
 
 // The polynomial of the spline whose controls are the system's right sides. Gives the number of segments.

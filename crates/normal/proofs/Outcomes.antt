@@ -1,11 +1,20 @@
 -- How `solve` ends, from what each phase left; and the numbers that it ends with.
-use mathlib.Core.Path.{◌≡◌}
+use mathlib.Core.Path.{◌≡◌, refl}
 use mathlib.Core.Bool.{Bool, true, false, cond}
 use mathlib.Core.List.{List}
 use Prim.Native.Nat.{ℕ}
+use lib.Dec.{eqb}
 use lib.Ieee.{Float}
+use Rattle.normal.specs.declared.Unsolved.{Unsolved}
+use Rattle.normal.specs.declared.Unsolved.TheVariants.{BadDiagonal, BadPivot, BadSolution}
 use Rattle.normal.specs.System.{System, with_band}
-use Rattle.normal.specs.Solve.{any_unfit_of, roots_of, scale_of, factor_of, forward_of, backward_of, unscale_of, finish_of, solve_scaled_of, solve_of}
+use Rattle.normal.specs.Solve.{any_unfit_of, roots_of, scale_of, factor_of, forward_of, backward_of, unscale_of, finish_of, solve_scaled_of, solve_of, refusal_number}
+
+-- no refusal has number 0
+pub refusal_told : (e : Unsolved) → eqb (refusal_number e) 0 ≡ false
+refusal_told BadDiagonal = refl
+refusal_told BadPivot = refl
+refusal_told BadSolution = refl
 
 -- ---- the substitutions left x
 module _ (n d : ℕ) (s : System) (x : System) (e : x ≡ unscale_of n d (backward_of n d (forward_of n d s))) where

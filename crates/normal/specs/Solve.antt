@@ -1,6 +1,6 @@
 -- The source's `Normal::solve`, phase by phase. Where the source takes its differences in a cell, one after the other, they are taken in v,
 -- and the cell is written once.
-use Rattle.std.specs.Prelude.{ℕ, ◌+◌, ◌-◌, ◌*◌, min, Bool, true, false, not, ◌&&◌, ◌||◌, cond, List, [], ◌∷◌, set, Float}
+use Rattle.std.specs.Prelude.{ℕ, ◌+◌, ◌-◌, ◌*◌, min, Bool, true, false, not, ◌&&◌, ◌||◌, cond, List, [], ◌∷◌, set, Float, Result, Ok, Err}
 use Rattle.std.specs.Float.{binary64}
 use Rattle.std.specs.Float.Ieee.{sub, mul, div, le}
 use Rattle.std.specs.Float.Ieee.Scale.{finite}
@@ -9,8 +9,8 @@ use Rattle.arith.specs.Loop.{each, back, till, Step}
 use Rattle.arith.specs.Loop.Step.{next, stop}
 use Rattle.window.specs.Cells.{+0, at}
 use Rattle.normal.specs.System.{System, with_band, with_right, with_scales}
-use Rattle.normal.specs.declared.Solved.{Solved}
-use Rattle.normal.specs.declared.Solved.TheVariants.{Done, BadDiagonal, BadPivot, BadSolution}
+use Rattle.normal.specs.declared.Unsolved.{Unsolved}
+use Rattle.normal.specs.declared.Unsolved.TheVariants.{BadDiagonal, BadPivot, BadSolution}
 
 -- `!x.is_finite()`, and where a number above 0 is asked for also `x <= 0.`
 unfoldable pub unfit_of : Bool → Float → Bool
@@ -166,9 +166,13 @@ solve_of n d s =
     let r = roots_of n s in
     cond (any_unfit_of true r.scales) (record { number = 9; system = r }) (solve_scaled_of n d (scale_of n d r))
 
--- document 01's number for each answer
-abbrev pub number_of : Solved → ℕ
-number_of Done = 0
-number_of BadDiagonal = 9
-number_of BadPivot = 10
-number_of BadSolution = 11
+-- document 01's number for each refusal
+abbrev pub refusal_number : Unsolved → ℕ
+refusal_number BadDiagonal = 9
+refusal_number BadPivot = 10
+refusal_number BadSolution = 11
+
+-- document 01's number for each answer, 0 where there is a solution
+abbrev pub number_of : {A : Type 0} → Result A Unsolved → ℕ
+number_of (Ok a) = 0
+number_of (Err e) = refusal_number e

@@ -7,7 +7,7 @@ ghost use Rattle.std.specs.Prelude.{◌≡◌, true, false, ◌+◌, ◌-◌, �
 ghost use Rattle.arith.specs.Loop.{each};
 ghost use Rattle.normal.specs.System.{usize_max, size_of, system_of};
 ghost use Rattle.normal.specs.Add.{value_of, row_of, active, product_of, add_band_of, shares_of, add_right_of, add_of};
-ghost use Rattle.normal.specs.Solve.{unfit_of, any_unfit_of, roots_of, scale_row_of, divide_row_of, scale_of, reduced_of, eliminated_of, factor_of, forward_value_of, forward_row_of, forward_of, back_value_of, back_row_of, backward_of, unscale_of, finish_of, solve_of, number_of};
+ghost use Rattle.normal.specs.Solve.{unfit_of, any_unfit_of, roots_of, scale_row_of, divide_row_of, scale_of, reduced_of, eliminated_of, factor_of, forward_value_of, forward_row_of, forward_of, back_value_of, back_row_of, backward_of, unscale_of, finish_of, solve_of, number_of, refusal_number};
 
 // A fitting row: six basis values from control `start` on, their weight, and for each axis how far
 // the curve misses the target there, times the weight.
@@ -143,13 +143,25 @@ pub fn add(sys: &mut [f64], a: usize, n: usize, d: usize, row: Row)
     add_right(&mut sys[right..scales], a, n, d, row);
 }
 
-// The answer of `solve`: the solution stands in the right sides, or why there is none.
-#[derive(Clone, Copy)]
-pub enum Solved {
-    Done,
+// Why a system has no solution: a scale or a pivot that is not finite or not above 0, or a solution that is not finite.
+#[derive(Clone, Copy, Debug, PartialEq, Eq)]
+pub enum Unsolved {
     BadDiagonal,
     BadPivot,
     BadSolution,
+}
+
+impl Unsolved {
+    // Document 01's number.
+    pub fn number(self) -> usize
+        ensures { result ≡ refusal_number self }
+    {
+        match self {
+            Unsolved::BadDiagonal => 9,
+            Unsolved::BadPivot => 10,
+            Unsolved::BadSolution => 11,
+        }
+    }
 }
 
 // Whether x is not finite or, where a number above 0 is asked for, not above 0.
@@ -407,7 +419,7 @@ fn unscale(sys: &mut [f64], n: usize, d: usize)
 }
 
 // The two substitutions, once the band is factored.
-fn finish(sys: &mut [f64], n: usize, d: usize) -> Solved
+fn finish(sys: &mut [f64], n: usize, d: usize) -> Result<(), Unsolved>
     requires { length sys.old ≡ size_of n d }
     ensures result_value { number_of result ≡ (finish_of n d (system_of n d sys.old)).number }
     ensures sys_after { system_of n d sys.new ≡ (finish_of n d (system_of n d sys.old)).system }
@@ -418,14 +430,14 @@ fn finish(sys: &mut [f64], n: usize, d: usize) -> Solved
     let right = 6 * n;
     let scales = right + n * d;
     if any_unfit(&sys[right..scales], false) {
-        return Solved::BadSolution;
+        return Err(Unsolved::BadSolution);
     }
-    Solved::Done
+    Ok(())
 }
 
 // Solves the system in place: the right sides become the increments of the active controls. On a
 // refusal the cells hold what the work had come to.
-pub fn solve(sys: &mut [f64], n: usize, d: usize) -> Solved
+pub fn solve(sys: &mut [f64], n: usize, d: usize) -> Result<(), Unsolved>
     requires { length sys.old ≡ size_of n d }
     ensures result_value { number_of result ≡ (solve_of n d (system_of n d sys.old)).number }
     ensures sys_after { system_of n d sys.new ≡ (solve_of n d (system_of n d sys.old)).system }
@@ -435,11 +447,11 @@ pub fn solve(sys: &mut [f64], n: usize, d: usize) -> Solved
     let scales = right + n * d;
     let end = scales + n;
     if any_unfit(&sys[scales..end], true) {
-        return Solved::BadDiagonal;
+        return Err(Unsolved::BadDiagonal);
     }
     scale(sys, n, d);
     if !factor(&mut sys[0..right], n) {
-        return Solved::BadPivot;
+        return Err(Unsolved::BadPivot);
     }
     finish(sys, n, d)
 }

@@ -11,8 +11,9 @@ ghost use Rattle.refinement.specs.Kept.{Stale};
 ghost use Rattle.refinement.specs.Refit.{Same, audit_over, Spare, Refittable, Audits, Refits, AfterRefit};
 
 use crate::plan::Plan;
-use fit::{Counts, Fitted};
+use fit::Counts;
 use fitting_rows::Place;
+use normal::Unsolved;
 use polynomial::audit::{Audited, Parts};
 use polynomial::interval::AuditOutcome;
 use running_report::Report;
@@ -63,7 +64,7 @@ pub fn number_of(o: AuditOutcome) -> usize
 }
 
 // `fit(&mut b, &s, &y, a, z, strength)`: the controls of the window [a, z) fitted anew; no other array changes.
-pub fn fit_in(work: &mut [f64], p: Plan, a: usize, z: usize, strength: f64) -> Fitted
+pub fn fit_in(work: &mut [f64], p: Plan, a: usize, z: usize, strength: f64) -> Result<Counts, Unsolved>
     requires { Roomy p (length work.old) × (a ≤ z) × (z ≤ p.count) }
     ensures result_value { answer_of result
         ≡ (fit_in (task_at p work.old) a z strength (spline_at p work.old)).answered }
@@ -159,21 +160,10 @@ fn refit_work(work: &mut [f64], p: Plan, a: usize, z: usize, strength: f64) -> R
     requires { Refittable p a z work.old }
     ensures { Refits p a z strength work.old work.new result }
 {
-    let fitted = fit_in(work, p, a, z, strength);
-    match fitted {
-        Fitted::Done(counts) => follow(work, p, a, z, counts),
-        Fitted::BadDiagonal => Refitted {
-            number: 9,
-            rows: 0,
-            checked: 0,
-        },
-        Fitted::BadPivot => Refitted {
-            number: 10,
-            rows: 0,
-            checked: 0,
-        },
-        Fitted::BadSolution => Refitted {
-            number: 11,
+    match fit_in(work, p, a, z, strength) {
+        Ok(counts) => follow(work, p, a, z, counts),
+        Err(e) => Refitted {
+            number: e.number(),
             rows: 0,
             checked: 0,
         },

@@ -4,11 +4,12 @@ ghost use Rattle.normal.specs.System.{size_of};
 ghost use Rattle.fit.specs.Region.{WindowLaid};
 ghost use Rattle.listing.specs.Lines.{Unanswered};
 
-use fit::Fitted;
+use fit::Counts;
 use fitting_rows::Place;
 use listing::list::Head;
 use listing::output;
 use listing::output::Line;
+use normal::Unsolved;
 
 // The arrays of a case with d axes, n samples and m controls, in the case's order, and the system of the
 // controls from a up to z after them.
@@ -33,21 +34,19 @@ fn layout(d: usize, n: usize, m: usize, a: usize, z: usize) -> Place
 }
 
 // The line of a fit: its counts and all controls, or the number.
-fn line(fitted: Fitted, controls: &[f64], out: &mut [u8], at: usize) -> Line
+fn line(fitted: Result<Counts, Unsolved>, controls: &[f64], out: &mut [u8], at: usize) -> Line
     ensures { result.good ≡ true }
 {
     let next = output::text(out, at, b"fit");
     match fitted {
-        Fitted::Done(counts) => {
+        Ok(counts) => {
             let next = output::whole(out, next, counts.first as u64);
             let next = output::whole(out, next, counts.last as u64);
             let next = output::whole(out, next, counts.rows as u64);
             let next = output::cells(out, next, controls, controls.len());
             output::end(out, next)
         }
-        Fitted::BadDiagonal => output::refused(out, next, 9),
-        Fitted::BadPivot => output::refused(out, next, 10),
-        Fitted::BadSolution => output::refused(out, next, 11),
+        Err(e) => output::refused(out, next, e.number() as u64),
     }
 }
 

@@ -7,7 +7,7 @@ ghost use Rattle.listing.specs.Lines.{Unanswered};
 use listing::list::Head;
 use listing::output;
 use listing::output::Line;
-use normal::Solved;
+use normal::Unsolved;
 
 // The whole number below `most` that a cell holds; `most` where it holds none.
 fn index_of(x: f64, most: usize) -> usize
@@ -105,18 +105,16 @@ fn add_rows(cells: &[f64], rows: usize, w: Window, sys: &mut [f64]) -> bool
 }
 
 // The line of a system: the refusal's number, or the solution.
-fn line(answer: Solved, solution: &[f64], out: &mut [u8], at: usize) -> Line
+fn line(answer: Result<(), Unsolved>, solution: &[f64], out: &mut [u8], at: usize) -> Line
     ensures { result.good ≡ true }
 {
     let next = output::text(out, at, b"normal");
     match answer {
-        Solved::Done => {
+        Ok(()) => {
             let next = output::cells(out, next, solution, solution.len());
             output::end(out, next)
         }
-        Solved::BadDiagonal => output::refused(out, next, 9),
-        Solved::BadPivot => output::refused(out, next, 10),
-        Solved::BadSolution => output::refused(out, next, 11),
+        Err(e) => output::refused(out, next, e.number() as u64),
     }
 }
 

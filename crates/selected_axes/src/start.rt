@@ -11,7 +11,8 @@ ghost use Rattle.refinement.specs.Refit.{Same};
 ghost use Rattle.running_report.specs.Counted.{counts_of};
 ghost use Rattle.selected_axes.specs.First.{inner_knots};
 
-use fit::Fitted;
+use fit::Counts;
+use normal::Unsolved;
 use refinement::plan::Plan;
 use refinement::refit::Ended;
 use running_report::Report;
@@ -47,7 +48,7 @@ fn put_knots(work: &mut [f64], p: Plan, bent: bool) -> usize
 }
 
 // What a fit answered, as the end of a step whose report was at 0 and to which its rows are added.
-fn ended_of(f: Fitted) -> Ended
+fn ended_of(f: Result<Counts, Unsolved>) -> Ended
     ensures { (result.number ≡ (answer_of f).number) × (counts_of result.report ≡ add_rows (answer_of f).rows (counts 0 0 0)) }
 {
     let none = Report {
@@ -56,20 +57,12 @@ fn ended_of(f: Fitted) -> Ended
         intervals: 0,
     };
     match f {
-        Fitted::Done(k) => {
+        Ok(k) => {
             let report = running_report::after_fit(none, k.rows);
             Ended { number: 0, report }
         }
-        Fitted::BadDiagonal => Ended {
-            number: 9,
-            report: none,
-        },
-        Fitted::BadPivot => Ended {
-            number: 10,
-            report: none,
-        },
-        Fitted::BadSolution => Ended {
-            number: 11,
+        Err(e) => Ended {
+            number: e.number(),
             report: none,
         },
     }

@@ -1,10 +1,12 @@
 -- What the work slice is given, and what is taken from it.
-use Rattle.std.specs.Prelude.{ℕ, cond, List, [], eqb, take, Float}
+use Rattle.std.specs.Prelude.{ℕ, cond, List, [], eqb, take, Float, Result, Ok, Err}
 use Rattle.window.specs.Rows.{list_of}
 use Rattle.bspline.specs.Segments.{Polynomial}
+use Rattle.normal.specs.declared.Unsolved.{Unsolved}
+use Rattle.normal.specs.Solve.{refusal_number}
 use Rattle.request.specs.Parameters.{normalised_of}
 use Rattle.smoothing.specs.Answer.{Answer}
-use Rattle.smoothing.specs.Answer.Answer.{done}
+use Rattle.smoothing.specs.Answer.Answer.{done, refused}
 use Rattle.smoothing.specs.Rows.{Task, Units, task_of, gathered}
 use Rattle.smoothing.specs.Interpolate.{interpolate_of}
 use Rattle.interpolation.specs.Memory.{polynomial_in}
@@ -17,6 +19,11 @@ s_of parameters n = list_of n (normalised_of parameters n)
 abbrev pub other_in : ℕ → ℕ → ℕ → ℕ → List Float → Polynomial Float
 other_in n j room segments w =
     cond (eqb j 0) (record { breaks = []; coefficients = [] }) (polynomial_in (record { samples = n; axes = j; room = room }) segments w)
+
+-- the definition's answer of the other axes: their polynomial, or the refusal
+abbrev pub other_answer : ℕ → ℕ → ℕ → Result ℕ Unsolved → List Float → Answer (Polynomial Float)
+other_answer n j room (Ok segments) w = done (other_in n j room segments w)
+other_answer n j room (Err e) w = refused (refusal_number e)
 
 -- the first k of `axes` of n points of d rows, as handed in, and the first k tolerances
 abbrev pub units_from : ℕ → ℕ → List Float → ℕ → List ℕ → List Float → Units

@@ -1,16 +1,16 @@
 // The other axes.
-ghost use Rattle.std.specs.Prelude.{◌≡◌, ◌+◌, ◌*◌, ◌≤◌, ◌<◌, length};
+ghost use Rattle.std.specs.Prelude.{◌≡◌, ◌+◌, ◌*◌, ◌≤◌, ◌<◌, length, IfOk};
 ghost use Rattle.request.specs.declared.parameters.Spacing.TheVariants.{Listed};
 ghost use Rattle.request.specs.Parameters.{parameter_list};
-ghost use Rattle.smoothing.specs.Answer.{unless};
 ghost use Rattle.gathering.specs.Rows.{Below};
-ghost use Rattle.work_slice.specs.Rows.{other_in, other_from};
+ghost use Rattle.work_slice.specs.Rows.{other_answer, other_from};
 
-use interpolation::{Interpolated, Nodes};
+use interpolation::Nodes;
+use normal::Unsolved;
 use request::parameters::Spacing;
 
-// The other axes, j of them in `axes`, in a part of the work slice that is theirs: 9, 10, 11, or 0, and
-// how many segments they have.
+// The other axes, j of them in `axes`, in a part of the work slice that is theirs: 9, 10, 11, or how many
+// segments they have.
 pub fn interpolate_others(
     part: &mut [f64],
     room: usize,
@@ -21,20 +21,17 @@ pub fn interpolate_others(
     j: usize,
     spacing: Spacing,
     parameters: &[f64],
-) -> Interpolated
+) -> Result<usize, Unsolved>
     requires j_bound { (j ≤ 16) × (2 ≤ n) × (n ≤ 20000) × (n + 16 ≤ room) × (room ≤ 20016) × (10 * room + 8 * (room * j) ≤ length part.old)
         × (d ≤ 16) × (n * d ≤ length points.now) × Below axes.now j d }
     requires n_in_bounds { spacing ≡ Listed → n ≤ length parameters.now }
-    ensures part_after { unless result.number (other_in n j room result.segments part.new)
+    ensures part_after { other_answer n j room result part.new
         ≡ other_from n j (parameter_list spacing parameters.now points.now d n) points.now d
         axes.now }
-    ensures segments_lt_n { result.segments < n }
+    ensures segments_lt_n { IfOk result (λ segments. segments < n) }
 {
     if j == 0 {
-        return Interpolated {
-            number: 0,
-            segments: 0,
-        };
+        return Ok(0);
     }
     let y_end = room + n * j;
     gathering::put_parameters(&mut part[0..n], spacing, parameters, points, d);
