@@ -17,8 +17,8 @@ use Rattle.float.specs.Order.{min_of}
 use Rattle.arith.proofs.FloatOrder.{lt_not_le}
 use Rattle.arith.proofs.Runs.{whilst_ends}
 use Rattle.polynomial.specs.declared.piece.Piece.{Piece}
-use Rattle.polynomial.specs.declared.interval.AuditOutcome.{AuditOutcome}
-use Rattle.polynomial.specs.declared.interval.AuditOutcome.TheVariants.{Done}
+use Rattle.polynomial.specs.Outcome.{Outcome}
+use Rattle.polynomial.specs.Outcome.{Done}
 use Rattle.polynomial.specs.Span.{segments, passed, advanced}
 use Rattle.polynomial.specs.Outcome.{number_of, is_done}
 use Rattle.polynomial.specs.Interval.{Found, Interval, piece_at, all_finite, axis_turn, axes_of, Walk, ended_by, walk_turn, interval_of}
@@ -59,7 +59,7 @@ module _ (breaks : List Float) where
           ])
 
 -- ---- the audit
-abbrev Not12 : AuditOutcome → Type 0
+abbrev Not12 : Outcome → Type 0
 Not12 o = number_of o ≡ 12 → ⊥
 
 done_not_12 : Not12 Done

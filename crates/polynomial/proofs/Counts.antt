@@ -11,7 +11,7 @@ use Rattle.arith.specs.Loop.Step.{next, stop}
 use Rattle.arith.proofs.Loops.{Holds, till_done, till_holds, till_next, till_stop}
 use Rattle.arith.proofs.Loops.Holds.{goes, ends}
 use Rattle.window.specs.Cells.{at}
-use Rattle.polynomial.specs.declared.interval.AuditOutcome.TheVariants.{Done}
+use Rattle.polynomial.specs.Outcome.{Done}
 use Rattle.polynomial.specs.Span.{break_span}
 use Rattle.polynomial.specs.Outcome.{is_done}
 use Rattle.polynomial.specs.Interval.{Interval, interval_of}

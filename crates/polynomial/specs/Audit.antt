@@ -3,8 +3,8 @@ use Rattle.std.specs.Prelude.{ℕ, ◌+◌, ◌*◌, cond, List, set, Float}
 use Rattle.arith.specs.Loop.{each, till, Step}
 use Rattle.arith.specs.Loop.Step.{next, stop}
 use Rattle.window.specs.Cells.{at}
-use Rattle.polynomial.specs.declared.interval.AuditOutcome.{AuditOutcome}
-use Rattle.polynomial.specs.declared.interval.AuditOutcome.TheVariants.{Done}
+use Rattle.polynomial.specs.Outcome.{Outcome}
+use Rattle.polynomial.specs.Outcome.{Done}
 use Rattle.polynomial.specs.Span.{break_span}
 use Rattle.polynomial.specs.Outcome.{is_done}
 use Rattle.polynomial.specs.Interval.{interval_of}
@@ -15,7 +15,7 @@ pub record Audit : Type 0 where
   pub witness : List Float
   pub span : ℕ
   pub checked : ℕ
-  pub outcome : AuditOutcome
+  pub outcome : Outcome
 
 -- the first d of an interval's cells, from `row` on
 unfoldable pub bounds_with : ℕ → ℕ → List Float → List Float → List Float

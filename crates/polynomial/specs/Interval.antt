@@ -1,7 +1,7 @@
 -- One waypoint interval of the source's `audit`, step by step: the pieces that it has in common with the segments, on each piece the axes,
 -- and of each axis the six Bernstein coefficients of curve less line. `breaks` and `coefficients` are the curve, s the waypoints'
 -- parameters, y their coordinates, d axes each.
-use Rattle.std.specs.Prelude.{ℕ, ◌+◌, ◌*◌, Bool, true, ◌&&◌, cond, List, length, set, Float}
+use Rattle.std.specs.Prelude.{◌≡◌, ℕ, ◌+◌, ◌*◌, Bool, true, ◌&&◌, cond, List, length, set, Float, Result, Ok, Err}
 use Rattle.std.specs.Float.{binary64}
 use Rattle.std.specs.Float.Ieee.{of_bits, add, div, neg, lt, le}
 use Rattle.std.specs.Float.Ieee.Scale.{finite}
@@ -15,8 +15,10 @@ use Rattle.float.specs.Order.{max_of, min_of}
 use Rattle.float.specs.Power.{power_of}
 use Rattle.polynomial.specs.declared.piece.Piece.{Piece}
 use Rattle.polynomial.specs.declared.piece.Largest.{Largest}
-use Rattle.polynomial.specs.declared.interval.AuditOutcome.{AuditOutcome}
-use Rattle.polynomial.specs.declared.interval.AuditOutcome.TheVariants.{Done, NotAbove, NotFinite}
+use Rattle.polynomial.specs.Outcome.{Outcome}
+use Rattle.polynomial.specs.Outcome.{Done}
+use Rattle.polynomial.specs.declared.interval.Unaudited.{Unaudited}
+use Rattle.polynomial.specs.declared.interval.Unaudited.TheVariants.{NotAbove, NotFinite}
 use Rattle.polynomial.specs.declared.interval.Peak.{Peak}
 use Rattle.polynomial.specs.declared.interval.Ended.{Ended}
 use Rattle.polynomial.specs.Span.{advanced}
@@ -28,21 +30,30 @@ pub record Found : Type 0 where
   pub bounds : List Float
   pub peak : Float
   pub witness : Float
-  pub outcome : AuditOutcome
+  pub outcome : Outcome
 
 -- an audited interval: its bounds, an axis after the other, its witness, and the last segment that was used
 pub record Interval : Type 0 where
   pub bounds : List Float
   pub witness : Float
   pub span : ℕ
-  pub outcome : AuditOutcome
+  pub outcome : Outcome
 
 -- the two, where the bounds stand in a slice of their own
 abbrev pub found : List Float → Peak → Found
-found bounds f = record { bounds = bounds; peak = f.peak; witness = f.witness; outcome = f.outcome }
+found bounds f = record { bounds = bounds; peak = f.peak; witness = f.witness; outcome = Done }
 
 abbrev pub interval : List Float → Ended → Interval
-interval bounds r = record { bounds = bounds; witness = r.witness; span = r.span; outcome = r.outcome }
+interval bounds r = record { bounds = bounds; witness = r.witness; span = r.span; outcome = Done }
+
+-- what the code answers, with these bounds: the two, or why not
+abbrev pub Finds : List Float → Result Peak Unaudited → Found → Type 0
+Finds bounds (Ok f) x = found bounds f ≡ x
+Finds bounds (Err e) x = (bounds ≡ x.bounds) × (Err e ≡ x.outcome)
+
+abbrev pub Ends : List Float → Result Ended Unaudited → Interval → Type 0
+Ends bounds (Ok r) x = interval bounds r ≡ x
+Ends bounds (Err e) x = (bounds ≡ x.bounds) × (Err e ≡ x.outcome)
 
 -- the piece from left to right, in segment `span` and interval i, and its middle
 unfoldable pub piece_at : List Float → List Float → ℕ → ℕ → Float → Float → Piece
@@ -90,7 +101,7 @@ axis_turn coefficients y d first row q axis f =
     let l = each (largest_turn b q.middle) 0 6 (record { bound = at f.bounds axis; peak = f.peak; witness = f.witness }) in
     cond (all_finite b)
     (next (record { bounds = set f.bounds axis l.bound; peak = l.peak; witness = l.witness; outcome = f.outcome }))
-    (stop (record { bounds = f.bounds; peak = f.peak; witness = f.witness; outcome = NotFinite }))
+    (stop (record { bounds = f.bounds; peak = f.peak; witness = f.witness; outcome = Err NotFinite }))
 
 -- all axes on a piece
 unfoldable pub axes_of : List Float → List Float → ℕ → ℕ → ℕ → Piece → Found → Found
@@ -103,7 +114,7 @@ pub record Walk : Type 0 where
   pub found : Found
 
 -- the interval, where the walk ends
-unfoldable pub ended_by : AuditOutcome → ℕ → Found → Interval
+unfoldable pub ended_by : Outcome → ℕ → Found → Interval
 ended_by o span f = record { bounds = f.bounds; witness = f.witness; span = span; outcome = o }
 
 -- the next piece, from `left` on
@@ -114,7 +125,7 @@ walk_turn breaks coefficients s y d i _ w =
     let right = min_of end (at breaks (span + 1)) in
     let f = axes_of coefficients y d (span * d) (i * d) (piece_at breaks s i span w.left right) w.found in
     cond (lt w.left end)
-    (cond (le right w.left) (stop (ended_by NotAbove span w.found))
+    (cond (le right w.left) (stop (ended_by (Err NotAbove) span w.found))
     (cond (is_done f.outcome) (next (record { left = right; span = span; found = f })) (stop (ended_by f.outcome span f))))
     (stop (ended_by Done w.span w.found))
 

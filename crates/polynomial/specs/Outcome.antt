@@ -1,16 +1,26 @@
 -- How an audit ends.
-use Rattle.std.specs.Prelude.{ℕ, Bool, true, false}
-use Rattle.polynomial.specs.declared.interval.AuditOutcome.{AuditOutcome}
-use Rattle.polynomial.specs.declared.interval.AuditOutcome.TheVariants.{Done, NotAbove, NotFinite}
+use Rattle.std.specs.Prelude.{ℕ, Bool, true, false, ⊤, Result, Ok, Err}
+use Rattle.polynomial.specs.declared.interval.Unaudited.{Unaudited}
+use Rattle.polynomial.specs.declared.interval.Unaudited.TheVariants.{NotAbove, NotFinite}
 
--- document 01's number of a refusal; 0 is none
-abbrev pub number_of : AuditOutcome → ℕ
-number_of Done = 0
-number_of NotAbove = 12
-number_of NotFinite = 13
+-- nothing was refused, or why
+abbrev pub Outcome : Type 0
+Outcome = Result ⊤ Unaudited
+
+abbrev pub Done : Outcome
+Done = Ok tt
+
+-- document 01's number of a refusal
+abbrev pub refusal_number : Unaudited → ℕ
+refusal_number NotAbove = 12
+refusal_number NotFinite = 13
+
+-- the same of an outcome; 0 is none
+abbrev pub number_of : Outcome → ℕ
+number_of (Ok a) = 0
+number_of (Err e) = refusal_number e
 
 -- nothing was refused
-abbrev pub is_done : AuditOutcome → Bool
-is_done Done = true
-is_done NotAbove = false
-is_done NotFinite = false
+abbrev pub is_done : Outcome → Bool
+is_done (Ok a) = true
+is_done (Err e) = false

@@ -1,12 +1,12 @@
 // The audit of a range of waypoint intervals, over the parts of one lent slice.
-ghost use Rattle.std.specs.Prelude.{◌≡◌, ◌+◌, ◌-◌, ◌*◌, ◌≤◌, ◌<◌, length, set};
+ghost use Rattle.std.specs.Prelude.{◌≡◌, ◌+◌, ◌-◌, ◌*◌, ◌≤◌, ◌<◌, length, set, IfOk};
 ghost use Rattle.window.specs.Cells.{at};
 ghost use Rattle.polynomial.specs.Span.{break_span};
-ghost use Rattle.polynomial.specs.Interval.{interval};
+ghost use Rattle.polynomial.specs.Interval.{Ends};
 ghost use Rattle.polynomial.specs.Audit.{bounds_with};
 ghost use Rattle.polynomial.specs.Placed.{PartsLaid, breaks_at, parameters_at, bounds_at, witness_at, interval_at, audit_at, with_bounds};
 
-use crate::interval::{AuditOutcome, Ended};
+use crate::interval::{Ended, Unaudited};
 
 // Where a curve with `segments` segments of `axes` axes lies in a lent slice, its waypoints, of which
 // there are `samples`, and for each interval between two of them `axes` bounds and a witness.
@@ -26,7 +26,7 @@ pub struct Parts {
 // How the audit ended, and how many intervals it checked.
 #[derive(Clone, Copy)]
 pub struct Audited {
-    pub outcome: AuditOutcome,
+    pub outcome: Result<(), Unaudited>,
     pub checked: usize,
 }
 
@@ -41,9 +41,10 @@ fn span_at(work: &[f64], p: Parts, i: usize) -> usize
     crate::span::span(&work[b..e], work[s + i])
 }
 // Interval i of the curve at p, from segment `span` on; its bounds go to `bounds`.
-fn interval_at(bounds: &mut [f64], work: &[f64], p: Parts, i: usize, span: usize) -> Ended
+fn interval_at(bounds: &mut [f64], work: &[f64], p: Parts, i: usize, span: usize) -> Result<Ended, Unaudited>
     requires { (length bounds.old ≡ p.axes) × PartsLaid p (length work.now) × (i + 1 < p.samples) × (span < p.segments) }
-    ensures { (interval bounds.new result ≡ interval_at p i span work.now) × (result.span < p.segments) }
+    ensures ends { Ends bounds.new result (interval_at p i span work.now) }
+    ensures inside { IfOk result (λ ended. ended.span < p.segments) }
 {
     let d = p.axes;
     let b = p.breaks;
@@ -114,20 +115,23 @@ fn audit_with(work: &mut [f64], p: Parts, first: usize, last: usize, cells: &mut
 {
     let mut k = span_at(work, p, first);
     let mut checked = 0;
-    let mut i = first;
-    while i < last {
-        let r = interval_at(cells, work, p, i, k);
-        let outcome = r.outcome;
-        if !crate::interval::is_done(outcome) {
-            return Audited { outcome, checked };
+    for i in first..last {
+        match interval_at(cells, work, p, i, k) {
+            Ok(r) => {
+                put(work, p, i, cells, r.witness);
+                k = r.span;
+                checked += 1;
+            }
+            Err(e) => {
+                return Audited {
+                    outcome: Err(e),
+                    checked,
+                };
+            }
         }
-        put(work, p, i, cells, r.witness);
-        k = r.span;
-        checked += 1;
-        i += 1;
     }
     Audited {
-        outcome: AuditOutcome::Done,
+        outcome: Ok(()),
         checked,
     }
 }

@@ -1,18 +1,29 @@
 // One waypoint interval: the pieces that it has in common with the segments, one after the other.
-ghost use Rattle.std.specs.Prelude.{◌≡◌, ◌+◌, ◌-◌, ◌*◌, ◌≤◌, ◌<◌, length};
-ghost use Rattle.polynomial.specs.Outcome.{is_done};
-ghost use Rattle.polynomial.specs.Interval.{found, interval, piece_at, axes_of, interval_of};
+ghost use Rattle.std.specs.Prelude.{◌≡◌, ◌+◌, ◌-◌, ◌*◌, ◌≤◌, ◌<◌, length, IfOk};
+ghost use Rattle.polynomial.specs.Outcome.{refusal_number};
+ghost use Rattle.polynomial.specs.Interval.{Finds, Ends, found, piece_at, axes_of, interval_of};
 
 use crate::piece;
 use crate::piece::{Largest, Piece};
 
-// How an audit ends: it is done, the right end of a piece is not above the left (document 01's 12),
-// or a Bernstein coefficient is not finite (13).
-#[derive(Clone, Copy)]
-pub enum AuditOutcome {
-    Done,
+// Why an audit ends before its last interval: the right end of a piece is not above the left (document 01's
+// 12), or a Bernstein coefficient is not finite (13).
+#[derive(Clone, Copy, Debug, PartialEq, Eq)]
+pub enum Unaudited {
     NotAbove,
     NotFinite,
+}
+
+impl Unaudited {
+    // Document 01's number.
+    pub fn number(self) -> usize
+        ensures { result ≡ refusal_number self }
+    {
+        match self {
+            Unaudited::NotAbove => 12,
+            Unaudited::NotFinite => 13,
+        }
+    }
 }
 
 // What was found so far beside the bounds: the largest absolute coefficient of all axes, and the middle
@@ -21,26 +32,13 @@ pub enum AuditOutcome {
 pub struct Peak {
     pub peak: f64,
     pub witness: f64,
-    pub outcome: AuditOutcome,
 }
 
-// How an interval ended: its witness, and the last segment that was used.
+// An audited interval: its witness, and the last segment that was used.
 #[derive(Clone, Copy)]
 pub struct Ended {
     pub witness: f64,
     pub span: usize,
-    pub outcome: AuditOutcome,
-}
-
-// Whether nothing was refused.
-pub(crate) fn is_done(o: AuditOutcome) -> bool
-    ensures { result ≡ is_done o }
-{
-    match o {
-        AuditOutcome::Done => true,
-        AuditOutcome::NotAbove => false,
-        AuditOutcome::NotFinite => false,
-    }
 }
 
 // The piece from `left` to `right`, in segment `span` and interval i.
@@ -70,26 +68,19 @@ fn axes(
     row: usize,
     q: Piece,
     f: Peak,
-) -> Peak
+) -> Result<Peak, Unaudited>
     requires { (length bounds.old ≡ d) × (6 * (first + d) ≤ length coefficients.now) × (row + d + d ≤ length y.now) }
-    ensures { found bounds.new result ≡ axes_of coefficients.now y.now d first row q
-        (found bounds.old f) }
+    ensures { Finds bounds.new result (axes_of coefficients.now y.now d first row q (found bounds.old f)) }
 {
     let mut peak = f.peak;
     let mut witness = f.witness;
-    let outcome = f.outcome;
-    let mut axis = 0;
-    while axis < d {
+    for axis in 0..d {
         let from = 6 * (first + axis);
         let to = from + 6;
         let b = piece::error_form(&coefficients[from..to], y[row + axis], y[row + d + axis], q);
         let cells = b.cells;
         if !piece::all_finite(cells) {
-            return Peak {
-                peak,
-                witness,
-                outcome: AuditOutcome::NotFinite,
-            };
+            return Err(Unaudited::NotFinite);
         }
         let before = Largest {
             bound: bounds[axis],
@@ -100,13 +91,8 @@ fn axes(
         bounds[axis] = l.bound;
         peak = l.peak;
         witness = l.witness;
-        axis += 1;
     }
-    Peak {
-        peak,
-        witness,
-        outcome,
-    }
+    Ok(Peak { peak, witness })
 }
 
 // Interval i, from segment `span` on, where its witness was `before`. Its bounds go to `bounds`, which has
@@ -121,13 +107,12 @@ pub(crate) fn audit_interval(
     i: usize,
     span: usize,
     before: f64,
-) -> Ended
+) -> Result<Ended, Unaudited>
     requires { (length bounds.old ≡ d) × (span + 1 < length breaks.now)
         × ((length breaks.now - 1) * (6 * d) ≤ length coefficients.now)
         × (i + 1 < length s.now) × (i * d + d + d ≤ length y.now) }
-    ensures { (interval bounds.new result
-        ≡ interval_of breaks.now coefficients.now s.now y.now d i span before)
-        × (result.span + 1 < length breaks.now) }
+    ensures ends { Ends bounds.new result (interval_of breaks.now coefficients.now s.now y.now d i span before) }
+    ensures inside { IfOk result (λ ended. ended.span + 1 < length breaks.now) }
 {
     window::clear(bounds);
     let end = s[i + 1];
@@ -136,33 +121,19 @@ pub(crate) fn audit_interval(
     let mut f = Peak {
         peak: -1.0,
         witness: before,
-        outcome: AuditOutcome::Done,
     };
     while left < end {
         k = crate::span::advance(breaks, left, k);
         let right = float::min(end, breaks[k + 1]);
         if right <= left {
-            return Ended {
-                witness: f.witness,
-                span: k,
-                outcome: AuditOutcome::NotAbove,
-            };
+            return Err(Unaudited::NotAbove);
         }
         let q = place(breaks, s, i, k, left, right);
-        f = axes(bounds, coefficients, y, d, k * d, i * d, q, f);
-        let outcome = f.outcome;
-        if !is_done(outcome) {
-            return Ended {
-                witness: f.witness,
-                span: k,
-                outcome,
-            };
-        }
+        f = axes(bounds, coefficients, y, d, k * d, i * d, q, f)?;
         left = right;
     }
-    Ended {
+    Ok(Ended {
         witness: f.witness,
         span: k,
-        outcome: AuditOutcome::Done,
-    }
+    })
 }

@@ -6,7 +6,7 @@ use Prim.Native.Nat.{ℕ, ◌-◌, ◌≤◌, min}
 use native.Mathlib.Omega.{arith}
 use lib.Dec.{eqb}
 use lib.Ieee.{Float}
-use Rattle.polynomial.specs.declared.interval.AuditOutcome.{AuditOutcome}
+use Rattle.polynomial.specs.Outcome.{Outcome}
 use Rattle.polynomial.specs.Outcome as audits
 use Rattle.polynomial.specs.Audit.{Audit, audit_of}
 use Rattle.seed.specs.Regions.{range}
@@ -25,7 +25,7 @@ use Rattle.refinement.proofs.Refreshed.{fit_stale}
 
 -- ---- segments made anew, then the audit: the arrays were x, are x₁ with the segments and x₂ after the audit
 -- the audit against the stored polynomial is that of the state
-pub audit_is : (p : Plan) (x x₁ x₂ : Memory) (v : List Float) (left right number checked : ℕ) (o : AuditOutcome) (report : Counts)
+pub audit_is : (p : Plan) (x x₁ x₂ : Memory) (v : List Float) (left right number checked : ℕ) (o : Outcome) (report : Counts)
     → x₁ ≡ with_coefficients v x → Stored p x₁ → number ≡ audits.number_of o → o ≡ (audit_over p left right x₁).outcome
     → checked ≡ (audit_over p left right x₁).checked
     → x₂ ≡ with_bounds (audit_over p left right x₁).bounds (audit_over p left right x₁).witness x₁

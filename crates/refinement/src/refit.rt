@@ -15,7 +15,7 @@ use fit::Counts;
 use fitting_rows::Place;
 use normal::Unsolved;
 use polynomial::audit::{Audited, Parts};
-use polynomial::interval::AuditOutcome;
+use polynomial::interval::Unaudited;
 use running_report::Report;
 
 // What a refit did: document 01's number of the refusal, or 0; its rows, and its audited intervals.
@@ -53,13 +53,12 @@ fn down(a: usize, b: usize) -> usize
 }
 
 // Document 01's number of how an audit ended.
-pub fn number_of(o: AuditOutcome) -> usize
+pub fn number_of(o: Result<(), Unaudited>) -> usize
     ensures { result ≡ number_of o }
 {
     match o {
-        AuditOutcome::Done => 0,
-        AuditOutcome::NotAbove => 12,
-        AuditOutcome::NotFinite => 13,
+        Ok(()) => 0,
+        Err(e) => e.number(),
     }
 }
 

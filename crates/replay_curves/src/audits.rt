@@ -7,7 +7,7 @@ use listing::list::Head;
 use listing::output;
 use listing::output::Line;
 use polynomial::audit::Parts;
-use polynomial::interval::AuditOutcome;
+use polynomial::interval::Unaudited;
 
 // The parts of a case with d axes, n waypoints and m segments, in the order of `Parts`.
 fn layout(d: usize, n: usize, m: usize) -> Parts
@@ -46,18 +46,17 @@ fn arrange(cells: &[f64], work: &mut [f64], curve: usize) -> bool {
 }
 
 // The line of an audit: the bounds and the witnesses, which lie one after the other, or the number.
-fn line(outcome: AuditOutcome, list: &[f64], out: &mut [u8], at: usize) -> Line
+fn line(outcome: Result<(), Unaudited>, list: &[f64], out: &mut [u8], at: usize) -> Line
     ensures { result.good ≡ true }
 {
     let next = output::text(out, at, b"audit");
-    if let AuditOutcome::Done = outcome {
-        let next = output::cells(out, next, list, list.len());
-        return output::end(out, next);
+    match outcome {
+        Ok(()) => {
+            let next = output::cells(out, next, list, list.len());
+            output::end(out, next)
+        }
+        Err(e) => output::refused(out, next, e.number() as u64),
     }
-    if let AuditOutcome::NotAbove = outcome {
-        return output::refused(out, next, 12);
-    }
-    output::refused(out, next, 13)
 }
 
 // The audit of a case whose numbers are within their limits.

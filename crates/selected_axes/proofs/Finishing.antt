@@ -12,7 +12,7 @@ use Rattle.window.specs.Window.{window}
 use Rattle.window.specs.Cells.{at}
 use Rattle.window.specs.Rows.{list_of, table}
 use Rattle.window.proofs.Joined.{table_ap}
-use Rattle.polynomial.specs.declared.interval.AuditOutcome.{AuditOutcome}
+use Rattle.polynomial.specs.Outcome.{Outcome}
 use Rattle.polynomial.specs.Outcome as audits
 use Rattle.polynomial.specs.Audit.{Audit}
 use Rattle.smoothing.specs.Answer.{Answer, and_then, unless}
@@ -71,7 +71,7 @@ errors_are p w errors b r e h =
 
 -- ---- the answer
 -- x₁ is in physical units, and x₂ is audited
-pub record Audited (p : Plan) (u : Units) (x x₁ x₂ : Memory) (errors : List Float) (number checked : ℕ) (o : AuditOutcome) : Type 0 where
+pub record Audited (p : Plan) (u : Units) (x x₁ x₂ : Memory) (errors : List Float) (number checked : ℕ) (o : Outcome) : Type 0 where
   pub physical : x₁ ≡ physical_in p u x
   pub number_of : number ≡ audits.number_of o
   pub outcome : o ≡ (audit_over p 0 (p.samples - 1) x₁).outcome
@@ -79,7 +79,7 @@ pub record Audited (p : Plan) (u : Units) (x x₁ x₂ : Memory) (errors : List 
   pub after : x₂ ≡ with_bounds (audit_over p 0 (p.samples - 1) x₁).bounds (audit_over p 0 (p.samples - 1) x₁).witness x₁
   pub errors_is : take p.axes errors ≡ errors_of (task_in p x₂) x₂.bounds
 
-module _ {p : Plan} {u : Units} {x x₁ x₂ : Memory} {errors : List Float} {number checked : ℕ} {o : AuditOutcome}
+module _ {p : Plan} {u : Units} {x x₁ x₂ : Memory} {errors : List Float} {number checked : ℕ} {o : Outcome}
     (h : Audited p u x x₁ x₂ errors number checked o) (report : Counts) where
   abbrev A : Audit
   A = audit_over p 0 (p.samples - 1) (physical_in p u x)

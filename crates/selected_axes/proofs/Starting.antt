@@ -16,7 +16,7 @@ use Rattle.window.proofs.Parts.{read_seam}
 use Rattle.window.specs.Rows.{written}
 use Rattle.window.proofs.Written.{written_plain}
 use Rattle.fit.specs.Fit.{Fit, Answer}
-use Rattle.polynomial.specs.declared.interval.AuditOutcome.{AuditOutcome}
+use Rattle.polynomial.specs.Outcome.{Outcome}
 use Rattle.polynomial.specs.Outcome as audits
 use Rattle.seed.specs.Knots.{seed_of}
 use Rattle.smoothing.specs.Answer as answers
@@ -143,7 +143,7 @@ module _ (p : Plan) (x : Memory) where
   controls_changed x₁ c e = e ∙ ap (λ (l : List Float). with_controls l x) (sym (ap (λ (y : Memory). y.c) e))
 
   -- ---- the first audit
-  pub audit_made : (x₁ x₂ : Memory) (number checked : ℕ) (o : AuditOutcome) (report : Counts)
+  pub audit_made : (x₁ x₂ : Memory) (number checked : ℕ) (o : Outcome) (report : Counts)
       → x₁ ≡ with_polynomial (polynomial_in p.axes (spline_in p x)) x → number ≡ audits.number_of o
       → (o ≡ (audit_over p 0 (p.samples - 1) x₁).outcome) × (checked ≡ (audit_over p 0 (p.samples - 1) x₁).checked)
       → x₂ ≡ with_bounds (audit_over p 0 (p.samples - 1) x₁).bounds (audit_over p 0 (p.samples - 1) x₁).witness x₁

@@ -1,8 +1,10 @@
 -- The course of `build` up to the final scaling, walked once for every property: what its steps keep, and the refusals that they give.
+use Rattle.std.specs.Prelude.{Ok, Err}
 use Rattle.std.proofs.Common.{◌≡◌, ℕ, zero, suc, ◌-◌, ◌≤◌, min, false, eqb, ltb, List, [], ◌∷◌, sym, refl, ap, ◌∙◌, true≢false, arith}
 use lib.Ieee.{Float}
-use Rattle.polynomial.specs.declared.interval.AuditOutcome.{AuditOutcome}
-use Rattle.polynomial.specs.declared.interval.AuditOutcome.TheVariants.{Done, NotAbove, NotFinite}
+use Rattle.polynomial.specs.Outcome.{Outcome}
+use Rattle.polynomial.specs.Outcome.{Done}
+use Rattle.polynomial.specs.declared.interval.Unaudited.TheVariants.{NotAbove, NotFinite}
 use Rattle.polynomial.specs.Outcome as audits
 use Rattle.polynomial.specs.Audit.{Audit, audit_of}
 use Rattle.fitting_rows.specs.Arrays.{arrays}
@@ -107,10 +109,10 @@ module _ {P : ℕ → Type 0} {E : Type 0} (g : ℕ) (q : Task) (I : ℕ → Sta
       (gives_unless {I = λ s. Unit {0}} (audits.number_of a.outcome) _ (λ e. tt)
       (number a.outcome (rest.twelve left from to st h.0)))
     where
-      number : (o : AuditOutcome) → (audits.number_of o ≡ 12 → P 12) → eqb (audits.number_of o) 0 ≡ false → P (audits.number_of o)
-      number Done t e = absurd (true≢false e)
-      number NotAbove t e = t refl
-      number NotFinite t e = rest.thirteen
+      number : (o : Outcome) → (audits.number_of o ≡ 12 → P 12) → eqb (audits.number_of o) 0 ≡ false → P (audits.number_of o)
+      number (Ok a) t e = absurd (true≢false e)
+      number (Err NotAbove) t e = t refl
+      number (Err NotFinite) t e = rest.thirteen
 
   refit_gives : (left m : ℕ) (r : Range) (st : State) → Inner m r → Same left m st → Gives (Same left m) P E (refit_of q r st)
   unfolding refit_of

@@ -1,4 +1,5 @@
 -- Which numbers `build` refuses with.
+use Rattle.std.specs.Prelude.{Ok, Err}
 use Rattle.std.proofs.Common.{◌≡◌, ℕ, ◌+◌, ◌-◌, ◌<◌, ◌≤◌, Bool, true, false, cond, not, ◌&&◌, ◌||◌, T, eqb, leb, List, [], length, refl, ap, ◌∙◌, subst, true≢false, arith, leb→le, eq-eqb, ne_eqb, eqb-true, le-leb}
 use borrow.Author.Tests.{eqb-false}
 use lib.Ieee.{Float, lt}
@@ -6,8 +7,9 @@ use lib.Ieee.Fits.{and_l, and_r}
 use Rattle.request.specs.Parameters.{misplaced, unreliable}
 use Rattle.request.specs.Points.{unfit}
 use Rattle.bspline.specs.Segments.{Polynomial, polynomial_of}
-use Rattle.polynomial.specs.declared.interval.AuditOutcome.{AuditOutcome as Ending}
-use Rattle.polynomial.specs.declared.interval.AuditOutcome.TheVariants.{Done, NotAbove, NotFinite}
+use Rattle.polynomial.specs.Outcome.{Outcome as Ending}
+use Rattle.polynomial.specs.Outcome.{Done}
+use Rattle.polynomial.specs.declared.interval.Unaudited.TheVariants.{NotAbove, NotFinite}
 use Rattle.polynomial.specs.Outcome as audits
 use Rattle.polynomial.specs.Audit.{Audit, audit_of}
 use Rattle.polynomial.specs.Span.{segments}
@@ -54,9 +56,9 @@ finish_gives P E q u st twelve thirteen seventeen =
     (λ b k. gives_cond (excessive u.eps q.k (errors_of q a.bounds)) (refused 17) _ (λ e. refuses seventeen) (λ e. gives tt))
   where
     number : (o : Ending) → (audits.number_of o ≡ 12 → P 12) → eqb (audits.number_of o) 0 ≡ false → P (audits.number_of o)
-    number Done t e = absurd (true≢false e)
-    number NotAbove t e = t refl
-    number NotFinite t e = thirteen
+    number (Ok a) t e = absurd (true≢false e)
+    number (Err NotAbove) t e = t refl
+    number (Err NotFinite) t e = thirteen
 
 -- the other axes: 9, 10, 11
 other_gives : (P : ℕ → Type 0) (E : Type 0) → P 9 → P 10 → P 11 → (l : Lane) → Gives (λ x. Unit {0}) P E (other_of l)

@@ -1,4 +1,5 @@
 -- The report's counts: what a round adds to them, what all rounds add, and that in document 01's domain they stay far below 2^63.
+use Rattle.std.specs.Prelude.{Ok, Err}
 use Rattle.std.proofs.Common.{◌≡◌, ℕ, ◌+◌, ◌-◌, ◌*◌, ◌^◌, ◌<◌, ◌≤◌, Bool, true, false, cond, ltb, List, [], ◌∷◌, length, sym, refl, ap, ◌∙◌, subst, mul-le-mul_right, suc-mul, mul-le-mul, arith, ltb-false, eqb-true}
 use lib.Ieee.{Float}
 use Rattle.arith.proofs.Truth.{or_none}
@@ -8,8 +9,9 @@ use Rattle.seed.proofs.Windows.{regions_few}
 use Rattle.fitting_rows.specs.Arrays.{arrays}
 use Rattle.fit.specs.Fit.{rows_most}
 use Rattle.fit.proofs.RowCounts.{fit_rows}
-use Rattle.polynomial.specs.declared.interval.AuditOutcome.{AuditOutcome}
-use Rattle.polynomial.specs.declared.interval.AuditOutcome.TheVariants.{Done, NotAbove, NotFinite}
+use Rattle.polynomial.specs.Outcome.{Outcome}
+use Rattle.polynomial.specs.Outcome.{Done}
+use Rattle.polynomial.specs.declared.interval.Unaudited.TheVariants.{NotAbove, NotFinite}
 use Rattle.polynomial.specs.Outcome as audits
 use Rattle.polynomial.specs.Audit.{Audit}
 use Rattle.polynomial.proofs.Counts.{audit_counts}
@@ -40,10 +42,10 @@ adds_nothing {r} {i} {st} {st'} e =
     let p : Adds r i st st =
     record { rows = omega arith; intervals = omega arith; same_count = refl } in subst (λ (z : State). Adds r i st z) (done_same e) p
 
-is_done_law : (o : AuditOutcome) → audits.number_of o ≡ 0 → o ≡ Done
-is_done_law Done e = refl
-is_done_law NotAbove e = absurd (omega arith)
-is_done_law NotFinite e = absurd (omega arith)
+is_done_law : (o : Outcome) → audits.number_of o ≡ 0 → o ≡ Done
+is_done_law (Ok a) e = refl
+is_done_law (Err NotAbove) e = absurd (omega arith)
+is_done_law (Err NotFinite) e = absurd (omega arith)
 
 -- samples as the task has them, and at most c controls
 module _ (q : Task) (c : ℕ) (samples : length q.s ≡ q.n) where
