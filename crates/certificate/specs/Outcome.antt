@@ -1,9 +1,8 @@
 -- Document 01's number of each answer of the code, with its figure.
-use Rattle.std.specs.Prelude.{ℕ}
+use Rattle.std.specs.Prelude.{ℕ, Float, Option, Result, Ok, Err}
 use Rattle.figure.specs.Certify.{CertificateOutcome, outcome}
-use Rattle.figure.specs.Figure.{figure, no_figure}
-use Rattle.certificate.specs.declared.certify.Certificate.{Certificate}
-use Rattle.certificate.specs.declared.certify.Certificate.TheVariants as answers
+use Rattle.figure.specs.Figure.{no_figure}
+use Rattle.certificate.specs.Structs.{figure_in}
 use Rattle.certificate.specs.declared.certify.Refusal.{Refusal}
 use Rattle.certificate.specs.declared.certify.Refusal.TheVariants.{TooDeep, AboveDomain, PointCells, BadPoints, BadParameters, BadRange, Malformed, NotSelected}
 
@@ -19,7 +18,6 @@ refusal_number Malformed = 24
 refusal_number NotSelected = 3
 
 -- and of an answer, with its figure
-abbrev pub outcome_of : Certificate → CertificateOutcome
-outcome_of (answers.Figure x) = outcome 0 (figure x)
-outcome_of answers.None = outcome 0 no_figure
-outcome_of (answers.Refused r) = outcome (refusal_number r) no_figure
+abbrev pub outcome_of : Result (Option Float) Refusal → CertificateOutcome
+outcome_of (Ok f) = outcome 0 (figure_in f)
+outcome_of (Err r) = outcome (refusal_number r) no_figure

@@ -1,17 +1,15 @@
 -- What the code's structs and enums stand for.
-use Rattle.std.specs.Prelude.{ℕ, ◌<◌, false, List, ◌≡◌, get_or}
+use Rattle.std.specs.Prelude.{ℕ, ◌<◌, false, List, ◌≡◌, get_or, Float, Option, Some, None}
 use Rattle.std.specs.Float.{nan}
 use Rattle.fraction.specs.Pair as pairs
 use Rattle.figure.specs.Figure as figures
 use Rattle.figure.specs.Figure.{figure, no_figure}
 use Rattle.pairs.specs.Structs.{ends_of}
 use Rattle.pairs.specs.declared.ends.Ends.{Ends}
-use Rattle.certificate.specs.declared.intersection.Figure.{Figure}
-use Rattle.certificate.specs.declared.intersection.Figure.TheVariants.{Known, None}
 
 -- the figure, or none
-abbrev pub figure_in : Figure → figures.Figure
-figure_in (Known x) = figure x
+abbrev pub figure_in : Option Float → figures.Figure
+figure_in (Some x) = figure x
 figure_in None = no_figure
 
 -- the pair at j of an array

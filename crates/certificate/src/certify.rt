@@ -5,16 +5,14 @@ ghost use Rattle.curve.specs.Form.{slices};
 ghost use Rattle.figure.specs.Certify.{Certified, certify_of, outcome};
 ghost use Rattle.certificate.specs.Outcome.{outcome_of};
 ghost use Rattle.figure.specs.Figure.{figure};
-ghost use Rattle.certificate.specs.Structs.{figure_in};
 
-use crate::intersection::Figure;
 use crate::walk;
 use curve::{Curve, form, place};
 use request::parameters::Spacing;
 use request::{parameters, points};
 
 // Why a call is refused: 23, 18, 20, 1, 5, 6, 24, 3.
-#[derive(Clone, Copy)]
+#[derive(Clone, Copy, Debug, PartialEq, Eq)]
 pub enum Refusal {
     TooDeep,
     AboveDomain,
@@ -26,21 +24,23 @@ pub enum Refusal {
     NotSelected,
 }
 
-// A figure, or none; or a refusal.
-#[derive(Clone, Copy)]
-pub enum Certificate {
-    Figure(f64),
-    None,
-    Refused(Refusal),
-}
+impl Refusal {
+    ghost use Rattle.certificate.specs.Outcome.{refusal_number};
 
-// A figure or none, as an answer.
-fn answer(figure: Figure) -> Certificate
-    ensures { outcome_of result ≡ outcome 0 (figure_in figure) }
-{
-    match figure {
-        Figure::Known(x) => Certificate::Figure(x),
-        Figure::None => Certificate::None,
+    // Document 01's number of a refusal.
+    pub fn number(self) -> u64
+        ensures { result ≡ refusal_number self }
+    {
+        match self {
+            Refusal::TooDeep => 23,
+            Refusal::AboveDomain => 18,
+            Refusal::PointCells => 20,
+            Refusal::BadPoints => 1,
+            Refusal::BadParameters => 5,
+            Refusal::BadRange => 6,
+            Refusal::Malformed => 24,
+            Refusal::NotSelected => 3,
+        }
     }
 }
 
@@ -57,34 +57,34 @@ fn checked(
     parameters: &[f64],
     axis: usize,
     depth: usize,
-) -> Certificate
+) -> Result<Option<f64>, Refusal>
     ensures { outcome_of result ≡ certify_of curve (slices breaks.now coefficients.now other_breaks.now
         other_coefficients.now)
         points.now n spacing parameters.now axis depth }
 {
     if 6 < depth {
-        return Certificate::Refused(Refusal::TooDeep);
+        return Err(Refusal::TooDeep);
     }
     let d = curve.d;
     if 16 < d {
-        return Certificate::Refused(Refusal::AboveDomain);
+        return Err(Refusal::AboveDomain);
     }
     if 20000 < n {
-        return Certificate::Refused(Refusal::AboveDomain);
+        return Err(Refusal::AboveDomain);
     }
     if points.len() != d * n {
-        return Certificate::Refused(Refusal::PointCells);
+        return Err(Refusal::PointCells);
     }
     if points::unfit(d, n, points) {
-        return Certificate::Refused(Refusal::BadPoints);
+        return Err(Refusal::BadPoints);
     }
     let placement = parameters::placed(spacing, parameters, points, d, n);
     if placement.misplaced {
-        return Certificate::Refused(Refusal::BadParameters);
+        return Err(Refusal::BadParameters);
     }
     let range = placement.range;
     if parameters::unreliable(spacing, parameters, points, d, n, range) {
-        return Certificate::Refused(Refusal::BadRange);
+        return Err(Refusal::BadRange);
     }
     if !form::well_formed(
         curve,
@@ -93,15 +93,15 @@ fn checked(
         other_breaks,
         other_coefficients,
     ) {
-        return Certificate::Refused(Refusal::Malformed);
+        return Err(Refusal::Malformed);
     }
     let k = curve.k;
     let axes = curve.axes;
     let place = place::position(&axes, k, axis);
     if k <= place {
-        return Certificate::Refused(Refusal::NotSelected);
+        return Err(Refusal::NotSelected);
     }
-    answer(walk::walk(
+    Ok(walk::walk(
         breaks,
         coefficients,
         k,
@@ -132,7 +132,7 @@ pub fn certify(
     parameters: &[f64],
     axis: usize,
     depth: usize,
-) -> Certificate
+) -> Result<Option<f64>, Refusal>
     ensures result_value { outcome_of result ≡ certify_of curve (slices breaks.now coefficients.now other_breaks.now
         other_coefficients.now)
         points.now n spacing parameters.now axis depth }

@@ -10,7 +10,6 @@ ghost use Rattle.pairs.specs.Structs.{ends_of};
 ghost use Rattle.estimate.specs.Structs.{intersection_of};
 ghost use Rattle.certificate.specs.Structs.{Holds, figure_in, pair_at};
 
-use crate::intersection::{Figure, Six};
 use crate::{intersection, quick};
 use estimate::comparison;
 use estimate::intersection::Intersection;
@@ -20,8 +19,8 @@ use pairs::ends::Ends;
 // Both halves.
 #[derive(Clone, Copy)]
 struct Halves {
-    left: Six,
-    right: Six,
+    left: [Ends; 6],
+    right: [Ends; 6],
 }
 
 // "add, then divide by 2"
@@ -32,11 +31,10 @@ fn midpoint(x: Ends, y: Ends) -> Ends
 }
 
 // The edges of de Casteljau's triangle.
-fn halve(b: Six) -> Halves
-    ensures { Holds result.left.ends (left_half ends (pair_at b.ends))
-        × Holds result.right.ends (right_half ends (pair_at b.ends)) }
+fn halve(e: [Ends; 6]) -> Halves
+    ensures { Holds result.left (left_half ends (pair_at e))
+        × Holds result.right (right_half ends (pair_at e)) }
 {
-    let e = b.ends;
     let p01 = midpoint(e[0], e[1]);
     let p12 = midpoint(e[1], e[2]);
     let p23 = midpoint(e[2], e[3]);
@@ -53,44 +51,36 @@ fn halve(b: Six) -> Halves
     let p15 = midpoint(p14, p25);
     let p05 = midpoint(p04, p15);
     Halves {
-        left: Six {
-            ends: [e[0], p01, p02, p03, p04, p05],
-        },
-        right: Six {
-            ends: [p05, p15, p25, p35, p45, e[5]],
-        },
+        left: [e[0], p01, p02, p03, p04, p05],
+        right: [p05, p15, p25, p35, p45, e[5]],
     }
 }
 
 // The largest absolute end over the six.
-fn six_figure(b: Six) -> Figure
-    ensures { figure_in result ≡ six_figure (pair_at b.ends) }
+fn six_figure(b: [Ends; 6]) -> Option<f64>
+    ensures { figure_in result ≡ six_figure (pair_at b) }
 {
-    let mut f = Figure::Known(0.0);
-    let mut k = 0;
-    while k < 6 {
-        f = intersection::larger(f, intersection::absolute_end(b.ends[k]));
-        k += 1;
+    let mut f = Some(0.0);
+    for k in 0..6 {
+        f = intersection::larger(f, intersection::absolute_end(b[k]));
     }
     f
 }
 
 // The smaller of its own and that of its halves; its own, where they have none.
-fn smaller(own: Figure, halves: Figure) -> Figure
+fn smaller(own: Option<f64>, halves: Option<f64>) -> Option<f64>
     ensures { figure_in result ≡ smaller (figure_in own) (figure_in halves) }
 {
-    let Figure::Known(x) = own else {
-        return Figure::None;
-    };
-    let Figure::Known(y) = halves else {
-        return own;
-    };
-    Figure::Known(ends::lower(x, y))
+    let x = own?;
+    match halves {
+        Some(y) => Some(ends::lower(x, y)),
+        None => own,
+    }
 }
 
 // Its own figure at depth 0; above, with those of its halves, one less deep.
-fn halved_figure(depth: usize, b: Six) -> Figure
-    ensures { figure_in result ≡ halved_figure depth (pair_at b.ends) }
+fn halved_figure(depth: usize, b: [Ends; 6]) -> Option<f64>
+    ensures { figure_in result ≡ halved_figure depth (pair_at b) }
 {
     let own = six_figure(b);
     if depth == 0 {
@@ -105,17 +95,17 @@ fn halved_figure(depth: usize, b: Six) -> Figure
 }
 
 // The figure of an intersection at depth 0: in spreads, or in pairs of ends where that says nothing.
-fn own_figure(x: Intersection) -> Figure
+fn own_figure(x: Intersection) -> Option<f64>
     ensures { figure_in result ≡ six_figure (difference_bernstein ends (intersection_of x)) }
 {
-    let Figure::Known(most) = quick::quick_figure(x) else {
-        return six_figure(intersection::bernstein_pairs(x));
-    };
-    Figure::Known(most)
+    match quick::quick_figure(x) {
+        Some(most) => Some(most),
+        None => six_figure(intersection::bernstein_pairs(x)),
+    }
 }
 
 // The figure with a depth, from that at depth 0.
-fn deep_figure(depth: usize, x: Intersection, own: Figure) -> Figure
+fn deep_figure(depth: usize, x: Intersection, own: Option<f64>) -> Option<f64>
     requires { figure_in own ≡ six_figure (difference_bernstein ends (intersection_of x)) }
     ensures { figure_in result ≡ intersection_figure depth (intersection_of x) }
 {
@@ -127,30 +117,21 @@ fn deep_figure(depth: usize, x: Intersection, own: Figure) -> Figure
 
 // The largest so far with the figure of an intersection, computed. Where its own is not above the largest so
 // far, no depth makes a difference, and it is not halved.
-fn with_computed(depth: usize, x: Intersection, so_far: Figure) -> Figure
+fn with_computed(depth: usize, x: Intersection, so_far: Option<f64>) -> Option<f64>
     ensures { figure_in result ≡ larger (figure_in so_far) (intersection_figure depth (intersection_of x)) }
 {
     let own = own_figure(x);
-    let Figure::Known(largest) = so_far else {
-        return Figure::None;
-    };
-    let Figure::Known(most) = own else {
-        return Figure::None;
-    };
-    if largest < most {
+    if so_far? < own? {
         return intersection::larger(so_far, deep_figure(depth, x, own));
     }
     so_far
 }
 
 // The same. Where an estimate tells that the figure is not above the largest so far, it is not computed.
-pub(crate) fn with_figure(depth: usize, x: Intersection, so_far: Figure) -> Figure
+pub(crate) fn with_figure(depth: usize, x: Intersection, so_far: Option<f64>) -> Option<f64>
     ensures { figure_in result ≡ larger (figure_in so_far) (intersection_figure depth (intersection_of x)) }
 {
-    let Figure::Known(largest) = so_far else {
-        return Figure::None;
-    };
-    if comparison::not_above(x, largest) {
+    if comparison::not_above(x, so_far?) {
         return so_far;
     }
     with_computed(depth, x, so_far)

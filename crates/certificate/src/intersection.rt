@@ -17,46 +17,22 @@ use estimate::intersection::Intersection;
 use pairs::ends;
 use pairs::ends::Ends;
 
-// A figure, or none.
-#[derive(Clone, Copy)]
-pub enum Figure {
-    Known(f64),
-    None,
-}
-
-// The powers of curve minus line.
-#[derive(Clone, Copy)]
-struct Powers {
-    ends: [Ends; 6],
-}
-
-// Six Bernstein coefficients of curve minus line: on an intersection, or on a part of it.
-#[derive(Clone, Copy)]
-pub struct Six {
-    pub ends: [Ends; 6],
-}
-
-// The larger of two; none, where one is none.
-pub fn larger(x: Figure, y: Figure) -> Figure
+// The larger of two figures; none, where one is none.
+pub fn larger(x: Option<f64>, y: Option<f64>) -> Option<f64>
     ensures { figure_in result ≡ larger (figure_in x) (figure_in y) }
 {
-    let Figure::Known(a) = x else {
-        return Figure::None;
-    };
-    let Figure::Known(b) = y else {
-        return Figure::None;
-    };
-    Figure::Known(ends::higher(a, b))
+    Some(ends::higher(x?, y?))
 }
 
 // The largest absolute end of a pair.
-pub(crate) fn absolute_end(e: Ends) -> Figure
+pub(crate) fn absolute_end(e: Ends) -> Option<f64>
     ensures { figure_in result ≡ absolute_end (ends_of e) }
 {
     if e.good {
-        return Figure::Known(ends::largest_end(e));
+        Some(ends::largest_end(e))
+    } else {
+        None
     }
-    Figure::None
 }
 
 // a - b, of two numbers that are read.
@@ -98,8 +74,8 @@ fn line_rise(x: Intersection) -> Ends
 }
 
 // u^0 .. u^5: "Powers multiply up from 1".
-fn powers_of(u: Ends) -> Powers
-    ensures { Holds result.ends (raised ends (ends_of u)) }
+fn powers_of(u: Ends) -> [Ends; 6]
+    ensures { Holds result (raised ends (ends_of u)) }
 {
     let u0 = ends::both(1.0);
     let u1 = ends::multiply(u0, u);
@@ -107,9 +83,7 @@ fn powers_of(u: Ends) -> Powers
     let u3 = ends::multiply(u2, u);
     let u4 = ends::multiply(u3, u);
     let u5 = ends::multiply(u4, u);
-    Powers {
-        ends: [u0, u1, u2, u3, u4, u5],
-    }
+    [u0, u1, u2, u3, u4, u5]
 }
 
 // c·p·u.
@@ -121,44 +95,39 @@ fn term(c: f64, p: f64, u: Ends) -> Ends
 
 // Power j: the sum of the terms from k = j on, times w, which is w^j. u holds the powers of u, c the
 // binomials C(0, j) .. C(5, j): a table of all would be written anew at every reading.
-fn power(p: [f64; 6], u: Powers, c: [f64; 6], w: Ends, j: usize) -> Ends
+fn power(p: [f64; 6], u: [Ends; 6], c: [f64; 6], w: Ends, j: usize) -> Ends
     requires { (j < 6) × ((k : ℕ) → k < 6 → at c k ≡ round binary64 false (choose k j) 1) }
     ensures { ends_of result ≡ ends.times (total ends j (6 - j) (λ k. ends.times (ends.times (ends.whole (choose k j))
-        (ends.number (at p k))) (pair_at u.ends (k - j)))) (ends_of w) }
+        (ends.number (at p k))) (pair_at u (k - j)))) (ends_of w) }
 {
     let mut sum = ends::both(0.0);
-    let mut k = j;
-    while k < 6 {
-        sum = ends::add(sum, term(c[k], p[k], u.ends[k - j]));
-        k += 1;
+    for k in j..6 {
+        sum = ends::add(sum, term(c[k], p[k], u[k - j]));
     }
     ends::multiply(sum, w)
 }
 
 // The powers of curve minus line.
-fn difference_powers(x: Intersection) -> Powers
-    ensures { Holds result.ends (difference_power ends (intersection_of x)) }
+fn difference_powers(x: Intersection) -> [Ends; 6]
+    ensures { Holds result (difference_power ends (intersection_of x)) }
 {
     let p = x.coefficients;
     let u = powers_of(offset(x));
-    let ws = powers_of(scale(x));
-    let w = ws.ends;
+    let w = powers_of(scale(x));
     let c0 = [1., 1., 1., 1., 1., 1.];
     let c1 = [0., 1., 2., 3., 4., 5.];
     let c2 = [0., 0., 1., 3., 6., 10.];
     let c3 = [0., 0., 0., 1., 4., 10.];
     let c4 = [0., 0., 0., 0., 1., 5.];
     let c5 = [0., 0., 0., 0., 0., 1.];
-    Powers {
-        ends: [
-            ends::subtract(power(p, u, c0, w[0], 0), line_at_left(x)),
-            ends::subtract(power(p, u, c1, w[1], 1), line_rise(x)),
-            power(p, u, c2, w[2], 2),
-            power(p, u, c3, w[3], 3),
-            power(p, u, c4, w[4], 4),
-            power(p, u, c5, w[5], 5),
-        ],
-    }
+    [
+        ends::subtract(power(p, u, c0, w[0], 0), line_at_left(x)),
+        ends::subtract(power(p, u, c1, w[1], 1), line_rise(x)),
+        power(p, u, c2, w[2], 2),
+        power(p, u, c3, w[3], 3),
+        power(p, u, c4, w[4], 4),
+        power(p, u, c5, w[5], 5),
+    ]
 }
 
 // Bernstein coefficient 0 of power 0. The sums of the others begin with it too: C(k, 0) is 1.
@@ -169,42 +138,38 @@ fn first(p: Ends) -> Ends
     ends::add(ends::both(0.0), ends::divide_by(c, 1.0))
 }
 
-// Bernstein coefficient k: the sum over j up to k of power typeof.j.C(k, j)/C(5, j), from j = 1 on. c holds the
+// Bernstein coefficient k: the sum over j up to k of power j·C(k, j)/C(5, j), from j = 1 on. c holds the
 // binomials C(k, 0) .. C(k, 5), d those of 5.
-fn bernstein(q: Powers, c: [f64; 6], d: [f64; 6], first: Ends, k: usize) -> Ends
-    requires { (k < 6) × (ends_of first ≡ bernstein ends (pair_at q.ends) 0)
+fn bernstein(q: [Ends; 6], c: [f64; 6], d: [f64; 6], first: Ends, k: usize) -> Ends
+    requires { (k < 6) × (ends_of first ≡ bernstein ends (pair_at q) 0)
         × ((j : ℕ) → j < 6 → at c j ≡ round binary64 false (choose k j) 1) × ((j : ℕ) → j < 6 → at d j ≡ round binary64 false (choose 5 j) 1) }
-    ensures { ends_of result ≡ bernstein ends (pair_at q.ends) k }
+    ensures { ends_of result ≡ bernstein ends (pair_at q) k }
 {
     let mut sum = first;
-    let mut j = 1;
-    while j < k + 1 {
-        let part = ends::multiply_by(q.ends[j], c[j]);
+    for j in 1..k + 1 {
+        let part = ends::multiply_by(q[j], c[j]);
         sum = ends::add(sum, ends::divide_by(part, d[j]));
-        j += 1;
     }
     sum
 }
 
 // The six Bernstein coefficients of curve minus line.
-pub(crate) fn bernstein_pairs(x: Intersection) -> Six
-    ensures { Holds result.ends (difference_bernstein ends (intersection_of x)) }
+pub(crate) fn bernstein_pairs(x: Intersection) -> [Ends; 6]
+    ensures { Holds result (difference_bernstein ends (intersection_of x)) }
 {
     let q = difference_powers(x);
-    let b = first(q.ends[0]);
+    let b = first(q[0]);
     let c1 = [1., 1., 0., 0., 0., 0.];
     let c2 = [1., 2., 1., 0., 0., 0.];
     let c3 = [1., 3., 3., 1., 0., 0.];
     let c4 = [1., 4., 6., 4., 1., 0.];
     let c5 = [1., 5., 10., 10., 5., 1.];
-    Six {
-        ends: [
-            b,
-            bernstein(q, c1, c5, b, 1),
-            bernstein(q, c2, c5, b, 2),
-            bernstein(q, c3, c5, b, 3),
-            bernstein(q, c4, c5, b, 4),
-            bernstein(q, c5, c5, b, 5),
-        ],
-    }
+    [
+        b,
+        bernstein(q, c1, c5, b, 1),
+        bernstein(q, c2, c5, b, 2),
+        bernstein(q, c3, c5, b, 3),
+        bernstein(q, c4, c5, b, 4),
+        bernstein(q, c5, c5, b, 5),
+    ]
 }

@@ -14,7 +14,6 @@ ghost use Rattle.certificate.specs.Quick.{Divisible, LengthsStand, Moderate, Nea
 ghost use Rattle.estimate.specs.Structs.{intersection_of};
 ghost use Rattle.certificate.specs.Structs.{figure_in};
 
-use crate::intersection::Figure;
 use estimate::intersection::Intersection;
 use estimate::sizes;
 use pairs::spread::Spread;
@@ -262,37 +261,27 @@ fn row_figure(q: Row) -> f64
     largest(most_4, row_5(b, q))
 }
 
-// Whether each parameter is at most 2 in size.
+// Whether each parameter is at most 2 in size. Here and below the tests are joined by `&`: none waits for
+// another, and there is no branch.
 fn parameters_within(x: Intersection) -> bool
     ensures { result ≡ true → NearParameters (intersection_of x) }
 {
-    if sizes::within(x.start, 2.0) {
-        if sizes::within(x.end, 2.0) {
-            if sizes::within(x.left, 2.0) {
-                if sizes::within(x.right, 2.0) {
-                    if sizes::within(x.from, 2.0) {
-                        return sizes::within(x.to, 2.0);
-                    }
-                }
-            }
-        }
-    }
-    false
+    sizes::within(x.start, 2.0)
+        & sizes::within(x.end, 2.0)
+        & sizes::within(x.left, 2.0)
+        & sizes::within(x.right, 2.0)
+        & sizes::within(x.from, 2.0)
+        & sizes::within(x.to, 2.0)
 }
 
 // Whether the numbers are moderate: the parameters at most 2 in size, coefficients and waypoints 2^100.
 fn moderate(x: Intersection) -> bool
     ensures { result ≡ true → Moderate (intersection_of x) }
 {
-    let p = x.coefficients;
-    if parameters_within(x) {
-        if sizes::within(x.first, 1.2676506002282294e30) {
-            if sizes::within(x.second, 1.2676506002282294e30) {
-                return sizes::six_within(p);
-            }
-        }
-    }
-    false
+    parameters_within(x)
+        & sizes::within(x.first, 1.2676506002282294e30)
+        & sizes::within(x.second, 1.2676506002282294e30)
+        & sizes::six_within(x.coefficients)
 }
 
 // a - b, of two numbers that are read.
@@ -334,21 +323,11 @@ fn lengths_of(x: Intersection) -> Lengths
 fn divisible(l: Lengths) -> bool
     ensures { result ≡ true → Divisible l }
 {
-    let segment = l.segment;
-    let interval = l.interval;
-    let before = l.before;
-    let part = l.part;
-    let since = l.since;
-    if segment.below <= -8.673617379884035e-19 {
-        if interval.below <= -8.673617379884035e-19 {
-            if before.below <= 0.0 {
-                if part.below <= 0.0 {
-                    return since.below <= 0.0;
-                }
-            }
-        }
-    }
-    false
+    (l.segment.below <= -8.673617379884035e-19)
+        & (l.interval.below <= -8.673617379884035e-19)
+        & (l.before.below <= 0.0)
+        & (l.part.below <= 0.0)
+        & (l.since.below <= 0.0)
 }
 
 // What power 0 and power 1 lose.
@@ -410,14 +389,11 @@ fn figure_of(x: Intersection, l: Lengths, good: bool) -> f64
 
 // The figure of an intersection at depth 0; or none, where its numbers are not moderate, or its intervals
 // too short: nothing is known then.
-pub(crate) fn quick_figure(x: Intersection) -> Figure
+pub(crate) fn quick_figure(x: Intersection) -> Option<f64>
     ensures { (v : Float) → figure_in result ≡ figure v → six_figure (formula.difference_bernstein ends (intersection_of x)) ≡ figure v }
 {
     let l = lengths_of(x);
-    let good = ends::and(moderate(x), divisible(l));
+    let good = moderate(x) & divisible(l);
     let f = figure_of(x, l, good);
-    if good {
-        return Figure::Known(f);
-    }
-    Figure::None
+    if good { Some(f) } else { None }
 }

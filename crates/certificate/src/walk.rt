@@ -13,7 +13,6 @@ ghost use Rattle.estimate.specs.Structs.{intersection_of};
 ghost use Rattle.certificate.specs.Structs.{figure_in};
 
 use crate::halving;
-use crate::intersection::Figure;
 use estimate::intersection::Intersection;
 use pairs::ends;
 use request::parameters;
@@ -68,7 +67,7 @@ fn intersect(
 }
 
 // The largest so far with that of an intersection, if "left below right".
-fn with_intersection(depth: usize, x: Intersection, so_far: Figure) -> Figure
+fn with_intersection(depth: usize, x: Intersection, so_far: Option<f64>) -> Option<f64>
     ensures { figure_in result ≡ cond (lt x.left x.right) (larger (figure_in so_far) (intersection_figure depth (intersection_of x)))
         (figure_in so_far) }
 {
@@ -92,7 +91,7 @@ pub(crate) fn walk(
     parameters: &[f64],
     range: f64,
     depth: usize,
-) -> Figure
+) -> Option<f64>
     requires place_lt_k { (place < k) × (k ≤ 16) × (2 ≤ length breaks.now) × (length breaks.now ≤ 20001)
         × (6 * ((length breaks.now - 1) * k) ≤ length coefficients.now)
         × (axis < d) × (d ≤ 16) × (2 ≤ n) × (n ≤ 20000) × (length points.now ≡ d * n) × (spacing ≡ Listed → length parameters.now ≡ n) }
@@ -102,7 +101,7 @@ pub(crate) fn walk(
     ensures { figure_in result ≡ figure_of depth (axis_of breaks.now coefficients.now k place points.now d
         axis n spacing parameters.now) }
 {
-    let mut so_far = Figure::Known(0.0);
+    let mut so_far = Some(0.0);
     let mut i = 0;
     let mut m = 0;
     let start = parameters::first(spacing, parameters, n);

@@ -1,7 +1,7 @@
 -- Where the largest Bernstein coefficient in plain floats, with 2^-38 of the numbers' size, is at most s, the figure of the pairs is
 -- not above s: both are close to the exact coefficients.
 use mathlib.Core.Bool.{Bool, false, true, true≢false}
-use mathlib.Core.List.{[], ◌∷◌}
+use mathlib.Core.List.{List, [], ◌∷◌}
 use mathlib.Core.Path.{◌∙◌, ◌≡◌, ap, refl, subst, sym}
 use Prim.Native.Nat.{◌<◌, ℕ}
 use native.Mathlib.Omega.{arith}
@@ -10,7 +10,7 @@ use lib.Ieee.{Float, add, binary64, eq, fin, fits, inf, le, lt, mul, nan, neg, o
 use lib.Ieee.Fits.{neg-fits}
 use lib.Ieee.Scale.{finite}
 use lib.IntN.{pos}
-use Rattle.window.specs.Cells.{+0}
+use Rattle.window.specs.Cells.{+0, at}
 use Rattle.fraction.specs.Order.{le_one, le_two}
 use Rattle.fraction.specs.Pair.{Ends, highest, largest_absolute}
 use Rattle.fraction.specs.Rational.{◌*q◌, ◌+q◌, ◌-q◌, ◌<q◌, ◌≤q◌, at_mostq, negq, ℚ, 𝟘}
@@ -32,7 +32,6 @@ use Rattle.pairs.proofs.Numbers.{le_value, twice}
 use Rattle.pairs.proofs.Spreading.{zero_value}
 use Rattle.estimate.specs.Measure.{NotAbove}
 use Rattle.estimate.specs.Plain.{SixAre, larger_size, largest_size, plain}
-use Rattle.estimate.specs.declared.plain.Six.{Six}
 use Rattle.estimate.proofs.Close.{Close, ClosePair, ends_approximate, plain_approximates}
 use Rattle.estimate.proofs.Formula.{Measured, bernstein_close}
 use Rattle.estimate.proofs.Largest.{absolute_below, highest_either, six_largest}
@@ -122,7 +121,7 @@ module _ (L : ℚ) (positive : 𝟘 ≤q L) (p : ℕ → Ends) where
       )
 
 -- ---- the law
-module _ (x : Intersection) (m : Float) (F : Number 100 m) (D : Measured x (value m)) (b : Six) (B : SixAre (difference_bernstein plain x) b)
+module _ (x : Intersection) (m : Float) (F : Number 100 m) (D : Measured x (value m)) (b : List Float) (B : SixAre (difference_bernstein plain x) b)
   where
     abbrev M : ℚ
     M = value m
@@ -172,103 +171,103 @@ module _ (x : Intersection) (m : Float) (F : Number 100 m) (D : Measured x (valu
     }
 
     -- the largest of them
-    plain_0 : Plain b.zero
-    plain_0 = plain_is 0 (omega arith) b.zero B.0
+    plain_0 : Plain (at b 0)
+    plain_0 = plain_is 0 (omega arith) (at b 0) B.0
 
-    plain_1 : Plain b.one
-    plain_1 = plain_is 1 (omega arith) b.one B.1
+    plain_1 : Plain (at b 1)
+    plain_1 = plain_is 1 (omega arith) (at b 1) B.1
 
-    plain_2 : Plain b.two
-    plain_2 = plain_is 2 (omega arith) b.two B.2
+    plain_2 : Plain (at b 2)
+    plain_2 = plain_is 2 (omega arith) (at b 2) B.2
 
-    plain_3 : Plain b.three
-    plain_3 = plain_is 3 (omega arith) b.three B.3
+    plain_3 : Plain (at b 3)
+    plain_3 = plain_is 3 (omega arith) (at b 3) B.3
 
-    plain_4 : Plain b.four
-    plain_4 = plain_is 4 (omega arith) b.four B.4
+    plain_4 : Plain (at b 4)
+    plain_4 = plain_is 4 (omega arith) (at b 4) B.4
 
-    plain_5 : Plain b.five
-    plain_5 = plain_is 5 (omega arith) b.five B.5
+    plain_5 : Plain (at b 5)
+    plain_5 = plain_is 5 (omega arith) (at b 5) B.5
 
     abbrev l0 : Float
-    l0 = highest b.zero (neg b.zero)
+    l0 = highest (at b 0) (neg (at b 0))
 
     largest_0 : Plain l0
-    largest_0 = highest_either Plain b.zero (neg b.zero) plain_0 (turned_is b.zero plain_0)
+    largest_0 = highest_either Plain (at b 0) (neg (at b 0)) plain_0 (turned_is (at b 0) plain_0)
 
-    first_size : Size (value l0) (value b.zero)
+    first_size : Size (value l0) (value (at b 0))
     first_size =
-        let H = highest_is b.zero (neg b.zero) plain_0.is_finite (neg_finite b.zero plain_0.is_finite) in (
-          subst (λ (z : ℚ). negq (value l0) ≤q z) (twice (value b.zero)) (≤q-negated _ _ (subst (λ (z : ℚ). z ≤q value l0)
-              (value_neg b.zero plain_0.is_finite) H.second)),
+        let H = highest_is (at b 0) (neg (at b 0)) plain_0.is_finite (neg_finite (at b 0) plain_0.is_finite) in (
+          subst (λ (z : ℚ). negq (value l0) ≤q z) (twice (value (at b 0))) (≤q-negated _ _ (subst (λ (z : ℚ). z ≤q value l0)
+              (value_neg (at b 0) plain_0.is_finite) H.second)),
           H.first,
         )
 
     abbrev l1 : Float
-    l1 = larger_size l0 b.one
+    l1 = larger_size l0 (at b 1)
 
     largest_1 : Plain l1
-    largest_1 = larger_either Plain l0 b.one largest_0 plain_1 (turned_is b.one plain_1)
+    largest_1 = larger_either Plain l0 (at b 1) largest_0 plain_1 (turned_is (at b 1) plain_1)
 
     abbrev l2 : Float
-    l2 = larger_size l1 b.two
+    l2 = larger_size l1 (at b 2)
 
     largest_2 : Plain l2
-    largest_2 = larger_either Plain l1 b.two largest_1 plain_2 (turned_is b.two plain_2)
+    largest_2 = larger_either Plain l1 (at b 2) largest_1 plain_2 (turned_is (at b 2) plain_2)
 
     abbrev l3 : Float
-    l3 = larger_size l2 b.three
+    l3 = larger_size l2 (at b 3)
 
     largest_3 : Plain l3
-    largest_3 = larger_either Plain l2 b.three largest_2 plain_3 (turned_is b.three plain_3)
+    largest_3 = larger_either Plain l2 (at b 3) largest_2 plain_3 (turned_is (at b 3) plain_3)
 
     abbrev l4 : Float
-    l4 = larger_size l3 b.four
+    l4 = larger_size l3 (at b 4)
 
     largest_4 : Plain l4
-    largest_4 = larger_either Plain l3 b.four largest_3 plain_4 (turned_is b.four plain_4)
+    largest_4 = larger_either Plain l3 (at b 4) largest_3 plain_4 (turned_is (at b 4) plain_4)
 
     abbrev l5 : Float
-    l5 = larger_size l4 b.five
+    l5 = larger_size l4 (at b 5)
 
     largest_5 : Plain l5
-    largest_5 = larger_either Plain l4 b.five largest_4 plain_5 (turned_is b.five plain_5)
+    largest_5 = larger_either Plain l4 (at b 5) largest_4 plain_5 (turned_is (at b 5) plain_5)
 
     up_5 : value l5 ≤q value l5
     up_5 = ≤q-refl (value l5)
 
     up_4 : value l4 ≤q value l5
-    up_4 = ≤q-trans _ _ _ (larger_first l4 b.five largest_4.is_finite plain_5.is_finite) up_5
+    up_4 = ≤q-trans _ _ _ (larger_first l4 (at b 5) largest_4.is_finite plain_5.is_finite) up_5
 
     up_3 : value l3 ≤q value l5
-    up_3 = ≤q-trans _ _ _ (larger_first l3 b.four largest_3.is_finite plain_4.is_finite) up_4
+    up_3 = ≤q-trans _ _ _ (larger_first l3 (at b 4) largest_3.is_finite plain_4.is_finite) up_4
 
     up_2 : value l2 ≤q value l5
-    up_2 = ≤q-trans _ _ _ (larger_first l2 b.three largest_2.is_finite plain_3.is_finite) up_3
+    up_2 = ≤q-trans _ _ _ (larger_first l2 (at b 3) largest_2.is_finite plain_3.is_finite) up_3
 
     up_1 : value l1 ≤q value l5
-    up_1 = ≤q-trans _ _ _ (larger_first l1 b.two largest_1.is_finite plain_2.is_finite) up_2
+    up_1 = ≤q-trans _ _ _ (larger_first l1 (at b 2) largest_1.is_finite plain_2.is_finite) up_2
 
     up_0 : value l0 ≤q value l5
-    up_0 = ≤q-trans _ _ _ (larger_first l0 b.one largest_0.is_finite plain_1.is_finite) up_1
+    up_0 = ≤q-trans _ _ _ (larger_first l0 (at b 1) largest_0.is_finite plain_1.is_finite) up_1
 
-    in_largest_0 : Size (value l5) (value b.zero)
+    in_largest_0 : Size (value l5) (value (at b 0))
     in_largest_0 = size_wider _ _ _ up_0 first_size
 
-    in_largest_1 : Size (value l5) (value b.one)
-    in_largest_1 = size_wider _ _ _ up_1 (larger_second l0 b.one largest_0.is_finite plain_1.is_finite)
+    in_largest_1 : Size (value l5) (value (at b 1))
+    in_largest_1 = size_wider _ _ _ up_1 (larger_second l0 (at b 1) largest_0.is_finite plain_1.is_finite)
 
-    in_largest_2 : Size (value l5) (value b.two)
-    in_largest_2 = size_wider _ _ _ up_2 (larger_second l1 b.two largest_1.is_finite plain_2.is_finite)
+    in_largest_2 : Size (value l5) (value (at b 2))
+    in_largest_2 = size_wider _ _ _ up_2 (larger_second l1 (at b 2) largest_1.is_finite plain_2.is_finite)
 
-    in_largest_3 : Size (value l5) (value b.three)
-    in_largest_3 = size_wider _ _ _ up_3 (larger_second l2 b.three largest_2.is_finite plain_3.is_finite)
+    in_largest_3 : Size (value l5) (value (at b 3))
+    in_largest_3 = size_wider _ _ _ up_3 (larger_second l2 (at b 3) largest_2.is_finite plain_3.is_finite)
 
-    in_largest_4 : Size (value l5) (value b.four)
-    in_largest_4 = size_wider _ _ _ up_4 (larger_second l3 b.four largest_3.is_finite plain_4.is_finite)
+    in_largest_4 : Size (value l5) (value (at b 4))
+    in_largest_4 = size_wider _ _ _ up_4 (larger_second l3 (at b 4) largest_3.is_finite plain_4.is_finite)
 
-    in_largest_5 : Size (value l5) (value b.five)
-    in_largest_5 = size_wider _ _ _ up_5 (larger_second l4 b.five largest_4.is_finite plain_5.is_finite)
+    in_largest_5 : Size (value l5) (value (at b 5))
+    in_largest_5 = size_wider _ _ _ up_5 (larger_second l4 (at b 5) largest_4.is_finite plain_5.is_finite)
 
     -- ---- what is added for the roundings, and the sum
     with_slack : (k : ℕ) (z : ℚ) → Size (whole k *q M) z → Size ((whole k +q slack) *q M) z
@@ -338,7 +337,7 @@ module _ (x : Intersection) (m : Float) (F : Number 100 m) (D : Measured x (valu
         (size_sum _ _ _ _ (size_sum _ _ _ _ s (size_negated _ _ C.near.apart)) E.near.apart))
 
     r_not_negative : 𝟘 ≤q value r
-    r_not_negative = size_not_negative _ _ (end_size 0 (omega arith) b.zero (pairs_close 0 (omega arith)).low B.0 in_largest_0
+    r_not_negative = size_not_negative _ _ (end_size 0 (omega arith) (at b 0) (pairs_close 0 (omega arith)).low B.0 in_largest_0
         (pairs_close 0 (omega arith)).low_close)
 
     told : (k : ℕ) (l : k < 6) (z : Float) → z ≡ difference_bernstein plain x k → Size (value l5) (value z)
@@ -352,7 +351,7 @@ module _ (x : Intersection) (m : Float) (F : Number 100 m) (D : Measured x (valu
         → NotAbove (six_figure (difference_bernstein ends x)) s
     estimated s h =
         let w = six_below (value r) r_not_negative (difference_bernstein ends x) _ _ _ _ _ _
-        (told 0 (omega arith) b.zero B.0 in_largest_0) (told 1 (omega arith) b.one B.1 in_largest_1)
-        (told 2 (omega arith) b.two B.2 in_largest_2) (told 3 (omega arith) b.three B.3 in_largest_3)
-        (told 4 (omega arith) b.four B.4 in_largest_4) (told 5 (omega arith) b.five B.5 in_largest_5) in
+        (told 0 (omega arith) (at b 0) B.0 in_largest_0) (told 1 (omega arith) (at b 1) B.1 in_largest_1)
+        (told 2 (omega arith) (at b 2) B.2 in_largest_2) (told 3 (omega arith) (at b 3) B.3 in_largest_3)
+        (told 4 (omega arith) (at b 4) B.4 in_largest_4) (told 5 (omega arith) (at b 5) B.5 in_largest_5) in
         record { most = w.0; is = w.1; not_above = not_above_test s r w.0 sum_rounds.1 w.2 w.3 h }

@@ -15,9 +15,9 @@ use crate::{plain, sizes};
 pub fn not_above(x: Intersection, so_far: f64) -> bool
     ensures { result ≡ true → NotAbove (six_figure (difference_bernstein ends (intersection_of x))) so_far }
 {
-    if sizes::measured(x) {
-        let cost = sizes::size_of(x) * 3.637978807091713e-12;
-        return plain::largest(plain::coefficients(x)) + cost <= so_far;
+    if !sizes::measured(x) {
+        return false;
     }
-    false
+    let cost = sizes::size_of(x) * 3.637978807091713e-12;
+    plain::largest(plain::coefficients(x)) + cost <= so_far
 }

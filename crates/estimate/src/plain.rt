@@ -1,5 +1,6 @@
 // The formula of the certified figure in plain floats: document 01, "The certified figure", each operation
-// rounded to nearest, in the same order.
+// rounded to nearest, in the same order. Six numbers are the powers of a polynomial, or its Bernstein
+// coefficients.
 ghost use Rattle.std.specs.Prelude.{ℕ, ◌≡◌, Float};
 ghost use Rattle.window.specs.Cells.{at};
 ghost use Rattle.figure.specs.Intersection as formula;
@@ -9,19 +10,8 @@ ghost use Rattle.estimate.specs.Structs.{intersection_of};
 use crate::intersection::Intersection;
 use pairs::ends;
 
-// Six numbers: the powers of a polynomial, or its Bernstein coefficients.
-#[derive(Clone, Copy)]
-pub struct Six {
-    pub zero: f64,
-    pub one: f64,
-    pub two: f64,
-    pub three: f64,
-    pub four: f64,
-    pub five: f64,
-}
-
 // The powers of the curve: "(sum over k from j to 5 of C(k,j)·p_k·U^(k-j))·W^j".
-fn curve_powers(p: [f64; 6], u: f64, w: f64) -> Six
+fn curve_powers(p: [f64; 6], u: f64, w: f64) -> [f64; 6]
     ensures { SixAre (formula.power plain (at p) u w) result }
 {
     let p0 = p[0];
@@ -52,18 +42,11 @@ fn curve_powers(p: [f64; 6], u: f64, w: f64) -> Six
     let three = 0.0 + 1.0 * p3 * 1.0 + 4.0 * p4 * u1 + 10.0 * p5 * u2;
     let four = 0.0 + 1.0 * p4 * 1.0 + 5.0 * p5 * u1;
     let five = 0.0 + 1.0 * p5 * 1.0;
-    Six {
-        zero: zero * 1.0,
-        one: one * w1,
-        two: two * w2,
-        three: three * w3,
-        four: four * w4,
-        five: five * w5,
-    }
+    [zero * 1.0, one * w1, two * w2, three * w3, four * w4, five * w5]
 }
 
 // The powers of curve minus line.
-fn difference_powers(x: Intersection) -> Six
+fn difference_powers(x: Intersection) -> [f64; 6]
     ensures { SixAre (formula.difference_power plain (intersection_of x)) result }
 {
     let p = x.coefficients;
@@ -74,47 +57,33 @@ fn difference_powers(x: Intersection) -> Six
     let d = x.second - x.first;
     let left = x.first + (x.left - x.from) / interval * d;
     let rise = part / interval * d;
-    Six {
-        zero: q.zero - left,
-        one: q.one - rise,
-        two: q.two,
-        three: q.three,
-        four: q.four,
-        five: q.five,
-    }
+    [q[0] - left, q[1] - rise, q[2], q[3], q[4], q[5]]
 }
 
 // The Bernstein coefficients: "sum over j ≤ k of power j·C(k,j)/C(5,j)".
-fn bernstein(q: Six) -> Six
+fn bernstein(q: [f64; 6]) -> [f64; 6]
     ensures { (f : ℕ → Float) → SixAre f q → SixAre (formula.bernstein plain f) result }
 {
-    let b = 0.0 + q.zero * 1.0 / 1.0;
-    let one = b + q.one * 1.0 / 5.0;
-    let two = b + q.one * 2.0 / 5.0 + q.two * 1.0 / 10.0;
-    let three = b + q.one * 3.0 / 5.0 + q.two * 3.0 / 10.0 + q.three * 1.0 / 10.0;
+    let b = 0.0 + q[0] * 1.0 / 1.0;
+    let one = b + q[1] * 1.0 / 5.0;
+    let two = b + q[1] * 2.0 / 5.0 + q[2] * 1.0 / 10.0;
+    let three = b + q[1] * 3.0 / 5.0 + q[2] * 3.0 / 10.0 + q[3] * 1.0 / 10.0;
     let four = b
-        + q.one * 4.0 / 5.0
-        + q.two * 6.0 / 10.0
-        + q.three * 4.0 / 10.0
-        + q.four * 1.0 / 5.0;
+        + q[1] * 4.0 / 5.0
+        + q[2] * 6.0 / 10.0
+        + q[3] * 4.0 / 10.0
+        + q[4] * 1.0 / 5.0;
     let five = b
-        + q.one * 5.0 / 5.0
-        + q.two * 10.0 / 10.0
-        + q.three * 10.0 / 10.0
-        + q.four * 5.0 / 5.0
-        + q.five * 1.0 / 1.0;
-    Six {
-        zero: b,
-        one,
-        two,
-        three,
-        four,
-        five,
-    }
+        + q[1] * 5.0 / 5.0
+        + q[2] * 10.0 / 10.0
+        + q[3] * 10.0 / 10.0
+        + q[4] * 5.0 / 5.0
+        + q[5] * 1.0 / 1.0;
+    [b, one, two, three, four, five]
 }
 
 // The Bernstein coefficients of curve minus line.
-pub(crate) fn coefficients(x: Intersection) -> Six
+pub(crate) fn coefficients(x: Intersection) -> [f64; 6]
     ensures { SixAre (formula.difference_bernstein plain (intersection_of x)) result }
 {
     bernstein(difference_powers(x))
@@ -128,13 +97,13 @@ pub(crate) fn larger(x: f64, y: f64) -> f64
 }
 
 // The largest in size.
-pub(crate) fn largest(b: Six) -> f64
+pub(crate) fn largest(b: [f64; 6]) -> f64
     ensures { result ≡ largest_size b }
 {
-    let first = ends::higher(b.zero, -b.zero);
-    let second = larger(first, b.one);
-    let third = larger(second, b.two);
-    let fourth = larger(third, b.three);
-    let fifth = larger(fourth, b.four);
-    larger(fifth, b.five)
+    let first = ends::higher(b[0], -b[0]);
+    let second = larger(first, b[1]);
+    let third = larger(second, b[2]);
+    let fourth = larger(third, b[3]);
+    let fifth = larger(fourth, b[4]);
+    larger(fifth, b[5])
 }

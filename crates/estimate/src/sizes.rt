@@ -1,4 +1,5 @@
-// Sizes of numbers, and how the parameters of an intersection lie.
+// Sizes of numbers, and how the parameters of an intersection lie. The tests are joined by `&`: none waits for
+// another, and there is no branch.
 ghost use Rattle.std.specs.Prelude.{true, ◌≡◌, ◌<◌, ℕ};
 ghost use Rattle.window.specs.Cells.{at};
 ghost use Rattle.pairs.specs.Spreads.{Number, power};
@@ -12,10 +13,7 @@ use crate::plain;
 pub fn within(x: f64, limit: f64) -> bool
     ensures { (a : ℕ) → result ≡ true → limit ≡ power a → Number a x }
 {
-    if -limit <= x {
-        return x <= limit;
-    }
-    false
+    (-limit <= x) & (x <= limit)
 }
 
 // Whether each is at most 2^100 in size.
@@ -23,31 +21,21 @@ pub fn six_within(p: [f64; 6]) -> bool
     ensures { result ≡ true → (k : ℕ) → k < 6 → Number 100 (at p k) }
 {
     let limit = 1.2676506002282294e30;
-    if within(p[0], limit) {
-        if within(p[1], limit) {
-            if within(p[2], limit) {
-                if within(p[3], limit) {
-                    if within(p[4], limit) {
-                        return within(p[5], limit);
-                    }
-                }
-            }
-        }
-    }
-    false
+    within(p[0], limit)
+        & within(p[1], limit)
+        & within(p[2], limit)
+        & within(p[3], limit)
+        & within(p[4], limit)
+        & within(p[5], limit)
 }
 
 // Whether coefficients and waypoints are at most 2^100 in size.
 fn sized(x: Intersection) -> bool
     ensures { result ≡ true → Sized (intersection_of x) }
 {
-    let p = x.coefficients;
-    if within(x.first, 1.2676506002282294e30) {
-        if within(x.second, 1.2676506002282294e30) {
-            return six_within(p);
-        }
-    }
-    false
+    within(x.first, 1.2676506002282294e30)
+        & within(x.second, 1.2676506002282294e30)
+        & six_within(x.coefficients)
 }
 
 // Whether a is at most b.
@@ -61,46 +49,30 @@ fn at_most(a: f64, b: f64) -> bool
 fn placed(x: Intersection) -> bool
     ensures { result ≡ true → Placed (intersection_of x) }
 {
-    if at_most(-2.0, x.start) {
-        if at_most(x.end, 2.0) {
-            if at_most(-2.0, x.from) {
-                if at_most(x.to, 2.0) {
-                    if at_most(x.start, x.left) {
-                        if at_most(x.left, x.right) {
-                            if at_most(x.right, x.end) {
-                                if at_most(x.from, x.left) {
-                                    return at_most(x.right, x.to);
-                                }
-                            }
-                        }
-                    }
-                }
-            }
-        }
-    }
-    false
+    at_most(-2.0, x.start)
+        & at_most(x.end, 2.0)
+        & at_most(-2.0, x.from)
+        & at_most(x.to, 2.0)
+        & at_most(x.start, x.left)
+        & at_most(x.left, x.right)
+        & at_most(x.right, x.end)
+        & at_most(x.from, x.left)
+        & at_most(x.right, x.to)
 }
 
 // Whether segment and interval are at least 2^-60 long.
 fn long(x: Intersection) -> bool
     ensures { result ≡ true → Long (intersection_of x) }
 {
-    if at_most(8.673617379884035e-19, x.end - x.start) {
-        return at_most(8.673617379884035e-19, x.to - x.from);
-    }
-    false
+    at_most(8.673617379884035e-19, x.end - x.start)
+        & at_most(8.673617379884035e-19, x.to - x.from)
 }
 
 // All of these.
 pub(crate) fn measured(x: Intersection) -> bool
     ensures { result ≡ true → Sized (intersection_of x) × Placed (intersection_of x) × Long (intersection_of x) }
 {
-    if sized(x) {
-        if placed(x) {
-            return long(x);
-        }
-    }
-    false
+    sized(x) & placed(x) & long(x)
 }
 
 // A bound of the sizes of coefficients and waypoints: the largest of them, and at least 2^-400.

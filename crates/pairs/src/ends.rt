@@ -9,7 +9,8 @@ ghost use Rattle.pairs.specs.Structs.{ends_of, largest_number, lowest_number};
 
 use crate::{directed, neighbours};
 
-// The pair from `low` to `high`, if `good`; otherwise none.
+// The pair from `low` to `high`, if `good`; otherwise none. A flag and no Option, since only the flag is
+// written where a pair is none: with an Option each operation has a branch, which is slower.
 #[derive(Clone, Copy)]
 pub struct Ends {
     pub low: f64,
@@ -28,16 +29,6 @@ pub fn both(x: f64) -> Ends
     }
 }
 
-// Both. It compiles to an `and`, with no branch.
-pub fn and(a: bool, b: bool) -> bool
-    ensures { result ≡ (a && b) }
-{
-    if a {
-        return b;
-    }
-    false
-}
-
 // The pair, if `good`; otherwise none. Only the flag is written: no branch waits for it.
 fn kept(good: bool, e: Ends) -> Ends
     ensures { ends_of result ≡ cond good (ends_of e) none }
@@ -45,7 +36,7 @@ fn kept(good: bool, e: Ends) -> Ends
     Ends {
         low: e.low,
         high: e.high,
-        good: and(good, e.good),
+        good: good & e.good,
     }
 }
 
@@ -61,23 +52,19 @@ pub fn finite_ends(a: f64, b: f64) -> Ends
     kept(float::is_finite(a), kept(float::is_finite(b), e))
 }
 
-// The lower and the higher of two; the first, where neither is.
+// The lower and the higher of two; the first, where neither is: `min` and `max` say nothing of a zero's sign.
+#[tactic(auto, unfolding(fraction::specs::Pair::lowest))]
 pub fn lower(x: f64, y: f64) -> f64
     ensures { result ≡ lowest x y }
 {
-    if y < x {
-        return y;
-    }
-    x
+    if y < x { y } else { x }
 }
 
+#[tactic(auto, unfolding(fraction::specs::Pair::highest))]
 pub fn higher(x: f64, y: f64) -> f64
     ensures { result ≡ highest x y }
 {
-    if x < y {
-        return y;
-    }
-    x
+    if x < y { y } else { x }
 }
 
 // Whether both can be moved outward and stay finite: the one is above the lowest number, the other below
@@ -85,10 +72,7 @@ pub fn higher(x: f64, y: f64) -> f64
 fn movable(low: f64, high: f64) -> bool
     ensures { result ≡ (lt lowest_number low && lt high largest_number) }
 {
-    if -1.7976931348623157e308 < low {
-        return high < 1.7976931348623157e308;
-    }
-    false
+    -1.7976931348623157e308 < low && high < 1.7976931348623157e308
 }
 
 // The lowest and the highest of four combinations, if finite, each moved outward. One test of each is

@@ -1,5 +1,5 @@
 // The next number up and sums rounded upward, for numbers of a known size: no branch, and no test of an end.
-ghost use Rattle.std.specs.Prelude.{◌||◌, cond, ◌⊎◌, ◌≡◌, ◌<◌, ◌≤◌, ℕ};
+ghost use Rattle.std.specs.Prelude.{cond, ◌⊎◌, ◌≡◌, ◌<◌, ◌≤◌, ℕ};
 ghost use Rattle.std.specs.Float.{binary64};
 ghost use Rattle.fraction.specs.NextNumber.{next_up, up_bits};
 ghost use Rattle.pairs.specs.Spreads.{Number, UpwardSum, bounded};
@@ -38,16 +38,6 @@ pub(crate) fn step(x: f64) -> f64
     step_if(x, true)
 }
 
-// Either. It compiles to an `or`, with no branch.
-fn or(a: bool, b: bool) -> bool
-    ensures { result ≡ (a || b) }
-{
-    if a {
-        return true;
-    }
-    b
-}
-
 // The smallest f64 that is not below the exact x + y, with either zero. Where the rounded sum is below it,
 // one of two differences shows that, and the answer is the number after.
 pub(crate) fn sum(x: f64, y: f64) -> f64
@@ -56,5 +46,5 @@ pub(crate) fn sum(x: f64, y: f64) -> f64
     let r = x + y;
     let p = r - x;
     let q = r - y;
-    step_if(r, or(p < y, q < x))
+    step_if(r, (p < y) | (q < x))
 }

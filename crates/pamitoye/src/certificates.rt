@@ -2,46 +2,30 @@
 ghost use Rattle.std.specs.Prelude.{◌≡◌, true};
 ghost use Rattle.curve.specs.Form.{slices};
 ghost use Rattle.figure.specs.Certify.{Certified, certify_of};
-ghost use Rattle.certificate.specs.Outcome.{outcome_of, refusal_number};
+ghost use Rattle.certificate.specs.Outcome.{outcome_of};
 ghost use Rattle.pamitoye.specs.Choices.{passed_curve, chosen_spacing};
 ghost use Rattle.pamitoye.specs.Certificates.{given_after, figure_after};
 
 use crate::{choices, curves};
-use certificate::certify::{Certificate, Refusal};
-
-// The number of a refusal.
-fn number(refusal: Refusal) -> u64
-    ensures { result ≡ refusal_number refusal }
-{
-    match refusal {
-        Refusal::TooDeep => 23,
-        Refusal::AboveDomain => 18,
-        Refusal::PointCells => 20,
-        Refusal::BadPoints => 1,
-        Refusal::BadParameters => 5,
-        Refusal::BadRange => 6,
-        Refusal::Malformed => 24,
-        Refusal::NotSelected => 3,
-    }
-}
+use certificate::certify::Refusal;
 
 // The number of an answer; whether there is a figure, and the figure.
-fn put_figure(answer: Certificate, given: &mut bool, figure: &mut f64) -> u64
+fn put_figure(answer: Result<Option<f64>, Refusal>, given: &mut bool, figure: &mut f64) -> u64
     ensures value { result ≡ (outcome_of answer).number }
     ensures given_after { given.new ≡ given_after (outcome_of answer).number (outcome_of answer).certified given.old }
     ensures figure_after { figure.new ≡ figure_after (outcome_of answer).certified figure.old }
 {
     match answer {
-        Certificate::Figure(x) => {
+        Ok(Some(x)) => {
             *given = true;
             *figure = x;
             0
         }
-        Certificate::None => {
+        Ok(None) => {
             *given = false;
             0
         }
-        Certificate::Refused(refusal) => number(refusal),
+        Err(refusal) => refusal.number(),
     }
 }
 

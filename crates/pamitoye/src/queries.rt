@@ -2,41 +2,22 @@
 ghost use Rattle.std.specs.Prelude.{◌≡◌, true};
 ghost use Rattle.curve.specs.Form.{slices, well_formed};
 ghost use Rattle.query.specs.Row.{outputs};
-ghost use Rattle.query.specs.Query.{kept_of, evaluate_of, evaluate_all_of, number_of, number_of_all, refused_place};
+ghost use Rattle.query.specs.Query.{kept_of, evaluate_of, evaluate_all_of, number_of, refused_place};
 ghost use Rattle.pamitoye.specs.Choices.{passed_curve};
 ghost use Rattle.pamitoye.specs.Queries.{place_after};
 
 use crate::curves;
-use query::{Answer, Answers};
-
-// The number of an answer.
-fn number(answer: Answer) -> u64
-    ensures { result ≡ number_of answer }
-{
-    match answer {
-        Answer::Done => 0,
-        Answer::Malformed => 24,
-        Answer::OrderAboveThree => 23,
-        Answer::TooShort => 19,
-        Answer::Outside => 22,
-    }
-}
+use query::Refusal;
 
 // The number of an answer to many; with 22, the place of the first parameter that is refused.
-fn put_place(answers: Answers, refused_at: &mut usize) -> u64
-    ensures value { result ≡ number_of_all answers }
-    ensures refused_at_after { refused_at.new ≡ place_after (number_of_all answers) (refused_place answers) refused_at.old }
+fn put_place(answers: Result<(), Refusal>, refused_at: &mut usize) -> u64
+    ensures value { result ≡ number_of answers }
+    ensures refused_at_after { refused_at.new ≡ place_after (number_of answers) (refused_place answers) refused_at.old }
 {
-    match answers {
-        Answers::All => 0,
-        Answers::Malformed => 24,
-        Answers::OrderAboveThree => 23,
-        Answers::TooShort => 19,
-        Answers::OutsideAt(place) => {
-            *refused_at = place;
-            22
-        }
+    if let Err(Refusal::OutsideAt(place)) = answers {
+        *refused_at = place;
     }
+    query::number(answers)
 }
 
 // The query at x: `query::evaluate`.
@@ -83,7 +64,7 @@ pub extern "C" fn pamitoye_evaluate<'a>(
         ddq,
         dddq,
     );
-    number(answered)
+    query::number(answered)
 }
 
 // The queries at all of `xs`: `query::evaluate_all`.
@@ -183,7 +164,7 @@ pub extern "C" fn pamitoye_evaluate_formed<'a>(
         ddq,
         dddq,
     );
-    number(answered)
+    query::number(answered)
 }
 
 // The query at x of a curve known to be well formed, with the segments of the two sets that are tried first.
@@ -241,10 +222,11 @@ pub extern "C" fn pamitoye_evaluate_near<'a>(
         ddq,
         dddq,
     );
-    *span = found.span;
-    *other_span = found.other_span;
-    let answered = found.answer;
-    number(answered)
+    if let Ok(spans) = found {
+        *span = spans.span;
+        *other_span = spans.other_span;
+    }
+    query::number(found)
 }
 
 // The queries at all of `xs` of such a curve: `query::evaluate_all_formed`.

@@ -1,23 +1,22 @@
 -- Which answer a call gets: by the first check that refuses, or that all are passed.
 use mathlib.Core.Path.{◌≡◌, refl}
-use mathlib.Core.Bool.{true, false, cond}
+use mathlib.Core.Bool.{true, false, cond, true≢false}
 use mathlib.Core.List.{List, [], ◌∷◌}
 use Prim.Native.Nat.{ℕ, ◌*◌, ◌≤◌, ◌<◌}
 use borrow.Author.Tests.{lt-ltb, le-ltb}
 use lib.Dec.{eqb}
 use lib.ListN.{length}
 use lib.Ieee.{Float}
+use Rattle.std.specs.Prelude.{Option, None, Some, IsSome, is_none, Result, Ok, Err, ⊤}
 use Rattle.window.specs.Rows.{join}
 use Rattle.curve.specs.declared.Curve.{Curve}
 use Rattle.curve.specs.Form.{Slices, well_formed}
-use Rattle.query.specs.declared.entry.Answer.{Answer}
-use Rattle.query.specs.declared.entry.Answer.TheVariants.{Done, Malformed, OrderAboveThree, TooShort, Outside}
-use Rattle.query.specs.declared.entry.Answers.{Answers}
-use Rattle.query.specs.declared.entry.Answers.TheVariants as many
+use Rattle.query.specs.declared.entry.Refusal.{Refusal}
+use Rattle.query.specs.declared.entry.Refusal.TheVariants.{Malformed, OrderAboveThree, TooShort, OutsideAt}
 use Rattle.query.specs.Range.{ranged_of}
 use Rattle.query.specs.Row.{Outputs, filled}
 use Rattle.query.specs.Query.{Outcome, outcome, checked, columns_of, evaluate_of, first_refused, evaluate_all_of}
-use Rattle.query.specs.Query.{number_of, number_of_all, refused_place}
+use Rattle.query.specs.Query.{number_of, refused_place}
 use Rattle.query.proofs.Rooms.{Short}
 
 -- the checks that look at no parameter
@@ -47,11 +46,11 @@ module _ (c : Curve) (s : Slices) (order needed : ℕ) (o : Outputs) where
 
 -- one query
 module _ (c : Curve) (s : Slices) (x : Float) (order : ℕ) (o : Outputs) (p : Passed c s order c.d o) where
-  pub outside : (ranged_of c x).refused ≡ true → outcome 22 0 o ≡ evaluate_of c s x order o
+  pub outside : is_none (ranged_of c x) ≡ true → outcome 22 0 o ≡ evaluate_of c s x order o
   unfolding evaluate_of
   outside r = rw r (passed c s order c.d o (outcome 22 0 o) p)
 
-  pub done : (o' : Outputs) → (ranged_of c x).refused ≡ false → o' ≡ filled order 0 (λ part. columns_of part c s (x ∷ [])) o
+  pub done : (o' : Outputs) → is_none (ranged_of c x) ≡ false → o' ≡ filled order 0 (λ part. columns_of part c s (x ∷ [])) o
       → outcome 0 0 o' ≡ evaluate_of c s x order o
   unfolding evaluate_of join
   done o' r e = rw (r, e) (passed c s order c.d o (outcome 0 0 (filled order 0 (λ part. columns_of part c s (x ∷ [])) o)) p)
@@ -69,25 +68,20 @@ module _ (c : Curve) (s : Slices) (xs : List Float) (order : ℕ) (o : Outputs) 
       rw (le-ltb (first_refused c xs) (length xs) l, e)
       (passed c s order (length xs * c.d) o (outcome 0 0 (filled order 0 (λ part. columns_of part c s xs) o)) p)
 
+-- what is not none, is some
+pub is_some_of : {T : Type 0} (o : Option T) → is_none o ≡ false → IsSome o
+is_some_of None h = absurd (true≢false h)
+is_some_of (Some x) h = refl
+
 -- document 01's number, with the place, tells the answer: no two answers have the same
-abbrev pub answer_of : ℕ → Answer
-answer_of n = cond (eqb n 0) Done (cond (eqb n 24) Malformed (cond (eqb n 23) OrderAboveThree (cond (eqb n 19) TooShort Outside)))
+abbrev pub answer_of : ℕ → ℕ → Result ⊤ Refusal
+answer_of n place =
+    cond (eqb n 0) (Ok tt)
+    (cond (eqb n 24) (Err Malformed) (cond (eqb n 23) (Err OrderAboveThree) (cond (eqb n 19) (Err TooShort) (Err (OutsideAt place)))))
 
-pub answer_told : (r : Answer) → answer_of (number_of r) ≡ r
-answer_told Done = refl
-answer_told Malformed = refl
-answer_told OrderAboveThree = refl
-answer_told TooShort = refl
-answer_told Outside = refl
-
-abbrev pub answers_of : ℕ → ℕ → Answers
-answers_of n place =
-    cond (eqb n 0) many.All
-    (cond (eqb n 24) many.Malformed (cond (eqb n 23) many.OrderAboveThree (cond (eqb n 19) many.TooShort (many.OutsideAt place))))
-
-pub answers_told : (r : Answers) → answers_of (number_of_all r) (refused_place r) ≡ r
-answers_told many.All = refl
-answers_told many.Malformed = refl
-answers_told many.OrderAboveThree = refl
-answers_told many.TooShort = refl
-answers_told (many.OutsideAt place) = refl
+pub answer_told : (r : Result ⊤ Refusal) → answer_of (number_of r) (refused_place r) ≡ r
+answer_told (Ok tt) = refl
+answer_told (Err Malformed) = refl
+answer_told (Err OrderAboveThree) = refl
+answer_told (Err TooShort) = refl
+answer_told (Err (OutsideAt place)) = refl

@@ -14,7 +14,7 @@ use Rattle.query.specs.declared.segment.Local.{Local}
 use Rattle.query.specs.declared.range.Ranged.{Ranged}
 use Rattle.query.specs.Segment.{axis_at, located}
 use Rattle.query.specs.Row.{Outputs, standing, row_of, filled}
-use Rattle.query.specs.Range.{ranged_of}
+use Rattle.query.specs.Range.{answered_at}
 use Rattle.query.specs.Query.{parameter_length, normalised, scale_of, axis_derivatives, column_of, span_at}
 
 -- the axes of a query that is answered so, which stand at these places
@@ -56,7 +56,7 @@ pub column_length : (part : Derivatives → Float) (c : Curve) (s : Slices) (r :
 column_length part c s r = list_length c.d (λ a. part (standing r.outside (axis_derivatives c s r.at a)))
 
 -- the segment that the code has found is the one in which the query is answered
-pub span_found : (c : Curve) (breaks : List Float) (here : Local) (x : Float) (answered : Ranged) (whole : Float) → answered ≡ ranged_of c x
+pub span_found : (c : Curve) (breaks : List Float) (here : Local) (x : Float) (answered : Ranged) (whole : Float) → answered ≡ answered_at c x
     → whole ≡ parameter_length c → here ≡ located breaks (div binary64 (sub binary64 answered.at c.start) whole)
     → here.span ≡ span_at c breaks x
 span_found c breaks here x answered whole a w e = rw (e, a, w)

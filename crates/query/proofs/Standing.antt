@@ -2,6 +2,8 @@
 use mathlib.Core.Path.{◌≡◌, ap}
 use mathlib.Core.Bool.{true, false}
 use lib.Ieee.{Float, lt, le}
+use Rattle.std.specs.Prelude.{Option, Some, unwrap_or}
+use Rattle.query.specs.declared.range.Ranged.{Ranged}
 use Rattle.arith.proofs.FloatOrder.{le_self, le_not_lt}
 use Rattle.window.specs.Cells.{+0}
 use Rattle.window.specs.Rows.{list_of}
@@ -10,13 +12,13 @@ use Rattle.curve.specs.declared.Mode.TheVariants.{Clamp}
 use Rattle.curve.specs.Form.{Slices}
 use Rattle.curve.proofs.Order.{le_number}
 use Rattle.query.specs.declared.segment.Derivatives.{Derivatives}
-use Rattle.query.specs.Range.{beyond_of, within, ranged_of}
+use Rattle.query.specs.Range.{beyond_of, within, ranged_of, answered_at}
 use Rattle.query.specs.Row.{standing}
 use Rattle.query.specs.Query.{axis_derivatives, column_of}
 
 module _ (c : Curve) (x : Float) where
   -- a parameter that is not outside, in either mode
-  pub inside_within : le c.start x ≡ true → le x c.end ≡ true → ranged_of c x ≡ within x
+  pub inside_within : le c.start x ≡ true → le x c.end ≡ true → ranged_of c x ≡ Some (within x)
   unfolding ranged_of
   inside_within a b = rw (le_not_lt c.start x a, le_not_lt x c.end b, le_number x (le_self x c.end b).0)
 
@@ -29,32 +31,32 @@ module _ (c : Curve) (x : Float) where
   above_end m n l = rw (n, l, m)
 
 -- "at start and end themselves the curve's own derivatives remain"
-pub ends_within : (c : Curve) → le c.start c.end ≡ true → (ranged_of c c.start ≡ within c.start) × (ranged_of c c.end ≡ within c.end)
+pub ends_within : (c : Curve) → le c.start c.end ≡ true → (ranged_of c c.start ≡ Some (within c.start)) × (ranged_of c c.end ≡ Some (within c.end))
 ends_within c l =
     let s = le_self c.start c.end l in (inside_within c c.start s.0 l, inside_within c c.end l s.1)
 
 module _ (c : Curve) (s : Slices) (x : Float) where
   -- from start to end every order is the source's at x
-  pub inside_own : (part : Derivatives → Float) → ranged_of c x ≡ within x
-      → column_of part c s (ranged_of c x) ≡ list_of c.d (λ a. part (axis_derivatives c s x a))
+  pub inside_own : (part : Derivatives → Float) → ranged_of c x ≡ Some (within x)
+      → column_of part c s (answered_at c x) ≡ list_of c.d (λ a. part (axis_derivatives c s x a))
   unfolding standing
-  inside_own part e = ap (column_of part c s) e
+  inside_own part e = ap (λ (r : Option Ranged). column_of part c s (unwrap_or r (within x))) e
 
   module _ (end : Float) (e : ranged_of c x ≡ beyond_of Clamp end) where
     -- "Outside start to end, Clamp keeps the end's value"
-    pub outside_value : column_of (λ v. v.value) c s (ranged_of c x) ≡ list_of c.d (λ a. (axis_derivatives c s end a).value)
+    pub outside_value : column_of (λ v. v.value) c s (answered_at c x) ≡ list_of c.d (λ a. (axis_derivatives c s end a).value)
     unfolding standing
-    outside_value = ap (column_of (λ v. v.value) c s) e
+    outside_value = ap (λ (r : Option Ranged). column_of (λ v. v.value) c s (unwrap_or r (within x))) e
 
     -- "and gives +0 for derivatives one to three"
-    pub outside_first : column_of (λ v. v.first) c s (ranged_of c x) ≡ list_of c.d (λ a. +0)
+    pub outside_first : column_of (λ v. v.first) c s (answered_at c x) ≡ list_of c.d (λ a. +0)
     unfolding standing
-    outside_first = ap (column_of (λ v. v.first) c s) e
+    outside_first = ap (λ (r : Option Ranged). column_of (λ v. v.first) c s (unwrap_or r (within x))) e
 
-    pub outside_second : column_of (λ v. v.second) c s (ranged_of c x) ≡ list_of c.d (λ a. +0)
+    pub outside_second : column_of (λ v. v.second) c s (answered_at c x) ≡ list_of c.d (λ a. +0)
     unfolding standing
-    outside_second = ap (column_of (λ v. v.second) c s) e
+    outside_second = ap (λ (r : Option Ranged). column_of (λ v. v.second) c s (unwrap_or r (within x))) e
 
-    pub outside_third : column_of (λ v. v.third) c s (ranged_of c x) ≡ list_of c.d (λ a. +0)
+    pub outside_third : column_of (λ v. v.third) c s (answered_at c x) ≡ list_of c.d (λ a. +0)
     unfolding standing
-    outside_third = ap (column_of (λ v. v.third) c s) e
+    outside_third = ap (λ (r : Option Ranged). column_of (λ v. v.third) c s (unwrap_or r (within x))) e

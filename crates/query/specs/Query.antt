@@ -1,5 +1,5 @@
 -- One query: the source's `SmoothedSpline::evaluate`, with document 01's checks before it; and many queries in one call.
-use Rattle.std.specs.Prelude.{Bool, not, ◌&&◌, ◌||◌, cond, List, ◌≡◌, ℕ, ◌+◌, ◌-◌, ◌*◌, leb, ltb, eqb, length, Float}
+use Rattle.std.specs.Prelude.{Bool, not, ◌&&◌, ◌||◌, cond, List, ◌≡◌, ℕ, ◌+◌, ◌-◌, ◌*◌, leb, ltb, eqb, length, Float, is_none, Result, Ok, Err}
 use Rattle.std.specs.Float.{binary64}
 use Rattle.std.specs.Float.Ieee.{of_bits, sub, div}
 use Rattle.window.specs.Cells.{at}
@@ -7,16 +7,14 @@ use Rattle.window.specs.Rows.{join, list_of}
 use Rattle.curve.specs.declared.Curve.{Curve}
 use Rattle.query.specs.declared.segment.Derivatives.{Derivatives}
 use Rattle.query.specs.declared.range.Ranged.{Ranged}
-use Rattle.query.specs.declared.entry.Answer.{Answer}
-use Rattle.query.specs.declared.entry.Answer.TheVariants.{Done, Malformed, OrderAboveThree, TooShort, Outside}
-use Rattle.query.specs.declared.entry.Answers.{Answers}
-use Rattle.query.specs.declared.entry.Answers.TheVariants as many
+use Rattle.query.specs.declared.entry.Refusal.{Refusal}
+use Rattle.query.specs.declared.entry.Refusal.TheVariants.{Malformed, OrderAboveThree, TooShort, OutsideAt}
 use Rattle.arith.specs.First.{first_of}
 use Rattle.curve.specs.Places.{axis_place}
 use Rattle.curve.specs.Form.{Slices, well_formed}
 use Rattle.query.specs.Segment.{located, axis_at}
 use Rattle.query.specs.Row.{Outputs, filled, standing}
-use Rattle.query.specs.Range.{ranged_of}
+use Rattle.query.specs.Range.{ranged_of, answered_at}
 
 -- `end - start`
 abbrev pub parameter_length : Curve → Float
@@ -67,15 +65,15 @@ checked c s order needed o next =
 unfoldable pub evaluate_of : Curve → Slices → Float → ℕ → Outputs → Outcome
 evaluate_of c s x order o =
     checked c s order c.d o
-    (cond (ranged_of c x).refused (outcome 22 0 o) (outcome 0 0 (filled order 0 (λ part. column_of part c s (ranged_of c x)) o)))
+    (cond (is_none (ranged_of c x)) (outcome 22 0 o) (outcome 0 0 (filled order 0 (λ part. column_of part c s (answered_at c x)) o)))
 
 -- the first of the parameters that is refused; their count where none is
 abbrev pub first_refused : Curve → List Float → ℕ
-first_refused c xs = first_of (length xs) (λ i. (ranged_of c (at xs i)).refused)
+first_refused c xs = first_of (length xs) (λ i. is_none (ranged_of c (at xs i)))
 
 -- one order of every axis at every parameter, parameter after parameter: each as the single query has it
 abbrev pub columns_of : (Derivatives → Float) → Curve → Slices → List Float → List Float
-columns_of part c s xs = join (length xs) (λ i. column_of part c s (ranged_of c (at xs i)))
+columns_of part c s xs = join (length xs) (λ i. column_of part c s (answered_at c (at xs i)))
 
 -- Queries at all of xs in one call. The first that is refused refuses the call.
 unfoldable pub evaluate_all_of : Curve → Slices → List Float → ℕ → Outputs → Outcome
@@ -87,7 +85,7 @@ evaluate_all_of c s xs order o =
 
 -- the segment of a set in which the query at x is answered
 abbrev pub span_at : Curve → List Float → Float → ℕ
-span_at c breaks x = (located breaks (normalised c (ranged_of c x).at)).span
+span_at c breaks x = (located breaks (normalised c (answered_at c x).at)).span
 
 -- "its last span": after a query with this number the segment of its answer; a refusal keeps the one before
 abbrev pub kept_of : ℕ → Curve → List Float → Float → ℕ → ℕ
@@ -98,26 +96,26 @@ abbrev pub Last : Curve → Slices → List Float → ℕ → ℕ → ℕ → Ty
 Last c s xs n span other_span = (i : ℕ) → i + 1 ≡ n
     → (span ≡ span_at c s.breaks (at xs i)) × (other_span ≡ span_at c s.other_breaks (at xs i))
 
--- document 01's number of an answer; 0 says that there is one
-abbrev pub number_of : Answer → ℕ
-number_of Done = 0
-number_of Malformed = 24
-number_of OrderAboveThree = 23
-number_of TooShort = 19
-number_of Outside = 22
+-- document 01's number of a refusal
+abbrev pub refusal_number : Refusal → ℕ
+refusal_number Malformed = 24
+refusal_number OrderAboveThree = 23
+refusal_number TooShort = 19
+refusal_number (OutsideAt place) = 22
 
--- the same of many queries
-abbrev pub number_of_all : Answers → ℕ
-number_of_all many.All = 0
-number_of_all many.Malformed = 24
-number_of_all many.OrderAboveThree = 23
-number_of_all many.TooShort = 19
-number_of_all (many.OutsideAt place) = 22
+-- the same of an answer; 0 says that there is one
+abbrev pub number_of : {T : Type 0} → Result T Refusal → ℕ
+number_of (Ok x) = 0
+number_of (Err e) = refusal_number e
 
--- which of them was refused; 0 where no parameter was
-abbrev pub refused_place : Answers → ℕ
-refused_place many.All = 0
-refused_place many.Malformed = 0
-refused_place many.OrderAboveThree = 0
-refused_place many.TooShort = 0
-refused_place (many.OutsideAt place) = place
+-- which of many parameters is outside; 0 where another check refuses
+abbrev pub outside_place : Refusal → ℕ
+outside_place Malformed = 0
+outside_place OrderAboveThree = 0
+outside_place TooShort = 0
+outside_place (OutsideAt place) = place
+
+-- the same of an answer; 0 where nothing is refused
+abbrev pub refused_place : {T : Type 0} → Result T Refusal → ℕ
+refused_place (Ok x) = 0
+refused_place (Err e) = outside_place e

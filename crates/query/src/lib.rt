@@ -10,6 +10,6 @@ mod row; // row.rt: the axes of one query, written
 mod entry; // entry.rt: one query, and many in one call
 
 pub use entry::{
-    Answer, Answers, Found, evaluate, evaluate_all, evaluate_all_formed, evaluate_formed,
-    evaluate_near,
+    Refusal, Spans, evaluate, evaluate_all, evaluate_all_formed, evaluate_formed, evaluate_near,
+    number,
 };

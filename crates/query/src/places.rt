@@ -4,21 +4,14 @@ ghost use Rattle.curve.specs.Places.{axis_place};
 
 use curve::place::position;
 
-// The place of each axis.
-#[derive(Clone, Copy)]
-pub struct Places {
-    pub at: [usize; 16],
-}
-
 // The places of d axes, of which the first k of the list are selected.
-pub fn find_places(axes: &[usize; 16], k: usize, d: usize) -> Places
+pub fn find_places(axes: &[usize; 16], k: usize, d: usize) -> [usize; 16]
     requires { (k ≤ 16) × (d ≤ 16) }
-    ensures { (a : ℕ) → a < d → get_or result.at a 0 ≡ axis_place axes.now k a }
+    ensures { (a : ℕ) → a < d → get_or result a 0 ≡ axis_place axes.now k a }
 {
     let mut at = [0; 16];
     let mut others = 0;
-    let mut a = 0;
-    while a < d {
+    for a in 0..d {
         let i = position(axes, k, a);
         if i < k {
             at[a] = i;
@@ -26,7 +19,6 @@ pub fn find_places(axes: &[usize; 16], k: usize, d: usize) -> Places
             at[a] = k + others;
             others += 1;
         }
-        a += 1;
     }
-    Places { at }
+    at
 }

@@ -35,6 +35,7 @@ fn put_axis(
 }
 
 // What is written of an axis: outside start to end its value, and +0 for its derivatives.
+#[tactic(auto, unfolding(crate::specs::Row::standing))]
 fn stand(v: Derivatives, outside: bool) -> Derivatives
     ensures { result ≡ standing outside v }
 {
@@ -76,10 +77,8 @@ pub fn put_axes<'a>(
         (outputs q.old dq.old ddq.old dddq.old) }
 {
     let d = k + m;
-    let mut a = 0;
-    while a < d {
+    for a in 0..d {
         let v = segment::axis(selected, other, k, m, table[a], here, there, scale);
         put_axis(stand(v, outside), order, at + a, q, dq, ddq, dddq);
-        a += 1;
     }
 }

@@ -23,10 +23,8 @@ fn passed(breaks: &[f64], x: f64, base: usize, step: usize, m: usize) -> usize
         × (result + 1 < m → le (at breaks.now (base + (result + 1) * step)) x ≡ false) }
 {
     let mut c = 0;
-    let mut j = 1;
-    while j < m {
+    for j in 1..m {
         c += at_or_below(breaks[base + j * step], x);
-        j += 1;
     }
     c
 }

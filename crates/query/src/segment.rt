@@ -31,9 +31,7 @@ fn horner(p: &[f64], u: f64, r: usize) -> f64
     ensures { result ≡ horner_of p.now u r }
 {
     let mut v = 0.0;
-    let mut k = 6;
-    while r < k {
-        k -= 1;
+    for k in (r..6).rev() {
         v = v * u + p[k] * FACT[k] / FACT[k - r];
     }
     v
@@ -101,13 +99,11 @@ pub fn locate(breaks: &[f64], cells: &[f64], from: usize, x: f64, near: usize) -
 pub fn begin(breaks: &[f64], near: usize) -> usize
     ensures { Begins breaks.now result }
 {
-    if breaks.len() < 2 {
-        return 0;
+    if near < breaks.len().saturating_sub(1) {
+        near
+    } else {
+        0
     }
-    if near < breaks.len() - 1 {
-        return near;
-    }
-    0
 }
 
 // The six coefficients of the axis at a place, a part of whichever slice holds them: the selected

@@ -1,16 +1,15 @@
 // A curve reader: it keeps a curve with its lent slices, whether it is well formed, and the segments of the
-// last answer, and answers as a single query does. The struct holds references, so the functions over it
-// are thin; the work is done in functions over plain parameters.
+// last answer, and answers as a single query does.
 #![tactic(auto)]
 
-ghost use Rattle.std.specs.Prelude.{◌≡◌};
-ghost use Rattle.curve.specs.Form.{slices, well_formed};
+ghost use Rattle.std.specs.Prelude.{◌≡◌, IfOk};
+ghost use Rattle.curve.specs.Form.{slices};
 ghost use Rattle.query.specs.Row.{outputs};
-ghost use Rattle.query.specs.Query.{outcome, evaluate_of, number_of, kept_of};
+ghost use Rattle.query.specs.Query.{outcome, evaluate_of, number_of, refused_place, span_at};
 ghost use Rattle.reader.specs.Reading.{made, Knows, lent, asked};
 
 use curve::{Curve, form};
-use query::{Answer, Found, evaluate_near};
+use query::{Refusal, Spans, evaluate_near};
 
 // The curve with its four slices, which are lent; whether it is well formed; and the segments of the
 // selected and of the other set that are tried first.
@@ -26,77 +25,6 @@ pub struct Reader<'a> {
     pub other_span: usize,
 }
 
-// Whether the curve is well formed.
-fn tested<'a>(
-    curve: Curve,
-    breaks: &'a [f64],
-    coefficients: &'a [f64],
-    other_breaks: &'a [f64],
-    other_coefficients: &'a [f64],
-) -> bool
-    ensures { result ≡ well_formed curve (slices breaks.now coefficients.now
-        other_breaks.now other_coefficients.now) }
-{
-    form::well_formed(
-        curve,
-        breaks,
-        coefficients,
-        other_breaks,
-        other_coefficients,
-    )
-}
-
-// The query at x of a curve of which it is known whether it is well formed, as `query::evaluate` has it,
-// whatever the two segments are that are tried first.
-fn answer<'a>(
-    curve: Curve,
-    breaks: &'a [f64],
-    coefficients: &'a [f64],
-    other_breaks: &'a [f64],
-    other_coefficients: &'a [f64],
-    formed: bool,
-    span: usize,
-    other_span: usize,
-    x: f64,
-    order: usize,
-    q: &mut [f64],
-    dq: &mut [f64],
-    ddq: &mut [f64],
-    dddq: &mut [f64],
-) -> Found
-    requires { formed ≡ well_formed curve (slices breaks.now coefficients.now other_breaks.now
-        other_coefficients.now) }
-    ensures { (outcome (number_of result.answer) 0 (outputs q.new dq.new ddq.new dddq.new)
-        ≡ evaluate_of curve (slices breaks.now coefficients.now other_breaks.now
-        other_coefficients.now) x order (outputs q.old dq.old ddq.old
-        dddq.old))
-        × (result.span ≡ kept_of (number_of result.answer) curve breaks.now x span)
-        × (result.other_span ≡ kept_of (number_of result.answer) curve other_breaks.now x other_span) }
-{
-    if !formed {
-        return Found {
-            answer: Answer::Malformed,
-            span,
-            other_span,
-        };
-    }
-    evaluate_near(
-        curve,
-        breaks,
-        coefficients,
-        other_breaks,
-        other_coefficients,
-        span,
-        other_span,
-        x,
-        order,
-        q,
-        dq,
-        ddq,
-        dddq,
-    )
-}
-
 // A reader of a curve. The curve is tested here, and never again.
 pub fn new<'a>(
     curve: Curve,
@@ -108,7 +36,7 @@ pub fn new<'a>(
     ensures { result ≡ made curve breaks.entry coefficients.entry other_breaks.entry
         other_coefficients.entry }
 {
-    let formed = tested(
+    let formed = form::well_formed(
         curve,
         breaks,
         coefficients,
@@ -138,20 +66,22 @@ pub fn ask<'s, 'a>(
     dq: &mut [f64],
     ddq: &mut [f64],
     dddq: &mut [f64],
-) -> Answer
+) -> Result<(), Refusal>
     requires { Knows reader.old }
-    ensures { (outcome (number_of result) 0 (outputs q.new dq.new ddq.new dddq.new)
+    ensures answer { outcome (number_of result) (refused_place result) (outputs q.new dq.new ddq.new dddq.new)
         ≡ evaluate_of reader.old.curve (lent reader.old) x order (outputs q.old dq.old
-        ddq.old dddq.old))
-        × (reader.new ≡ asked reader.old (number_of result) x) }
+        ddq.old dddq.old) }
+    ensures after { reader.new ≡ asked reader.old (number_of result) x }
 {
-    let found = answer(
+    if !reader.formed {
+        return Err(Refusal::Malformed);
+    }
+    let found = evaluate_near(
         reader.curve,
         reader.breaks,
         reader.coefficients,
         reader.other_breaks,
         reader.other_coefficients,
-        reader.formed,
         reader.span,
         reader.other_span,
         x,
@@ -160,14 +90,14 @@ pub fn ask<'s, 'a>(
         dq,
         ddq,
         dddq,
-    );
+    )?;
     reader.span = found.span;
     reader.other_span = found.other_span;
-    found.answer
+    Ok(())
 }
 
 // One question to a reader of this curve that keeps these two segments, and the segments that it keeps
-// afterwards: for callers that can't hold a reader. The curve is tested at each call.
+// afterwards, if it answers: for callers that can't hold a reader. The curve is tested at each call.
 pub fn ask_from<'a>(
     curve: Curve,
     breaks: &'a [f64],
@@ -182,13 +112,12 @@ pub fn ask_from<'a>(
     dq: &mut [f64],
     ddq: &mut [f64],
     dddq: &mut [f64],
-) -> Found
-    ensures { (outcome (number_of result.answer) 0 (outputs q.new dq.new ddq.new dddq.new)
+) -> Result<Spans, Refusal>
+    ensures answer { outcome (number_of result) (refused_place result) (outputs q.new dq.new ddq.new dddq.new)
         ≡ evaluate_of curve (slices breaks.now coefficients.now other_breaks.now
         other_coefficients.now) x order (outputs q.old dq.old ddq.old
-        dddq.old))
-        × (result.span ≡ kept_of (number_of result.answer) curve breaks.now x span)
-        × (result.other_span ≡ kept_of (number_of result.answer) curve other_breaks.now x other_span) }
+        dddq.old) }
+    ensures ok { IfOk result (λ at. (at.span ≡ span_at curve breaks.now x) × (at.other_span ≡ span_at curve other_breaks.now x)) }
 {
     let mut reader = new(
         curve,
@@ -199,10 +128,9 @@ pub fn ask_from<'a>(
     );
     reader.span = span;
     reader.other_span = other_span;
-    let given = ask(&mut reader, x, order, q, dq, ddq, dddq);
-    Found {
-        answer: given,
+    ask(&mut reader, x, order, q, dq, ddq, dddq)?;
+    Ok(Spans {
         span: reader.span,
         other_span: reader.other_span,
-    }
+    })
 }

@@ -3,7 +3,7 @@ ghost use Rattle.std.specs.Prelude.{length, ◌≡◌, true};
 ghost use Rattle.replay_curves.specs.Following.{FollowingParts};
 ghost use Rattle.listing.specs.Lines.{Unanswered};
 
-use certificate::certify::{Certificate, Refusal};
+use certificate::certify::Refusal;
 use curve::{Curve, Mode};
 use listing::list::Head;
 use listing::output::Line;
@@ -80,36 +80,22 @@ fn find_parts(wholes: &[u64; 16], count: usize) -> Parts
     }
 }
 
-// Document 01's number of a refusal.
-fn number(refusal: Refusal) -> u64 {
-    match refusal {
-        Refusal::TooDeep => 23,
-        Refusal::AboveDomain => 18,
-        Refusal::PointCells => 20,
-        Refusal::BadPoints => 1,
-        Refusal::BadParameters => 5,
-        Refusal::BadRange => 6,
-        Refusal::Malformed => 24,
-        Refusal::NotSelected => 3,
-    }
-}
-
 // The line of a certificate.
-fn line(certificate: Certificate, out: &mut [u8], at: usize) -> Line
+fn line(certificate: Result<Option<f64>, Refusal>, out: &mut [u8], at: usize) -> Line
     ensures { result.good ≡ true }
 {
     let next = output::text(out, at, b"certify");
     match certificate {
-        Certificate::Figure(x) => {
+        Ok(Some(x)) => {
             let next = output::text(out, next, b" figure");
             let next = output::cell(out, next, x);
             output::end(out, next)
         }
-        Certificate::None => {
+        Ok(None) => {
             let next = output::text(out, next, b" none");
             output::end(out, next)
         }
-        Certificate::Refused(refusal) => output::refused(out, next, number(refusal)),
+        Err(refusal) => output::refused(out, next, refusal.number()),
     }
 }
 
@@ -133,7 +119,7 @@ fn answer(
     spacing: Spacing,
     axis: usize,
     depth: usize,
-) -> Certificate
+) -> Result<Option<f64>, Refusal>
     requires { FollowingParts p (length cells.now) }
 {
     let a = p.from;

@@ -6,7 +6,6 @@ use curve::{Curve, Mode};
 use listing::list::Head;
 use listing::output::Line;
 use listing::{axes, output, sizes};
-use query::Answer;
 
 // The slices of a case's cells after `start` and `end`: where the first begins, and where each of the
 // breaks, coefficients, other breaks and other coefficients ends; the queries follow. Where the case
@@ -65,17 +64,6 @@ fn find_slices(d: usize, k: usize, n: usize, others: usize, queries: usize, coun
     }
 }
 
-// Document 01's number of a refusal.
-fn number(answer: Answer) -> u64 {
-    match answer {
-        Answer::Done => 0,
-        Answer::Malformed => 24,
-        Answer::OrderAboveThree => 23,
-        Answer::TooShort => 19,
-        Answer::Outside => 22,
-    }
-}
-
 // The four orders of one query.
 fn query<'a>(
     curve: Curve,
@@ -104,14 +92,14 @@ fn query<'a>(
         &mut ddq,
         &mut dddq,
     );
-    if let Answer::Done = answer {
-        let next = output::cells(out, at, &q, curve.d);
-        let next = output::cells(out, next, &dq, curve.d);
-        let next = output::cells(out, next, &ddq, curve.d);
-        return output::cells(out, next, &dddq, curve.d);
+    if let Err(refusal) = answer {
+        let next = output::text(out, at, b" refused");
+        return output::whole(out, next, refusal.number());
     }
-    let next = output::text(out, at, b" refused");
-    output::whole(out, next, number(answer))
+    let next = output::cells(out, at, &q, curve.d);
+    let next = output::cells(out, next, &dq, curve.d);
+    let next = output::cells(out, next, &ddq, curve.d);
+    output::cells(out, next, &dddq, curve.d)
 }
 
 // Each of the queries.
@@ -126,19 +114,17 @@ fn queries<'a>(
     at: usize,
 ) -> usize {
     let mut next = at;
-    let mut i = 0;
-    while i < xs.len() {
+    for &x in xs {
         next = query(
             curve,
             breaks,
             coefficients,
             other_breaks,
             other_coefficients,
-            xs[i],
+            x,
             out,
             next,
         );
-        i += 1;
     }
     next
 }

@@ -3,13 +3,13 @@
 ghost use Rattle.std.specs.Prelude.{◌≡◌, ◌<◌, length};
 ghost use Rattle.curve.specs.Form.{slices};
 ghost use Rattle.query.specs.Row.{outputs};
-ghost use Rattle.query.specs.Query.{number_of, number_of_all, refused_place, evaluate_of, evaluate_all_of};
+ghost use Rattle.query.specs.Query.{refused_place, evaluate_of, evaluate_all_of};
 ghost use Rattle.listing.specs.Output.{printed};
 ghost use Rattle.replay_queries.specs.Told.{marks, marked_outputs, refusal_text, place_text, outputs_text, told_text, told_of_all_text};
 
 use curve::Curve;
 use listing::output;
-use query::{Answer, Answers};
+use query::Refusal;
 
 const MARK: f64 = -6.0221407623e-123;
 
@@ -17,11 +17,7 @@ const MARK: f64 = -6.0221407623e-123;
 fn mark(s: &mut [f64])
     ensures { s.new ≡ marks (length s.old) }
 {
-    let mut i = 0;
-    while i < s.len() {
-        s[i] = MARK;
-        i += 1;
-    }
+    s.fill(MARK);
 }
 
 // Every cell of the four slices is marked.
@@ -35,42 +31,13 @@ pub fn mark_all(q: &mut [f64], dq: &mut [f64], ddq: &mut [f64], dddq: &mut [f64]
     mark(dddq);
 }
 
-// Document 01's number of an answer, 0 where nothing is refused.
-pub fn number(answer: Answer) -> u64
-    ensures { result ≡ number_of answer }
-{
-    match answer {
-        Answer::Done => 0,
-        Answer::Malformed => 24,
-        Answer::OrderAboveThree => 23,
-        Answer::TooShort => 19,
-        Answer::Outside => 22,
-    }
-}
-
-// The same of many.
-fn number_of_all(answers: Answers) -> u64
-    ensures { result ≡ number_of_all answers }
-{
-    match answers {
-        Answers::All => 0,
-        Answers::Malformed => 24,
-        Answers::OrderAboveThree => 23,
-        Answers::TooShort => 19,
-        Answers::OutsideAt(_) => 22,
-    }
-}
-
 // Which of many was refused, 0 where no parameter was.
-fn refused_at(answers: Answers) -> u64
+fn refused_at(answers: Result<(), Refusal>) -> u64
     ensures { result ≡ refused_place answers }
 {
     match answers {
-        Answers::All => 0,
-        Answers::Malformed => 0,
-        Answers::OrderAboveThree => 0,
-        Answers::TooShort => 0,
-        Answers::OutsideAt(i) => i as u64,
+        Err(Refusal::OutsideAt(i)) => i as u64,
+        _ => 0,
     }
 }
 
@@ -140,7 +107,7 @@ pub fn single<'a>(
         ddq,
         dddq,
     );
-    let next = refusal(number(answer), out, at);
+    let next = refusal(query::number(answer), out, at);
     cells(q, dq, ddq, dddq, out, next)
 }
 
@@ -179,7 +146,7 @@ pub fn all<'a>(
         ddq,
         dddq,
     );
-    let next = refusal(number_of_all(answers), out, at);
-    let next = place(number_of_all(answers), refused_at(answers), out, next);
+    let next = refusal(query::number(answers), out, at);
+    let next = place(query::number(answers), refused_at(answers), out, next);
     cells(q, dq, ddq, dddq, out, next)
 }

@@ -56,12 +56,15 @@ fn next<'a>(
         ddq,
         dddq,
     );
-    let answer = found.answer;
-    let at = calls::refusal(calls::number(answer), out, kept.at);
-    Kept {
-        at: calls::cells(q, dq, ddq, dddq, out, at),
-        span: found.span,
-        other_span: found.other_span,
+    let at = calls::refusal(query::number(found), out, kept.at);
+    let at = calls::cells(q, dq, ddq, dddq, out, at);
+    match found {
+        Ok(spans) => Kept {
+            at,
+            span: spans.span,
+            other_span: spans.other_span,
+        },
+        Err(_) => Kept { at, ..kept },
     }
 }
 
@@ -91,8 +94,7 @@ pub fn in_turn<'a>(
         span: 0,
         other_span: 0,
     };
-    let mut i = 0;
-    while i < xs.len() {
+    for i in 0..xs.len() {
         kept = next(
             curve,
             breaks,
@@ -108,7 +110,6 @@ pub fn in_turn<'a>(
             dddq,
             out,
         );
-        i += 1;
     }
     kept.at
 }

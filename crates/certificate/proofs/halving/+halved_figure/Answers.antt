@@ -11,7 +11,7 @@ pub returns : goal.returns
 returns t c =
     let a = c.args in
     let h = c.halve-h in
-    halved_step a.depth (pair_at a.b.ends) (pair_at h.result.left.ends) (pair_at h.result.right.ends) (figure_in c.six_figure-own.result)
+    halved_step a.depth (pair_at a.b) (pair_at h.result.left) (pair_at h.result.right) (figure_in c.six_figure-own.result)
     (figure_in c.halved_figure-f.result) (figure_in c.halved_figure-g.result) (figure_in c.larger.result) (figure_in c.smaller.result)
     c.if-depth-eq0.false c.six_figure-own.ensures h.ensures.0 h.ensures.1 c.halved_figure-f.ensures c.halved_figure-g.ensures
     c.larger.ensures c.smaller.ensures
