@@ -25,10 +25,8 @@ fn value(c: &[f64], d: usize, start: usize, basis: [f64; 6], axis: usize) -> f64
     ensures { result ≡ value_of c.now d start basis axis }
 {
     let mut sum = -0.0;
-    let mut j = 0;
-    while j < 6 {
+    for j in 0..6 {
         sum += basis[j] * c[(start + j) * d + axis];
-        j += 1;
     }
     sum
 }
@@ -46,11 +44,9 @@ pub fn fitting_row(
     ensures { result ≡ row_of c.now d start basis weight target }
 {
     let mut residual = [0.0; 16];
-    let mut axis = 0;
-    while axis < d {
+    for axis in 0..d {
         let v = value(c, d, start, basis, axis);
         residual[axis] = weight * (target[axis] - v);
-        axis += 1;
     }
     Row {
         start,
@@ -65,10 +61,7 @@ fn is_active(a: usize, n: usize, control: usize) -> bool
     requires { a + n ≤ usize_max }
     ensures { result ≡ active a n control }
 {
-    if control < a {
-        return false;
-    }
-    control < a + n
+    a <= control && control < a + n
 }
 
 // Adds the products of the row's value i with those up to it to the band's row of its control.
@@ -78,12 +71,10 @@ fn add_products(h: &mut [f64], a: usize, row: Row, i: usize)
 {
     let start = row.start;
     let at = 6 * (start + i - a);
-    let mut j = 0;
-    while j < i + 1 {
+    for j in 0..i + 1 {
         if a <= start + j {
             h[at + (i - j)] = h[at + (i - j)] + row.weight * row.basis[i] * row.basis[j];
         }
-        j += 1;
     }
 }
 
@@ -93,12 +84,10 @@ fn add_band(h: &mut [f64], a: usize, n: usize, row: Row)
     ensures { h.new ≡ add_band_of a n row h.old }
 {
     let start = row.start;
-    let mut i = 0;
-    while i < 6 {
+    for i in 0..6 {
         if is_active(a, n, start + i) {
             add_products(h, a, row, i);
         }
-        i += 1;
     }
 }
 
@@ -109,13 +98,11 @@ fn add_axis(r: &mut [f64], a: usize, n: usize, d: usize, row: Row, axis: usize)
 {
     let start = row.start;
     let residual = row.residual[axis];
-    let mut i = 0;
-    while i < 6 {
+    for i in 0..6 {
         if is_active(a, n, start + i) {
             let k = (start + i - a) * d + axis;
             r[k] = r[k] + row.basis[i] * residual;
         }
-        i += 1;
     }
 }
 
@@ -124,10 +111,8 @@ fn add_right(r: &mut [f64], a: usize, n: usize, d: usize, row: Row)
     requires { (d ≤ 16) × (a + n ≤ usize_max) × (row.start + 6 ≤ usize_max) × (n * d ≤ length r.old) }
     ensures { r.new ≡ add_right_of a n d row r.old }
 {
-    let mut axis = 0;
-    while axis < d {
+    for axis in 0..d {
         add_axis(r, a, n, d, row, axis);
-        axis += 1;
     }
 }
 
@@ -168,58 +153,14 @@ impl Unsolved {
 fn unfit(x: f64, positive: bool) -> bool
     ensures { result ≡ unfit_of positive x }
 {
-    if !float::is_finite(x) {
-        return true;
-    }
-    if positive {
-        return x <= 0.0;
-    }
-    false
+    !float::is_finite(x) || (positive && x <= 0.0)
 }
 
 // Whether any of the cells is unfit.
 fn any_unfit(s: &[f64], positive: bool) -> bool
     ensures { result ≡ any_unfit_of positive s.now }
 {
-    let mut i = 0;
-    while i < s.len() {
-        if unfit(s[i], positive) {
-            return true;
-        }
-        i += 1;
-    }
-    false
-}
-
-// i - k, or 0 where k is greater.
-fn saturating_sub(i: usize, k: usize) -> usize
-    ensures { result ≡ i - k }
-{
-    if i < k {
-        return 0;
-    }
-    i - k
-}
-
-// How many cells of the band row i has.
-fn row_length(i: usize) -> usize
-    ensures { result ≡ min 5 i + 1 }
-{
-    if i < 5 {
-        return i + 1;
-    }
-    6
-}
-
-// The end of the rows that the band has in column i.
-fn column_end(i: usize, n: usize) -> usize
-    requires { i < n }
-    ensures { result ≡ min (i + 6) n }
-{
-    if n - i < 6 {
-        return n;
-    }
-    i + 6
+    s.iter().any(|x| unfit(*x, positive))
 }
 
 // The scales become the roots of the diagonal.
@@ -228,10 +169,8 @@ fn roots(sys: &mut [f64], n: usize, d: usize)
     ensures { system_of n d sys.new ≡ roots_of n (system_of n d sys.old) }
 {
     let scales = 6 * n + n * d;
-    let mut i = 0;
-    while i < n {
+    for i in 0..n {
         sys[scales + i] = float::sqrt(sys[6 * i]);
-        i += 1;
     }
 }
 
@@ -241,11 +180,8 @@ fn scale_row(sys: &mut [f64], n: usize, d: usize, i: usize)
     ensures { system_of n d sys.new ≡ scale_row_of i (system_of n d sys.old) }
 {
     let scales = 6 * n + n * d;
-    let end = row_length(i);
-    let mut k = 0;
-    while k < end {
+    for k in 0..i.min(5) + 1 {
         sys[6 * i + k] = sys[6 * i + k] / (sys[scales + i] * sys[scales + (i - k)]);
-        k += 1;
     }
 }
 
@@ -256,10 +192,8 @@ fn divide_row(sys: &mut [f64], n: usize, d: usize, i: usize)
 {
     let right = 6 * n;
     let scale = sys[right + n * d + i];
-    let mut axis = 0;
-    while axis < d {
+    for axis in 0..d {
         sys[right + (i * d + axis)] = sys[right + (i * d + axis)] / scale;
-        axis += 1;
     }
 }
 
@@ -269,10 +203,8 @@ fn reduced(h: &[f64], i: usize, j: usize) -> f64
     ensures { result ≡ reduced_of h.now i j }
 {
     let mut v = h[6 * i + (i - j)];
-    let mut k = saturating_sub(i, 5);
-    while k < j {
+    for k in i.saturating_sub(5)..j {
         v -= h[6 * i + (i - k)] * h[6 * j + (j - k)];
-        k += 1;
     }
     v
 }
@@ -282,11 +214,9 @@ fn eliminate(h: &mut [f64], i: usize)
     requires { 6 * i + 6 ≤ length h.old }
     ensures { h.new ≡ eliminated_of i h.old }
 {
-    let mut j = saturating_sub(i, 5);
-    while j < i {
+    for j in i.saturating_sub(5)..i {
         let v = reduced(h, i, j);
         h[6 * i + (i - j)] = v / h[6 * j];
-        j += 1;
     }
 }
 
@@ -296,15 +226,13 @@ fn factor(h: &mut [f64], n: usize) -> bool
     ensures value { result ≡ (factor_of n h.old).whole }
     ensures h_after { h.new ≡ (factor_of n h.old).band }
 {
-    let mut i = 0;
-    while i < n {
+    for i in 0..n {
         eliminate(h, i);
         let pivot = reduced(h, i, i);
         if unfit(pivot, true) {
             return false;
         }
         h[6 * i] = float::sqrt(pivot);
-        i += 1;
     }
     true
 }
@@ -315,12 +243,9 @@ fn forward_value(sys: &[f64], n: usize, d: usize, i: usize, axis: usize) -> f64
     ensures { result ≡ forward_value_of d i axis (system_of n d sys.now) }
 {
     let right = 6 * n;
-    let end = row_length(i);
     let mut v = sys[right + (i * d + axis)];
-    let mut k = 1;
-    while k < end {
+    for k in 1..i.min(5) + 1 {
         v -= sys[6 * i + k] * sys[right + ((i - k) * d + axis)];
-        k += 1;
     }
     v
 }
@@ -331,11 +256,9 @@ fn forward_row(sys: &mut [f64], n: usize, d: usize, i: usize)
     ensures { system_of n d sys.new ≡ forward_row_of d i (system_of n d sys.old) }
 {
     let right = 6 * n;
-    let mut axis = 0;
-    while axis < d {
+    for axis in 0..d {
         let v = forward_value(sys, n, d, i, axis);
         sys[right + (i * d + axis)] = v / sys[6 * i];
-        axis += 1;
     }
 }
 
@@ -345,12 +268,9 @@ fn back_value(sys: &[f64], n: usize, d: usize, i: usize, axis: usize) -> f64
     ensures { result ≡ back_value_of n d i axis (system_of n d sys.now) }
 {
     let right = 6 * n;
-    let end = column_end(i, n);
     let mut v = sys[right + (i * d + axis)];
-    let mut j = i + 1;
-    while j < end {
+    for j in i + 1..(i + 6).min(n) {
         v -= sys[6 * j + (j - i)] * sys[right + (j * d + axis)];
-        j += 1;
     }
     v
 }
@@ -361,11 +281,9 @@ fn back_row(sys: &mut [f64], n: usize, d: usize, i: usize)
     ensures { system_of n d sys.new ≡ back_row_of n d i (system_of n d sys.old) }
 {
     let right = 6 * n;
-    let mut axis = 0;
-    while axis < d {
+    for axis in 0..d {
         let v = back_value(sys, n, d, i, axis);
         sys[right + (i * d + axis)] = v / sys[6 * i];
-        axis += 1;
     }
 }
 
@@ -374,11 +292,9 @@ fn scale(sys: &mut [f64], n: usize, d: usize)
     requires { length sys.old ≡ size_of n d }
     ensures { system_of n d sys.new ≡ scale_of n d (system_of n d sys.old) }
 {
-    let mut i = 0;
-    while i < n {
+    for i in 0..n {
         scale_row(sys, n, d, i);
         divide_row(sys, n, d, i);
-        i += 1;
     }
 }
 
@@ -387,10 +303,8 @@ fn forward(sys: &mut [f64], n: usize, d: usize)
     requires { length sys.old ≡ size_of n d }
     ensures { system_of n d sys.new ≡ forward_of n d (system_of n d sys.old) }
 {
-    let mut i = 0;
-    while i < n {
+    for i in 0..n {
         forward_row(sys, n, d, i);
-        i += 1;
     }
 }
 
@@ -399,9 +313,7 @@ fn backward(sys: &mut [f64], n: usize, d: usize)
     requires { length sys.old ≡ size_of n d }
     ensures { system_of n d sys.new ≡ backward_of n d (system_of n d sys.old) }
 {
-    let mut i = n;
-    while 0 < i {
-        i -= 1;
+    for i in (0..n).rev() {
         back_row(sys, n, d, i);
     }
 }
@@ -411,10 +323,8 @@ fn unscale(sys: &mut [f64], n: usize, d: usize)
     requires { length sys.old ≡ size_of n d }
     ensures { system_of n d sys.new ≡ unscale_of n d (system_of n d sys.old) }
 {
-    let mut i = 0;
-    while i < n {
+    for i in 0..n {
         divide_row(sys, n, d, i);
-        i += 1;
     }
 }
 

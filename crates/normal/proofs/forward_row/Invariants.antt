@@ -1,0 +1,10 @@
+-- The axes left, from the system as it is, give the whole row.
+use Rattle.std.proofs.Common.{◌≡◌}
+use Rattle.arith.specs.Loop.{each}
+use Rattle.normal.specs.System.{system_of}
+use Rattle.normal.specs.Solve.{forward_cell_of, forward_row_of}
+use Rattle.normal.proofs.forward_row.Given as goal
+
+abbrev pub invariant-loop-axis : goal.invariant-loop-axis
+invariant-loop-axis l =
+    each (forward_cell_of l.d l.i) l.axis l.d (system_of l.n l.d l.sys) ≡ forward_row_of l.d l.i (system_of l.n l.d l.fn.sys)
