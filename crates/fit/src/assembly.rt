@@ -55,14 +55,12 @@ pub fn add_samples(
     let g = p.system;
     let mut seen = samples::first_density(&work[0..g], p);
     let mut rows = 0;
-    let mut i = first;
-    while i < last {
+    for i in first..last {
         seen = samples::look(&work[0..g], p, i, seen);
         if seen.dense {
             add_sample(work, p, a, z, i, seen.span);
             rows += 1;
         }
-        i += 1;
     }
     rows
 }
@@ -96,14 +94,10 @@ fn add_piece(
     ensures value { result ≡ rows + 6 }
 {
     let h = to - from;
-    let mut count = rows;
-    let mut r = 0;
-    while r < 6 {
+    for r in 0..6 {
         add_node(work, p, a, z, from, h, r);
-        count += 1;
-        r += 1;
     }
-    count
+    rows + 6
 }
 
 // Adds the rows of piece j of the mesh.
@@ -137,11 +131,8 @@ fn add_mesh(work: &mut [f64], p: Place, a: usize, z: usize, mesh: Mesh, rows: us
     ensures upper_bound { result ≤ rows + 6 * (p.samples + 1) }
 {
     let mut count = rows;
-    let mut j = mesh.begin;
-    let end = mesh.end + 1;
-    while j < end {
+    for j in mesh.begin..mesh.end + 1 {
         count = add_mesh_piece(work, p, a, z, mesh, j, count);
-        j += 1;
     }
     count
 }
@@ -188,12 +179,9 @@ pub fn add_sparse(
     ensures work_after { assembled result (system_at p (z - a) work.new)
         ≡ sparse_of (arrays_at p (before p work.old)) a z (assembled rows (system_at p (z - a) work.old)) }
 {
-    let m = p.count;
     let mut count = rows;
-    let mut span = 5;
-    while span < m {
+    for span in 5..p.count {
         count = add_span(work, p, a, z, lo, hi, span, count);
-        span += 1;
     }
     count
 }
@@ -225,10 +213,8 @@ fn add_penalty_nodes(work: &mut [f64], p: Place, a: usize, z: usize, strength: f
     ensures work_after { system_at p (z - a) work.new ≡ nodes_of (arrays_at p (before p work.old)) a z strength span
         (system_at p (z - a) work.old) }
 {
-    let mut r = 0;
-    while r < 3 {
+    for r in 0..3 {
         add_penalty_node(work, p, a, z, strength, span, r);
-        r += 1;
     }
 }
 
@@ -272,10 +258,7 @@ pub fn add_penalties(
     ensures work_after { system_at p (z - a) work.new ≡ penalties_of (arrays_at p (before p work.old)) a z strength
         (system_at p (z - a) work.old) }
 {
-    let m = p.count;
-    let mut span = 5;
-    while span < m {
+    for span in 5..p.count {
         add_penalty(work, p, a, z, strength, lo, hi, span);
-        span += 1;
     }
 }

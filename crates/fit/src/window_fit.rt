@@ -111,11 +111,9 @@ fn add_solution(work: &mut [f64], p: Place, a: usize, z: usize)
     let c_end = c + p.count * d;
     let count = (z - a) * d;
     let right = p.system + 6 * (z - a);
-    let mut i = 0;
-    while i < count {
+    for i in 0..count {
         let v = work[right + i];
         add_cell(&mut work[c..c_end], a * d + i, v);
-        i += 1;
     }
 }
 

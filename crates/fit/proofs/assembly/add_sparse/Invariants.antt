@@ -1,0 +1,17 @@
+-- The spans left, from the system as it is, give what all give; each adds at most 6 * 65537 rows.
+use Rattle.std.proofs.Common.{◌≡◌, ◌+◌, ◌-◌, ◌*◌, ◌≤◌}
+use Rattle.arith.specs.Loop.{each}
+use Rattle.fitting_rows.specs.Arrays.{arrays_at}
+use Rattle.fit.specs.Region.{before, system_at}
+use Rattle.fit.specs.Assembly.{assembled, sparse_turn, sparse_of}
+use Rattle.fit.proofs.assembly.add_sparse.Given as goal
+
+abbrev pub invariant-loop-span : goal.invariant-loop-span
+invariant-loop-span l =
+    let x = arrays_at l.p (before l.p l.fn.work) in
+    record {
+      upper_bound : l.count ≤ 65536 + 393222 * (l.span - 5);
+      arrays_same : before l.p l.work ≡ before l.p l.fn.work;
+      left : each (sparse_turn x l.a l.z) l.span l.p.count (assembled l.count (system_at l.p (l.z - l.a) l.work))
+          ≡ sparse_of x l.a l.z (assembled l.rows (system_at l.p (l.z - l.a) l.fn.work));
+    }
