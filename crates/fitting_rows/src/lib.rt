@@ -21,9 +21,3 @@ pub struct Place {
     pub samples: usize,
     pub system: usize,
 }
-
-// Values of up to 16 axes.
-#[derive(Clone, Copy)]
-pub struct Target {
-    pub cells: [f64; 16],
-}

@@ -14,10 +14,8 @@ fn third(powers: [f64; 36]) -> [f64; 6]
     ensures { result ≡ third_of powers }
 {
     let mut values = [0.0; 6];
-    let mut i = 0;
-    while i < 6 {
+    for i in 0..6 {
         values[i] = 6.0 * powers[6 * i + 3];
-        i += 1;
     }
     values
 }
@@ -50,19 +48,14 @@ pub fn penalty_row_at(cells: &[f64], p: Place, strength: f64, span: usize, r: us
 }
 
 // Whether the span is left out, for the window from lo to hi.
+#[tactic(auto, unfolding(crate::specs::Penalty::left_out))]
 fn leaves_out(t: &[f64], lo: f64, hi: f64, span: usize) -> bool
     requires { span + 1 < length t.now }
     ensures { result ≡ left_out t.now lo hi span }
 {
     let left = t[span];
     let right = t[span + 1];
-    if right - left <= 0.0 {
-        return true;
-    }
-    if hi <= left {
-        return true;
-    }
-    right <= lo
+    right - left <= 0.0 || hi <= left || right <= lo
 }
 
 // The same for the arrays at p.

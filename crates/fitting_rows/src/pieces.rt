@@ -4,7 +4,7 @@ ghost use Rattle.std.specs.Prelude.{◌≡◌, ◌+◌, ◌-◌, ◌*◌, ◌<�
 ghost use Rattle.fitting_rows.specs.Arrays.{ArraysWithin, arrays, arrays_at};
 ghost use Rattle.fitting_rows.specs.Pieces.{waypoint_interval, line_of, row_at, node_row_of, passed_over, piece_start, piece_end, mesh_span};
 
-use crate::{Place, Target};
+use crate::Place;
 
 // The nodes of a piece, from 0 to 1, and their weights.
 const GX: [f64; 6] = [
@@ -26,33 +26,27 @@ const GW: [f64; 6] = [
 ];
 
 // The interval between two of the n samples in which x lies.
+#[tactic(auto, unfolding(crate::specs::Pieces::waypoint_interval))]
 fn interval(s: &[f64], n: usize, x: f64) -> usize
     requires { 2 ≤ n }
     ensures { result ≡ waypoint_interval s.now n x }
 {
-    let p = bspline::search::partition_point_le(s, x);
-    if p < 1 {
-        return 0;
-    }
-    if n - 2 < p - 1 {
-        return n - 2;
-    }
-    p - 1
+    bspline::search::partition_point_le(s, x)
+        .saturating_sub(1)
+        .min(n - 2)
 }
 
-// The line between points i and i + 1, at x.
-fn line(s: &[f64], y: &[f64], d: usize, i: usize, x: f64) -> Target
+// The line between points i and i + 1, at x: d cells, and 0 up to 16.
+fn line(s: &[f64], y: &[f64], d: usize, i: usize, x: f64) -> [f64; 16]
     requires { (d ≤ 16) × (i + 1 < length s.now) × ((i + 1) * d + d ≤ length y.now) }
-    ensures { result.cells ≡ line_of s.now y.now d i x }
+    ensures { result ≡ line_of s.now y.now d i x }
 {
     let f = (x - s[i]) / (s[i + 1] - s[i]);
     let mut cells = [0.0; 16];
-    let mut axis = 0;
-    while axis < d {
+    for axis in 0..d {
         cells[axis] = y[i * d + axis] + f * (y[(i + 1) * d + axis] - y[i * d + axis]);
-        axis += 1;
     }
-    Target { cells }
+    cells
 }
 
 // The row at x, for m controls of d axes and n samples.
@@ -72,10 +66,9 @@ fn row_at(
     ensures { result ≡ row_at (arrays t.now c.now m d s.now y.now n) x weight }
 {
     let i = interval(s, n, x);
-    let p = line(s, y, d, i, x);
+    let target = line(s, y, d, i, x);
     let span = bspline::search::span(t, m, x);
     let basis = bspline::basis::values(t, span, x);
-    let target = p.cells;
     normal::fitting_row(c, d, span - 5, basis, weight, target)
 }
 
@@ -111,22 +104,14 @@ pub fn node_row(cells: &[f64], p: Place, from: f64, h: f64, r: usize) -> normal:
 }
 
 // Whether the span is passed over, for the window from lo to hi. Its density is asked last.
+#[tactic(auto, unfolding(crate::specs::Pieces::passed_over))]
 fn passes_over(t: &[f64], s: &[f64], lo: f64, hi: f64, span: usize) -> bool
     requires { span + 1 < length t.now }
     ensures { result ≡ passed_over t.now s.now lo hi span }
 {
     let left = t[span];
     let right = t[span + 1];
-    if right <= left {
-        return true;
-    }
-    if hi <= left {
-        return true;
-    }
-    if right <= lo {
-        return true;
-    }
-    crate::samples::is_dense(t, s, span)
+    right <= left || hi <= left || right <= lo || crate::samples::is_dense(t, s, span)
 }
 
 // The same for the arrays at p.
@@ -171,27 +156,23 @@ pub fn mesh_at(cells: &[f64], p: Place, span: usize) -> Mesh
 }
 
 // Where piece j of the mesh begins, for samples s.
+#[tactic(auto, unfolding(crate::specs::Pieces::piece_start))]
 fn start_of(s: &[f64], mesh: Mesh, j: usize) -> f64
     requires j_in_bounds { j ≤ length s.now }
     requires begin_le_j { mesh.begin ≤ j }
     ensures { result ≡ piece_start s.now mesh.left mesh.begin j }
 {
-    if j == mesh.begin {
-        return mesh.left;
-    }
-    s[j - 1]
+    if j == mesh.begin { mesh.left } else { s[j - 1] }
 }
 
 // Where it ends.
+#[tactic(auto, unfolding(crate::specs::Pieces::piece_end))]
 fn end_of(s: &[f64], mesh: Mesh, j: usize) -> f64
     requires end_in_bounds { mesh.end ≤ length s.now }
     requires j_le_end { j ≤ mesh.end }
     ensures { result ≡ piece_end s.now mesh.right mesh.end j }
 {
-    if j == mesh.end {
-        return mesh.right;
-    }
-    s[j]
+    if j == mesh.end { mesh.right } else { s[j] }
 }
 
 // From where to where a piece goes.

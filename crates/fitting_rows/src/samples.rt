@@ -4,9 +4,10 @@ ghost use Rattle.window.specs.Cells.{at};
 ghost use Rattle.fitting_rows.specs.Arrays.{ArraysWithin, arrays, arrays_at};
 ghost use Rattle.fitting_rows.specs.Samples.{dense_of, weight_of, point_of, sample_span, sample_row_of};
 
-use crate::{Place, Target};
+use crate::Place;
 
-// A span, and whether it is dense.
+// A span, and whether it is dense. Both stand beside each other: what is known of the last sample's span serves the next sample in it,
+// so the span is asked of a sparse one too.
 #[derive(Clone, Copy)]
 pub struct Density {
     pub span: usize,
@@ -20,10 +21,7 @@ pub fn is_dense(t: &[f64], s: &[f64], span: usize) -> bool
 {
     let begin = bspline::search::partition_point_lt(s, t[span]);
     let end = bspline::search::partition_point_lt(s, t[span + 1]);
-    if end < begin {
-        return false;
-    }
-    8 <= end - begin
+    8 <= end.saturating_sub(begin)
 }
 
 // Half of the parameters' distance from the sample before i to the one after it, of n samples.
@@ -40,18 +38,16 @@ fn weight(s: &[f64], n: usize, i: usize) -> f64
     (s[i + 1] - s[i - 1]) / 2.0
 }
 
-// The d cells of point i.
-pub fn point(y: &[f64], d: usize, i: usize) -> Target
+// The d cells of point i, and 0 up to 16.
+pub fn point(y: &[f64], d: usize, i: usize) -> [f64; 16]
     requires { (d ≤ 16) × (i * d + d ≤ length y.now) }
-    ensures { result.cells ≡ point_of y.now d i }
+    ensures { result ≡ point_of y.now d i }
 {
     let mut cells = [0.0; 16];
-    let mut axis = 0;
-    while axis < d {
+    for axis in 0..d {
         cells[axis] = y[i * d + axis];
-        axis += 1;
     }
-    Target { cells }
+    cells
 }
 
 // The row of sample i, of n, which lies in the span.
@@ -71,8 +67,7 @@ fn sample_row(
 {
     let basis = bspline::basis::values(t, span, s[i]);
     let w = weight(s, n, i);
-    let p = point(y, d, i);
-    let target = p.cells;
+    let target = point(y, d, i);
     normal::fitting_row(c, d, span - 5, basis, w, target)
 }
 

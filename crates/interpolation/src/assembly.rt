@@ -40,11 +40,9 @@ fn put_knots(work: &mut [f64], q: Place)
     let s_end = s + n;
     let t = q.knots;
     let count = q.count + 6;
-    let mut j = 0;
-    while j < count {
+    for j in 0..count {
         let v = knot(&work[s..s_end], n, j);
         work[t + j] = v;
-        j += 1;
     }
 }
 
@@ -98,10 +96,8 @@ fn add_waypoints(work: &mut [f64], q: Place)
         (system_in q work.old) }
 {
     let n = q.samples;
-    let mut i = 0;
-    while i < n {
+    for i in 0..n {
         add_waypoint(work, q, i);
-        i += 1;
     }
 }
 
@@ -124,10 +120,8 @@ fn add_end(work: &mut [f64], q: Place, u: f64, h: f64)
         ≡ end_turns q.samples q.axes (arrays_at q work.old).s (arrays_at q work.old).y u h
         (system_in q work.old) }
 {
-    let mut r = 1;
-    while r < 3 {
+    for r in 1..3 {
         add_derivative(work, q, u, h, r);
-        r += 1;
     }
 }
 

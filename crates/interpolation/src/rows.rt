@@ -24,8 +24,7 @@ pub fn waypoint_row(cells: &[f64], q: Place, i: usize) -> normal::Row
     let x = cells[q.parameters + i];
     let span = bspline::search::span(&cells[t..t_end], m, x);
     let basis = bspline::basis::values(&cells[t..t_end], span, x);
-    let p = fitting_rows::samples::point(&cells[y..y_end], d, i);
-    let target = p.cells;
+    let target = fitting_rows::samples::point(&cells[y..y_end], d, i);
     normal::fitting_row(&cells[c..c_end], d, span - 5, basis, 1.0, target)
 }
 
@@ -37,10 +36,8 @@ fn derivative(powers: [f64; 36], h: f64, r: usize) -> [f64; 6]
     let factorial = FACT[r];
     let scale = float::powi(h, r as u32);
     let mut values = [0.0; 6];
-    let mut i = 0;
-    while i < 6 {
+    for i in 0..6 {
         values[i] = powers[6 * i + r] * factorial * scale;
-        i += 1;
     }
     values
 }
