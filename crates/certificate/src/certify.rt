@@ -78,11 +78,9 @@ fn checked(
     if points::unfit(d, n, points) {
         return Err(Refusal::BadPoints);
     }
-    let placement = parameters::placed(spacing, parameters, points, d, n);
-    if placement.misplaced {
+    let Some(range) = parameters::placed(spacing, parameters, points, d, n) else {
         return Err(Refusal::BadParameters);
-    }
-    let range = placement.range;
+    };
     if parameters::unreliable(spacing, parameters, points, d, n, range) {
         return Err(Refusal::BadRange);
     }

@@ -260,11 +260,10 @@ pub fn refusal_before(
     if too_fine(points, d, n, axes, list, tolerance, tolerances) {
         return 26;
     }
-    let placement = request::parameters::placed(spacing, parameters, points, d, n);
-    if placement.misplaced {
-        return 5;
+    match request::parameters::placed(spacing, parameters, points, d, n) {
+        Some(_) => 0,
+        None => 5,
     }
-    0
 }
 
 // Whether the normalised parameters s are refused (6), which lie `range` apart before that.

@@ -15,6 +15,12 @@ module _ (test : ℕ → Bool) where
   unfolding any
   any_next i e t = rw (add-one, e, t)
 
+  -- each fails
+  pub any_all : (n : ℕ) → ((i : ℕ) → i < n → test i ≡ false) → any n test ≡ false
+  unfolding any
+  any_all zero h = refl
+  any_all (suc n) h = rw (any_all n (λ i l. h i (omega arith)), h n (omega arith))
+
   -- one passes
   pub any_found : (n i : ℕ) → i < n → test i ≡ true → any n test ≡ true
   unfolding any

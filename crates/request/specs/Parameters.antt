@@ -1,5 +1,5 @@
 -- The parameters of a request, as the source's `build` makes and tests them.
-use Rattle.std.specs.Prelude.{Bool, not, ◌||◌, List, ℕ, zero, suc, ◌+◌, ◌-◌, ◌*◌, eqb, pos, length, Float}
+use Rattle.std.specs.Prelude.{◌≡◌, Bool, true, false, Option, MatchOption, not, ◌||◌, List, ℕ, zero, suc, ◌+◌, ◌-◌, ◌*◌, eqb, pos, length, Float}
 use Rattle.std.specs.Float.{binary64}
 use Rattle.std.specs.Float.Ieee.{add, div, le, mul, of_int, sub}
 use Rattle.std.specs.Float.Ieee.Scale.{finite}
@@ -39,6 +39,10 @@ parameter_list Chord list points d n = list_of n (λ i. sum_of i (chord_length p
 -- `windows(2).any(|v| v[1] <= v[0])` of x 0 .. x (n - 1)
 abbrev pub any_fall : ℕ → (ℕ → Float) → Bool
 any_fall n x = any (n - 1) (λ i. le (x (i + 1)) (x i))
+
+-- an answer that is the range, unless the parameters are bad
+abbrev pub RangeUnless : Bool → Float → Option Float → Type 0
+RangeUnless bad range r = MatchOption r (bad ≡ true) (λ x. (bad ≡ false) × (x ≡ range))
 
 -- of the parameters p of n waypoints
 module _ (p : List Float) (n : ℕ) where

@@ -6,7 +6,7 @@ ghost use Rattle.std.specs.Float.Ieee.{le};
 ghost use Rattle.std.specs.Float.Ieee.Scale.{finite};
 ghost use Rattle.window.specs.Cells.{at};
 ghost use Rattle.request.specs.declared.parameters.Spacing.TheVariants.{Listed};
-ghost use Rattle.request.specs.Parameters.{even_of, sum_of, chord_length, parameter_list, any_fall, length_of, normalised_of, misplaced, unreliable};
+ghost use Rattle.request.specs.Parameters.{even_of, sum_of, chord_length, parameter_list, any_fall, length_of, normalised_of, RangeUnless, misplaced, unreliable};
 ghost use Rattle.request.specs.Any.{any};
 
 // Where the parameters come from: a list, which stands beside it, or the rule of spacing, whose version 1
@@ -34,11 +34,9 @@ fn chord_from(points: &[f64], d: usize, i: usize) -> f64
     let from = i * d;
     let to = (i + 1) * d;
     let mut sum = 0.0;
-    let mut row = 0;
-    while row < d {
+    for row in 0..d {
         let x = points[to + row] - points[from + row];
-        sum = sum + x * x;
-        row += 1;
+        sum += x * x;
     }
     float::sqrt(sum)
 }
@@ -49,10 +47,8 @@ fn chords(points: &[f64], d: usize, count: usize) -> f64
     ensures { result ≡ sum_of count (chord_length points.now d) }
 {
     let mut sum = 0.0;
-    let mut i = 0;
-    while i < count {
-        sum = sum + chord_from(points, d, i);
-        i += 1;
+    for i in 0..count {
+        sum += chord_from(points, d, i);
     }
     sum
 }
@@ -105,9 +101,10 @@ pub fn next(
     ensures { i + 1 < n → result ≡ at (parameter_list spacing list.now points.now d n) (i + 1) }
 {
     if i + 1 < n {
-        return following(spacing, list, points, d, n, i, current);
+        following(spacing, list, points, d, n, i, current)
+    } else {
+        current
     }
-    current
 }
 
 // The last parameter.
@@ -137,65 +134,39 @@ fn miscounted(spacing: Spacing, list: &[f64], n: usize) -> bool
 fn is_misplaced(previous: f64, x: f64) -> bool
     ensures { result ≡ (not (finite x) || le x previous) }
 {
-    if float::is_finite(x) {
-        return x <= previous;
-    }
-    true
+    !float::is_finite(x) || x <= previous
 }
 
-// The parameters tested (5). Where they are not misplaced, `range` is the last less the first.
-#[derive(Clone, Copy)]
-pub struct Placement {
-    pub misplaced: bool,
-    pub range: f64,
-}
-
-// Whether a parameter is infinite or a NaN, or at or below the one before it: gone through once.
-fn tested(spacing: Spacing, list: &[f64], points: &[f64], d: usize, n: usize) -> Placement
+// The last parameter less the first, unless one is infinite or a NaN, or at or below the one before it: gone through once.
+fn tested(spacing: Spacing, list: &[f64], points: &[f64], d: usize, n: usize) -> Option<f64>
     requires { (2 ≤ n) × (n ≤ 20000) × (n * d ≤ length points.now) × (spacing ≡ Listed → n ≤ length list.now) }
-    ensures misplaced_value { result.misplaced ≡ (any n (λ i. not (finite (at (parameter_list spacing list.now points.now d n) i)))
-        || any_fall n (at (parameter_list spacing list.now points.now d n))) }
-    ensures range_value { result.misplaced ≡ false
-        → result.range ≡ length_of (parameter_list spacing list.now points.now d n) n }
+    ensures { RangeUnless (any n (λ i. not (finite (at (parameter_list spacing list.now points.now d n) i)))
+        || any_fall n (at (parameter_list spacing list.now points.now d n)))
+        (length_of (parameter_list spacing list.now points.now d n) n) result }
 {
     let start = first(spacing, list, n);
     if !float::is_finite(start) {
-        return Placement {
-            misplaced: true,
-            range: 0.0,
-        };
+        return None;
     }
     let mut previous = start;
-    let mut i = 0;
-    while i < n - 1 {
+    for i in 0..n - 1 {
         let x = following(spacing, list, points, d, n, i, previous);
         if is_misplaced(previous, x) {
-            return Placement {
-                misplaced: true,
-                range: 0.0,
-            };
+            return None;
         }
         previous = x;
-        i += 1;
     }
-    Placement {
-        misplaced: false,
-        range: previous - start,
-    }
+    Some(previous - start)
 }
 
-// Whether the parameters are refused (5), and their range.
-pub fn placed(spacing: Spacing, list: &[f64], points: &[f64], d: usize, n: usize) -> Placement
+// The range of the parameters, the last less the first, unless they are refused (5).
+pub fn placed(spacing: Spacing, list: &[f64], points: &[f64], d: usize, n: usize) -> Option<f64>
     requires { (2 ≤ n) × (n ≤ 20000) × (n * d ≤ length points.now) }
-    ensures misplaced_value { result.misplaced ≡ misplaced (parameter_list spacing list.now points.now d n) n }
-    ensures range_value { result.misplaced ≡ false
-        → result.range ≡ length_of (parameter_list spacing list.now points.now d n) n }
+    ensures { RangeUnless (misplaced (parameter_list spacing list.now points.now d n) n)
+        (length_of (parameter_list spacing list.now points.now d n) n) result }
 {
     if miscounted(spacing, list, n) {
-        return Placement {
-            misplaced: true,
-            range: 0.0,
-        };
+        return None;
     }
     tested(spacing, list, points, d, n)
 }
@@ -209,20 +180,19 @@ fn falls(spacing: Spacing, list: &[f64], points: &[f64], d: usize, n: usize, ran
     let start = first(spacing, list, n);
     let mut current = start;
     let mut previous = (start - start) / range;
-    let mut i = 0;
-    while i < n - 1 {
+    for i in 0..n - 1 {
         current = following(spacing, list, points, d, n, i, current);
         let x = (current - start) / range;
         if x <= previous {
             return true;
         }
         previous = x;
-        i += 1;
     }
     false
 }
 
 // Whether their range is refused (6).
+#[tactic(auto, unfolding(crate::specs::Parameters::unreliable))]
 pub fn unreliable(
     spacing: Spacing,
     list: &[f64],
@@ -235,8 +205,5 @@ pub fn unreliable(
     requires range_value { range ≡ length_of (parameter_list spacing list.now points.now d n) n }
     ensures { result ≡ unreliable (parameter_list spacing list.now points.now d n) n }
 {
-    if float::is_finite(range) {
-        return falls(spacing, list, points, d, n, range);
-    }
-    true
+    !float::is_finite(range) || falls(spacing, list, points, d, n, range)
 }

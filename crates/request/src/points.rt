@@ -9,26 +9,13 @@ ghost use Rattle.request.specs.Points.{unfit};
 fn not_finite(points: &[f64]) -> bool
     ensures { result ≡ any (length points.now) (λ i. not (finite (at points.now i))) }
 {
-    let mut i = 0;
-    while i < points.len() {
-        if float::is_finite(points[i]) {
-            i += 1;
-        } else {
-            return true;
-        }
-    }
-    false
+    points.iter().any(|x| !float::is_finite(*x))
 }
 
 // Whether the points of n waypoints with d rows each are refused (1).
+#[tactic(auto, unfolding(crate::specs::Points::unfit))]
 pub fn unfit(d: usize, n: usize, points: &[f64]) -> bool
     ensures { result ≡ unfit d n points.now }
 {
-    if d == 0 {
-        return true;
-    }
-    if n < 2 {
-        return true;
-    }
-    not_finite(points)
+    d == 0 || n < 2 || not_finite(points)
 }

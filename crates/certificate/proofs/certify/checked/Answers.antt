@@ -1,6 +1,9 @@
--- By cases on the checks, in their order. What is not refused is `Accepted`, and gives what the walk requires.
-use Rattle.std.proofs.Common.{◌≡◌, ◌*◌, ◌≤◌, sym, ap, ◌∙◌, arith}
+-- `certify::checked` meets its contract: by cases on the checks, in their order. What is not refused is `Accepted`, and gives what the walk
+-- requires.
+use mathlib.Core.Path.{sym, ap, ◌∙◌}
+use Prim.Native.Nat.{◌*◌, ◌≤◌}
 use native.Mathlib.Nat.{mul-le-mul}
+use native.Mathlib.Omega.{arith}
 use borrow.Author.Tests.{le-ltb, lt-ltb, eq-eqb, ne_eqb}
 use Rattle.request.proofs.Counts.{listed_count, waypoint_count}
 use Rattle.curve.specs.Form.{slices}
@@ -40,50 +43,61 @@ pub returns-then-unfit : goal.returns-then-unfit
 unfolding certify_of
 returns-then-unfit c = rw (
   le-ltb 6 _ c.if-depth-gt6.false,
-  le-ltb 16 _ c.if-d-gt16.false,
+  le-ltb 16 _
+      c.if-d-gt16.false,
   le-ltb 20000 _ c.if-n-gt20000.false,
-  eq-eqb _ _ c.if-points-d.false,
+  eq-eqb
+      _ _ c.if-points-d.false,
   sym c.unfit.ensures ∙ c.if-unfit.true,
 )
 
-pub placed-placement-requires : goal.placed-placement-requires
-placed-placement-requires c =
+pub placed-requires : goal.placed-requires
+placed-requires c =
     let a = c.args in (
-      waypoint_count a.curve.d a.n a.points.now (sym c.unfit.ensures ∙ c.if-unfit.false), c.if-n-gt20000.false,
-      omega (arith, c.if-points-d.false),
-    )
-
-pub returns-then-placement : goal.returns-then-placement
-unfolding certify_of
-returns-then-placement c = rw (
-  le-ltb 6 _ c.if-depth-gt6.false,
-  le-ltb 16 _ c.if-d-gt16.false,
-  le-ltb 20000 _ c.if-n-gt20000.false,
-  eq-eqb _ _ c.if-points-d.false,
-  sym c.unfit.ensures ∙ c.if-unfit.false,
-  sym c.placed-placement.ensures.misplaced_value ∙ c.if-placement.true,
-)
-
-pub unreliable-requires-clause-le_n : goal.unreliable-requires-clause-le_n
-unreliable-requires-clause-le_n c =
-    let a = c.args in
-    let count = listed_count a.spacing a.parameters.now a.points.now a.curve.d a.n
-    (sym c.placed-placement.ensures.misplaced_value ∙ c.if-placement.false) in (
       waypoint_count a.curve.d a.n a.points.now (sym c.unfit.ensures ∙ c.if-unfit.false),
       c.if-n-gt20000.false,
       omega (arith, c.if-points-d.false),
-      λ e. let l = count e in omega arith,
     )
+
+pub returns-in_default : goal.returns-in_default
+unfolding certify_of
+returns-in_default c = rw (
+  le-ltb 6 _ c.if-depth-gt6.false,
+  le-ltb 16 _ c.if-d-gt16.false,
+  le-ltb 20000 _
+      c.if-n-gt20000.false,
+  eq-eqb _ _ c.if-points-d.false,
+  sym
+      c.unfit.ensures ∙ c.if-unfit.false,
+  c.in_default.ensures,
+)
+
+pub unreliable-requires : goal.unreliable-requires
+unreliable-requires c =
+    let a = c.args in
+    let count = listed_count a.spacing a.parameters.now a.points.now a.curve.d a.n c.in-Some.ensures.0 in
+    record {
+      le_n = (
+        waypoint_count a.curve.d a.n a.points.now (sym c.unfit.ensures ∙ c.if-unfit.false),
+        c.if-n-gt20000.false,
+        omega (arith, c.if-points-d.false),
+        λ e. let l = count e in omega arith,
+      );
+      range_value = c.in-Some.ensures.1;
+    }
 
 pub returns-then-unreliable : goal.returns-then-unreliable
 unfolding certify_of
 returns-then-unreliable c = rw (
   le-ltb 6 _ c.if-depth-gt6.false,
   le-ltb 16 _ c.if-d-gt16.false,
-  le-ltb 20000 _ c.if-n-gt20000.false,
-  eq-eqb _ _ c.if-points-d.false,
-  sym c.unfit.ensures ∙ c.if-unfit.false,
-  sym c.placed-placement.ensures.misplaced_value ∙ c.if-placement.false,
+  le-ltb 20000 _
+      c.if-n-gt20000.false,
+  eq-eqb _ _
+      c.if-points-d.false,
+  sym c.unfit.ensures
+      ∙ c.if-unfit.false,
+  c.in-Some.ensures.0,
   sym c.unreliable.ensures ∙ c.if-unreliable.true,
 )
 
@@ -92,11 +106,16 @@ unfolding certify_of
 returns-then-not-well_formed c = rw (
   le-ltb 6 _ c.if-depth-gt6.false,
   le-ltb 16 _ c.if-d-gt16.false,
-  le-ltb 20000 _ c.if-n-gt20000.false,
-  eq-eqb _ _ c.if-points-d.false,
-  sym c.unfit.ensures ∙ c.if-unfit.false,
-  sym c.placed-placement.ensures.misplaced_value ∙ c.if-placement.false,
-  sym c.unreliable.ensures ∙ c.if-unreliable.false,
+  le-ltb 20000 _
+      c.if-n-gt20000.false,
+  eq-eqb _ _
+      c.if-points-d.false,
+  sym
+      c.unfit.ensures
+      ∙ c.if-unfit.false,
+  c.in-Some.ensures.0,
+  sym c.unreliable.ensures
+      ∙ c.if-unreliable.false,
   sym c.well_formed-2.ensures ∙ c.if-not-well_formed.true,
 )
 
@@ -114,10 +133,14 @@ returns-then-k-place c = rw (
   le-ltb 16 _ c.if-d-gt16.false,
   le-ltb 20000 _ c.if-n-gt20000.false,
   eq-eqb _ _ c.if-points-d.false,
-  sym c.unfit.ensures ∙ c.if-unfit.false,
-  sym c.placed-placement.ensures.misplaced_value ∙ c.if-placement.false,
-  sym c.unreliable.ensures ∙ c.if-unreliable.false,
-  sym c.well_formed-2.ensures ∙ c.if-not-well_formed.false,
+  sym c.unfit.ensures
+      ∙ c.if-unfit.false,
+  c.in-Some.ensures.0,
+  sym
+      c.unreliable.ensures
+      ∙ c.if-unreliable.false,
+  sym c.well_formed-2.ensures
+      ∙ c.if-not-well_formed.false,
   ← c.position-place.ensures,
   le-ltb _ _ c.if-k-place.true,
 )
@@ -132,10 +155,13 @@ walk-requires c =
       d_domain = c.if-d-gt16.false;
       n_domain = c.if-n-gt20000.false;
       cells = c.if-points-d.false;
-      points_fit = sym c.unfit.ensures ∙ c.if-unfit.false;
-      placed = sym c.placed-placement.ensures.misplaced_value ∙ c.if-placement.false;
-      reliable = sym c.unreliable.ensures ∙ c.if-unreliable.false;
-      well_formed_law = sym c.well_formed-2.ensures ∙ c.if-not-well_formed.false;
+      points_fit = sym c.unfit.ensures
+          ∙ c.if-unfit.false;
+      placed = c.in-Some.ensures.0;
+      reliable = sym c.unreliable.ensures
+          ∙ c.if-unreliable.false;
+      well_formed_law = sym c.well_formed-2.ensures
+          ∙ c.if-not-well_formed.false;
       selected = rw (← c.position-place.ensures) c.if-k-place.false;
     }
     in
@@ -156,9 +182,10 @@ walk-requires c =
       );
       rises = (
         breaks_rise_law a.curve s a.points.now a.n a.spacing a.parameters.now a.axis a.depth A,
-        parameters_rise a.curve s a.points.now a.n a.spacing a.parameters.now a.axis a.depth A c.type_inv.parameters,
+        parameters_rise a.curve s a.points.now a.n a.spacing a.parameters.now a.axis a.depth A
+            c.type_inv.parameters,
       );
-      range_value = c.placed-placement.ensures.range_value c.if-placement.false;
+      range_value = c.in-Some.ensures.1;
     }
 
 pub returns : goal.returns
@@ -166,12 +193,18 @@ unfolding certify_of
 returns c = rw (
   le-ltb 6 _ c.if-depth-gt6.false,
   le-ltb 16 _ c.if-d-gt16.false,
-  le-ltb 20000 _ c.if-n-gt20000.false,
+  le-ltb 20000 _
+      c.if-n-gt20000.false,
   eq-eqb _ _ c.if-points-d.false,
   sym c.unfit.ensures ∙ c.if-unfit.false,
-  sym c.placed-placement.ensures.misplaced_value ∙ c.if-placement.false,
-  sym c.unreliable.ensures ∙ c.if-unreliable.false,
-  sym c.well_formed-2.ensures ∙ c.if-not-well_formed.false,
+  c.in-Some.ensures.0,
+  sym
+      c.unreliable.ensures
+      ∙ c.if-unreliable.false,
+  sym
+      c.well_formed-2.ensures
+      ∙ c.if-not-well_formed.false,
   ← c.position-place.ensures,
-  lt-ltb _ _ c.if-k-place.false,
-) (ap (outcome 0) c.walk.ensures)
+  lt-ltb _ _
+      c.if-k-place.false,
+) (c.answer.ensures ∙ ap (outcome 0) c.walk.ensures)
