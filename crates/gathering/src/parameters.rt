@@ -18,11 +18,9 @@ fn put_list(cells: &mut [f64], spacing: Spacing, list: &[f64], points: &[f64], d
     let n = cells.len();
     let mut current = parameters::first(spacing, list, n);
     cells[0] = current;
-    let mut i = 0;
-    while i < n - 1 {
+    for i in 0..n - 1 {
         current = parameters::following(spacing, list, points, d, n, i, current);
-        i += 1;
-        cells[i] = current;
+        cells[i + 1] = current;
     }
 }
 
@@ -36,10 +34,8 @@ fn normalise(cells: &mut [f64]) -> f64
     let n = cells.len();
     let start = cells[0];
     let range = cells[n - 1] - start;
-    let mut i = 0;
-    while i < n {
-        cells[i] = (cells[i] - start) / range;
-        i += 1;
+    for x in cells.iter_mut() {
+        *x = (*x - start) / range;
     }
     range
 }
