@@ -43,9 +43,7 @@ pub fn of_segment(p: &[f64], a: f64, b: f64) -> Controls
     ensures { ControlsFrom (segment_form a b p.now) result }
 {
     let width = b - a;
-    let form = piece::curve_form(p, (a - a) / width, width / width);
-    let cells = form.cells;
-    wholes(cells)
+    wholes(piece::curve_form(p, (a - a) / width, width / width))
 }
 
 // The whole controls, on segment i, of the axis at a place of the m axes of a set.

@@ -4,3 +4,4 @@ pub mod Placed
 pub mod Counts
 pub mod Above
 pub mod Largest
+pub mod Six

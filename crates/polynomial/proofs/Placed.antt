@@ -1,12 +1,18 @@
 -- What the slice holds once bounds and witnesses are written: the parts that are read are as they were.
-use mathlib.Core.Path.{◌≡◌, refl, ap, ◌∙◌}
+use mathlib.Core.Path.{◌≡◌, refl, sym, ap, ◌∙◌}
 use mathlib.Core.List.{List}
-use Prim.Native.Nat.{ℕ, ◌+◌, ◌-◌, ◌*◌}
+use Prim.Native.Nat.{ℕ, ◌+◌, ◌-◌, ◌*◌, ◌≤◌, ◌<◌}
+use native.Mathlib.Numerals.{add-one}
 use native.Mathlib.Omega.{arith}
-use lib.ListN.{length, length-set}
-use lib.Ieee.{Float}
-use Rattle.arith.proofs.Loops.{each_keeps}
+use lib.ListN.{length, length-set, set, take}
+use Rattle.std.proofs.Common.{length-take-le}
+use Rattle.std.proofs.Math.Seq.{take-suc}
+use lib.Ieee.{Float, nan}
+use Rattle.arith.proofs.Loops.{each_keeps, each_runs}
 use Rattle.window.specs.Cells.{at}
+use Rattle.window.specs.Rows.{written}
+use Rattle.window.specs.Window.{splice}
+use Rattle.window.proofs.Written.{written_none, set_next}
 use Rattle.window.proofs.Windows.{splice_window}
 use Rattle.polynomial.specs.declared.audit.Parts.{Parts}
 use Rattle.polynomial.specs.Interval.{Interval, interval_of}
@@ -75,3 +81,23 @@ module _ (p : Parts) (w x z : List Float) (laid : PartsLaid p (length w)) (lx : 
       ∙ ap (λ (t : List Float). with_bounds p (g t) (h (witness_at p (with_bounds p x z w))) (with_bounds p x z w)) (both_first apart)
       ∙ ap (λ (t : List Float). with_bounds p (g x) (h t) (with_bounds p x z w)) (both_second apart)
       ∙ both_again apart (g x) (h z) (omega arith)
+
+-- cells copied from `row` on are set one after the other
+pub bounds_copied : (row d : ℕ) (cells bounds : List Float) → d ≤ length cells → row + d ≤ length bounds
+    → splice row (row + d) (take d cells) bounds ≡ bounds_with row d cells bounds
+unfolding bounds_with
+bounds_copied row d cells bounds h g =
+    let n = length-take-le d cells h in
+    ap (λ (k : ℕ). splice row (row + k) (take d cells) bounds) (sym n)
+    ∙ sym (each_runs (λ i b. b ≡ written row (take i cells) bounds) (λ axis b. set b (row + axis) (at cells axis)) 0 d bounds (omega arith)
+    step (sym (written_none row bounds)))
+  where
+    step : (i : ℕ) (b : List Float) → 0 ≤ i → i < d → b ≡ written row (take i cells) bounds
+        → set b (row + i) (at cells i) ≡ written row (take (i + 1) cells) bounds
+    step i b l k is =
+        let n = length-take-le i cells (omega arith) in
+        let q : row + i ≡ row + length (take i cells) = omega arith in
+        ap (λ (b : List Float). set b (row + i) (at cells i)) is
+        ∙ (λ j. set (written row (take i cells) bounds) (q j) (at cells i))
+        ∙ set_next row (take i cells) bounds (at cells i) (omega arith)
+        ∙ ap (λ (v : List Float). written row v bounds) (sym (take-suc cells i nan (omega arith)) ∙ ap (λ (k : ℕ). take k cells) (sym (add-one i)))

@@ -74,19 +74,7 @@ fn put_bounds(bounds: &mut [f64], row: usize, d: usize, cells: &[f64])
     requires { (d ≤ length cells.now) × (row + d ≤ length bounds.old) }
     ensures { bounds.new ≡ bounds_with row d cells.now bounds.old }
 {
-    let mut axis = 0;
-    while axis < d {
-        bounds[row + axis] = cells[axis];
-        axis += 1;
-    }
-}
-
-// The witness of interval i.
-fn put_witness(witness: &mut [f64], i: usize, x: f64)
-    requires { i < length witness.old }
-    ensures { witness.new ≡ set witness.old i x }
-{
-    witness[i] = x;
+    bounds[row..row + d].copy_from_slice(&cells[..d]);
 }
 
 // The bounds and the witness of interval i.
@@ -102,7 +90,8 @@ fn put(work: &mut [f64], p: Parts, i: usize, cells: &[f64], x: f64)
     let w = p.witness;
     let f = w + (p.samples - 1);
     put_bounds(&mut work[b..e], i * d, d, cells);
-    put_witness(&mut work[w..f], i, x);
+    let witness = &mut work[w..f];
+    witness[i] = x;
 }
 
 // The audit of the curve at p; an interval's bounds are collected in `cells`, one for each axis.

@@ -42,6 +42,7 @@ pub struct Ended {
 }
 
 // The piece from `left` to `right`, in segment `span` and interval i.
+#[tactic(auto, unfolding(crate::specs::Interval::piece_at, crate::specs::Piece::piece_from))]
 fn place(breaks: &[f64], s: &[f64], i: usize, span: usize, left: f64, right: f64) -> Piece
     requires { (span + 1 < length breaks.now) × (i + 1 < length s.now) }
     ensures { result ≡ piece_at breaks.now s.now i span left right }
@@ -78,8 +79,7 @@ fn axes(
         let from = 6 * (first + axis);
         let to = from + 6;
         let b = piece::error_form(&coefficients[from..to], y[row + axis], y[row + d + axis], q);
-        let cells = b.cells;
-        if !piece::all_finite(cells) {
+        if !piece::all_finite(b) {
             return Err(Unaudited::NotFinite);
         }
         let before = Largest {
@@ -87,7 +87,7 @@ fn axes(
             peak,
             witness,
         };
-        let l = piece::take_in(cells, q.middle, before);
+        let l = piece::take_in(b, q.middle, before);
         bounds[axis] = l.bound;
         peak = l.peak;
         witness = l.witness;

@@ -19,12 +19,6 @@ pub struct Piece {
     pub middle: f64,
 }
 
-// Six coefficients.
-#[derive(Clone, Copy)]
-pub struct Six {
-    pub cells: [f64; 6],
-}
-
 // The largest absolute coefficient of an axis; the largest of all axes, and the middle of its piece.
 #[derive(Clone, Copy)]
 pub struct Largest {
@@ -39,48 +33,31 @@ fn power(p: &[f64], u: f64, w: f64, j: usize) -> f64
     ensures { result ≡ piece_power floats (power_of floats) p.now u w j }
 {
     let mut value = 0.0;
-    let mut k = j;
-    while k < 6 {
+    for k in j..6 {
         let c = bspline::choose::choose(k, j);
         let q = float::powi(u, (k - j) as u32);
         value = value + c * p[k] * q;
-        k += 1;
     }
     value * float::powi(w, j as u32)
 }
 
 // All six powers.
-fn powers(p: &[f64], u: f64, w: f64) -> Six
+fn powers(p: &[f64], u: f64, w: f64) -> [f64; 6]
     requires { length p.now ≡ 6 }
-    ensures { result.cells ≡ piece_powers floats (power_of floats) p.now u w }
+    ensures { result ≡ piece_powers floats (power_of floats) p.now u w }
 {
-    Six {
-        cells: [
-            power(p, u, w, 0),
-            power(p, u, w, 1),
-            power(p, u, w, 2),
-            power(p, u, w, 3),
-            power(p, u, w, 4),
-            power(p, u, w, 5),
-        ],
-    }
+    std::array::from_fn(|j| power(p, u, w, j))
 }
 
 // All six powers, less the line a + b times the piece's parameter.
-fn error(p: &[f64], u: f64, w: f64, a: f64, b: f64) -> Six
+fn error(p: &[f64], u: f64, w: f64, a: f64, b: f64) -> [f64; 6]
     requires { length p.now ≡ 6 }
-    ensures { result.cells ≡ error_of floats (power_of floats) p.now u w a b }
+    ensures { result ≡ error_of floats (power_of floats) p.now u w a b }
 {
-    Six {
-        cells: [
-            power(p, u, w, 0) - a,
-            power(p, u, w, 1) - b,
-            power(p, u, w, 2),
-            power(p, u, w, 3),
-            power(p, u, w, 4),
-            power(p, u, w, 5),
-        ],
-    }
+    let mut e = powers(p, u, w);
+    e[0] = e[0] - a;
+    e[1] = e[1] - b;
+    e
 }
 
 // Bernstein coefficient k of the polynomial with these powers.
@@ -89,86 +66,44 @@ fn bernstein(powers: [f64; 6], k: usize) -> f64
     ensures { result ≡ bernstein_of floats powers k }
 {
     let mut v = 0.0;
-    let mut j = 0;
-    while j < k + 1 {
+    for j in 0..k + 1 {
         let c = bspline::choose::choose(k, j);
         let e = bspline::choose::choose(5, j);
         v = v + powers[j] * c / e;
-        j += 1;
     }
     v
 }
 
 // All six.
-fn bernsteins(powers: [f64; 6]) -> Six
-    ensures { result.cells ≡ bernstein_coefficients floats powers }
+fn bernsteins(powers: [f64; 6]) -> [f64; 6]
+    ensures { result ≡ bernstein_coefficients floats powers }
 {
-    Six {
-        cells: [
-            bernstein(powers, 0),
-            bernstein(powers, 1),
-            bernstein(powers, 2),
-            bernstein(powers, 3),
-            bernstein(powers, 4),
-            bernstein(powers, 5),
-        ],
-    }
+    std::array::from_fn(|k| bernstein(powers, k))
 }
 
 // The Bernstein coefficients of the segment's polynomial p on the piece, less the line that goes
 // from `start` to `end` over the waypoint interval.
-pub fn error_form(p: &[f64], start: f64, end: f64, q: Piece) -> Six
+pub fn error_form(p: &[f64], start: f64, end: f64, q: Piece) -> [f64; 6]
     requires { length p.now ≡ 6 }
-    ensures { result.cells ≡ errors_on p.now start end q }
+    ensures { result ≡ errors_on p.now start end q }
 {
     let delta = end - start;
-    let e = error(p, q.u, q.w, start + q.before * delta, q.part * delta);
-    let cells = e.cells;
-    bernsteins(cells)
+    bernsteins(error(p, q.u, q.w, start + q.before * delta, q.part * delta))
 }
 
 // The Bernstein coefficients of the segment's polynomial p on the piece from u on, w wide.
-pub fn curve_form(p: &[f64], u: f64, w: f64) -> Six
+pub fn curve_form(p: &[f64], u: f64, w: f64) -> [f64; 6]
     requires { length p.now ≡ 6 }
-    ensures { result.cells ≡ curve_form floats (power_of floats) p.now u w }
+    ensures { result ≡ curve_form floats (power_of floats) p.now u w }
 {
-    let e = powers(p, u, w);
-    let cells = e.cells;
-    bernsteins(cells)
-}
-
-// Whether both hold.
-fn both(a: bool, b: bool) -> bool
-    ensures { result ≡ (a && b) }
-{
-    if a { b } else { false }
+    bernsteins(powers(p, u, w))
 }
 
 // Whether no coefficient is infinite or a NaN.
 pub fn all_finite(b: [f64; 6]) -> bool
     ensures { result ≡ all_finite b }
 {
-    let mut good = true;
-    let mut k = 0;
-    while k < 6 {
-        good = both(good, float::is_finite(b[k]));
-        k += 1;
-    }
-    good
-}
-
-// x where the test holds, and otherwise y.
-fn either(test: bool, x: f64, y: f64) -> f64
-    ensures { result ≡ cond test x y }
-{
-    if test { x } else { y }
-}
-
-// The larger of two numbers.
-fn larger(x: f64, y: f64) -> f64
-    ensures { result ≡ larger_of x y }
-{
-    either(x < y, y, x)
+    b.iter().all(|x| float::is_finite(*x))
 }
 
 // The largest absolute coefficient.
@@ -176,10 +111,11 @@ fn maximum(b: [f64; 6]) -> f64
     ensures { result ≡ largest_of b }
 {
     let mut m = float::abs(b[0]);
-    let mut k = 1;
-    while k < 6 {
-        m = larger(m, float::abs(b[k]));
-        k += 1;
+    for k in 1..6 {
+        let a = float::abs(b[k]);
+        if m < a {
+            m = a;
+        }
     }
     m
 }
@@ -191,10 +127,14 @@ pub fn take_in(b: [f64; 6], middle: f64, before: Largest) -> Largest
     ensures { result ≡ each (largest_turn b middle) 0 6 before }
 {
     let m = maximum(b);
-    let higher = before.peak < m;
-    Largest {
-        bound: float::max(before.bound, m),
-        peak: either(higher, m, before.peak),
-        witness: either(higher, middle, before.witness),
+    let bound = float::max(before.bound, m);
+    if before.peak < m {
+        Largest {
+            bound,
+            peak: m,
+            witness: middle,
+        }
+    } else {
+        Largest { bound, ..before }
     }
 }

@@ -8,17 +8,7 @@ pub fn span(breaks: &[f64], x: f64) -> usize
     ensures { result ≡ break_span breaks.now x }
 {
     let p = bspline::search::partition_point_le(breaks, x);
-    let n = breaks.len();
-    if n < 2 {
-        return 0;
-    }
-    if p < 1 {
-        return 0;
-    }
-    if n <= p {
-        return n - 2;
-    }
-    p - 1
+    p.saturating_sub(1).min(breaks.len().saturating_sub(2))
 }
 
 // The span moved on while it is not the last and its right break is at or below `left`.
@@ -28,6 +18,7 @@ pub fn advance(breaks: &[f64], left: f64, span: usize) -> usize
 {
     let n = breaks.len() - 1;
     let mut k = span;
+    // As the source has it: a chain that skips breaks and counts them is no plainer.
     while k + 1 < n && breaks[k + 1] <= left {
         k += 1;
     }

@@ -1,0 +1,9 @@
+-- `error_form` is its definition.
+use Rattle.std.proofs.Common.{ap, ◌∙◌}
+use Rattle.arith.specs.Operations.{floats}
+use Rattle.polynomial.specs.Piece.{bernstein_coefficients, error_form}
+use Rattle.polynomial.proofs.piece.error_form.Goals as goal
+
+pub returns : goal.returns
+unfolding error_form
+returns c = c.bernsteins.ensures ∙ ap (bernstein_coefficients floats) c.error.ensures
