@@ -1,6 +1,6 @@
 -- The laws of `axis_place`: how a loop over the axes finds their places, and that a place is below d.
 use mathlib.Core.Path.{◌≡◌, refl, ◌∙◌}
-use mathlib.Core.Bool.{cond}
+use mathlib.Core.Bool.{Bool, cond, ◌&&◌}
 use mathlib.Core.List.{List}
 use Prim.Native.Nat.{ℕ, zero, suc, ◌+◌, ◌≤◌, ◌<◌}
 use native.Mathlib.Omega.{arith}
@@ -131,3 +131,7 @@ module _ (axes : List ℕ) where
         let n = others_count k d good in
         rw (other_place axes k a (omega arith)) (omega arith)
   ]
+
+-- what is asked of axis j
+abbrev pub axis_good : List ℕ → ℕ → ℕ → Bool
+axis_good axes d j = ltb (get_or axes j 0) d && eqb (position_of axes j (get_or axes j 0)) j

@@ -9,7 +9,7 @@ use borrow.Author.Tests.{leb-true, eqb-true}
 use lib.Dec.{leb, eqb}
 use lib.ListN.{length}
 use lib.Ieee.{Float, binary64, of_bits, to_bits, lt, eq}
-use Rattle.arith.specs.First.{first_of}
+use Rattle.arith.specs.First.{every, first_of}
 use Rattle.arith.proofs.Truth.{and_parts}
 use Rattle.window.specs.Cells.{+0, at}
 use Rattle.curve.specs.declared.Curve.{Curve}
@@ -73,12 +73,15 @@ abbrev pub formed_at : List Float → List Float → ℕ → ℕ → Bool
 formed_at breaks cells from i =
     lt (at breaks i) (at breaks (i + 1)) && eqb (to_bits binary64 (at cells (from + i))) (to_bits binary64 (width_of breaks i))
 
+pub formed_every : (breaks cells : List Float) (from n : ℕ) → every n (formed_at breaks cells from) ≡ segments_formed from n breaks cells
+unfolding widths_kept
+formed_every breaks cells from n =
+    every_both (λ i. lt (at breaks i) (at breaks (i + 1)))
+    (λ i. eqb (to_bits binary64 (at cells (from + i))) (to_bits binary64 (width_of breaks i))) n
+
 pub formed_counted : (breaks cells : List Float) (from n kept : ℕ) → Counted (formed_at breaks cells from) n kept
     → eqb kept n ≡ segments_formed from n breaks cells
-unfolding widths_kept
-formed_counted breaks cells from n kept h =
-    h.1 ∙ every_both (λ i. lt (at breaks i) (at breaks (i + 1)))
-    (λ i. eqb (to_bits binary64 (at cells (from + i))) (to_bits binary64 (width_of breaks i))) n
+formed_counted breaks cells from n kept h = h.1 ∙ formed_every breaks cells from n
 
 -- ---- what the shape gives: sizes
 pub record Sizes (m n : ℕ) (breaks : List Float) (cells : ℕ) : Type 0 where

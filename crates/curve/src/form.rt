@@ -4,7 +4,6 @@ ghost use Rattle.std.specs.Float.{binary64};
 ghost use Rattle.std.specs.Float.Ieee.{lt, sub, to_bits};
 ghost use Rattle.curve.specs.Form.{slices, axes_formed, segments_formed, set_shaped, others_shaped, range_formed, well_shaped, well_formed, no_curve};
 
-use crate::count::one_if;
 use crate::place::position;
 use crate::{Curve, Mode};
 
@@ -13,16 +12,11 @@ pub fn axes_formed(axes: &[usize; 16], k: usize, d: usize) -> bool
     requires { k ≤ 16 }
     ensures { result ≡ axes_formed axes.now k d }
 {
-    let mut i = 0;
-    while i < k {
+    for i in 0..k {
         let a = axes[i];
-        if d <= a {
+        if d <= a || position(axes, i, a) < i {
             return false;
         }
-        if position(axes, i, a) < i {
-            return false;
-        }
-        i += 1;
     }
     true
 }
@@ -32,25 +26,20 @@ pub fn axes_formed(axes: &[usize; 16], k: usize, d: usize) -> bool
 pub fn is_width(width: f64, from: f64, to: f64) -> bool
     ensures { result ≡ (lt from to && eqb (to_bits binary64 width) (to_bits binary64 (sub binary64 to from))) }
 {
-    if width == to - from {
-        return 0.0 < width;
-    }
-    false
+    width == to - from && 0.0 < width
 }
 
-// Whether the breaks of n segments rise and their widths are kept from the cell `from` on: segments of
-// which both hold are counted.
+// Whether the breaks of n segments rise and their widths are kept from the cell `from` on.
 fn segments_formed(breaks: &[f64], cells: &[f64], from: usize, n: usize) -> bool
     requires { (n ≤ length breaks.now - 1) × (from + n ≤ length cells.now) }
     ensures { result ≡ segments_formed from n breaks.now cells.now }
 {
-    let mut kept = 0;
-    let mut i = 0;
-    while i < n {
-        kept += one_if(is_width(cells[from + i], breaks[i], breaks[i + 1]));
-        i += 1;
+    for i in 0..n {
+        if !is_width(cells[from + i], breaks[i], breaks[i + 1]) {
+            return false;
+        }
     }
-    kept == n
+    true
 }
 
 // Whether n segments with m axes each, in so many cells, are well formed, whatever each segment has.
@@ -58,22 +47,12 @@ fn set_shaped(m: usize, n: usize, breaks: &[f64], cells: usize) -> bool
     requires { m ≤ 16 }
     ensures { result ≡ set_shaped m n breaks.now cells }
 {
-    if n < 1 {
-        return false;
-    }
-    if 20000 < n {
-        return false;
-    }
-    if breaks.len() != n + 1 {
-        return false;
-    }
-    if cells != 6 * (n * m) + n {
-        return false;
-    }
-    if breaks[0] == 0.0 {
-        return breaks[n] == 1.0;
-    }
-    false
+    1 <= n
+        && n <= 20000
+        && breaks.len() == n + 1
+        && cells == 6 * (n * m) + n
+        && breaks[0] == 0.0
+        && breaks[n] == 1.0
 }
 
 // The same of the n segments of the m other axes; of no axes there are none.
@@ -81,35 +60,25 @@ fn others_shaped(m: usize, n: usize, breaks: &[f64], cells: usize) -> bool
     requires { m ≤ 16 }
     ensures { result ≡ others_shaped m n breaks.now cells }
 {
-    if m != 0 {
-        return set_shaped(m, n, breaks, cells);
+    if m == 0 {
+        n == 0 && breaks.is_empty() && cells == 0
+    } else {
+        set_shaped(m, n, breaks, cells)
     }
-    if n != 0 {
-        return false;
-    }
-    if breaks.len() != 0 {
-        return false;
-    }
-    cells == 0
 }
 
 // Whether the parameters from start to end are well formed.
+#[tactic(auto, unfolding(crate::specs::Form::range_formed))]
 pub fn range_formed(start: f64, end: f64) -> bool
     ensures { result ≡ range_formed start end }
 {
     let length = end - start;
-    if float::is_finite(start) {
-        if float::is_finite(end) {
-            if float::is_finite(length) {
-                return 0.0 < length;
-            }
-        }
-    }
-    false
+    float::is_finite(start) && float::is_finite(end) && float::is_finite(length) && 0.0 < length
 }
 
 // Whether the curve with these breaks and so many cells of the selected axes, and these of the other axes,
 // is well formed, whatever each segment has.
+#[tactic(auto, unfolding(crate::specs::Form::well_shaped))]
 pub fn well_shaped(
     curve: Curve,
     breaks: &[f64],
@@ -121,29 +90,14 @@ pub fn well_shaped(
 {
     let d = curve.d;
     let k = curve.k;
-    let axes = curve.axes;
-    if d < 1 {
-        return false;
-    }
-    if 16 < d {
-        return false;
-    }
-    if k < 1 {
-        return false;
-    }
-    if d < k {
-        return false;
-    }
-    if !axes_formed(&axes, k, d) {
-        return false;
-    }
-    if !set_shaped(k, curve.segments, breaks, cells) {
-        return false;
-    }
-    if !others_shaped(d - k, curve.other_segments, other_breaks, other_cells) {
-        return false;
-    }
-    range_formed(curve.start, curve.end)
+    1 <= d
+        && d <= 16
+        && 1 <= k
+        && k <= d
+        && axes_formed(&curve.axes, k, d)
+        && set_shaped(k, curve.segments, breaks, cells)
+        && others_shaped(d - k, curve.other_segments, other_breaks, other_cells)
+        && range_formed(curve.start, curve.end)
 }
 
 // Whether the curve with these breaks and coefficients of the selected axes, and these of the other
@@ -171,18 +125,17 @@ pub fn well_formed(
     ) {
         return false;
     }
-    if !segments_formed(breaks, coefficients, 6 * (n * k), n) {
-        return false;
-    }
-    segments_formed(
-        other_breaks,
-        other_coefficients,
-        6 * (others * (d - k)),
-        others,
-    )
+    segments_formed(breaks, coefficients, 6 * (n * k), n)
+        && segments_formed(
+            other_breaks,
+            other_coefficients,
+            6 * (others * (d - k)),
+            others,
+        )
 }
 
 // The curve beside a refusal: without axes, so that it is not well formed.
+#[tactic(auto, unfolding(crate::specs::Form::no_curve))]
 pub fn no_curve(mode: Mode) -> Curve
     ensures { result ≡ no_curve mode }
 {

@@ -10,7 +10,7 @@ pub mod place; // place.rt: where an axis stands in a list of axes, and among al
 pub mod widths; // widths.rt: the widths of segments
 
 // What a parameter outside start to end gets: a refusal, or the value at the nearer end, standing still.
-#[derive(Clone, Copy)]
+#[derive(Clone, Copy, Debug, PartialEq, Eq)]
 pub enum Mode {
     Error,
     Clamp,

@@ -2,19 +2,15 @@
 ghost use Rattle.std.specs.Prelude.{◌≡◌, ◌≤◌, ◌<◌};
 ghost use Rattle.curve.specs.Places.{position_of, axis_place};
 
-use crate::count;
-
 // The place of axis a among the first n listed axes; n where it is not there.
 pub fn position(axes: &[usize; 16], n: usize, a: usize) -> usize
     requires { n ≤ 16 }
     ensures { result ≡ position_of axes.now n a }
 {
-    let mut i = 0;
-    while i < n {
+    for i in 0..n {
         if axes[i] == a {
             return i;
         }
-        i += 1;
     }
     n
 }
@@ -29,10 +25,10 @@ pub fn axis_place(axes: &[usize; 16], k: usize, axis: usize) -> usize
         return listed;
     }
     let mut others = 0;
-    let mut a = 0;
-    while a < axis {
-        others += count::one_if(k <= position(axes, k, a));
-        a += 1;
+    for a in 0..axis {
+        if k <= position(axes, k, a) {
+            others += 1;
+        }
     }
     k + others
 }

@@ -9,9 +9,7 @@ pub fn put_widths(breaks: &[f64], from: usize, cells: &mut [f64])
     ensures { cells.new
         ≡ written from (list_of (length breaks.now - 1) (width_of breaks.now)) cells.old }
 {
-    let mut i = 0;
-    while i + 1 < breaks.len() {
+    for i in 0..breaks.len().saturating_sub(1) {
         cells[from + i] = breaks[i + 1] - breaks[i];
-        i += 1;
     }
 }
