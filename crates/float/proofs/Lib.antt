@@ -13,3 +13,4 @@ mod Scales
 mod Checks
 mod RootCases
 mod OrderCases
+mod Halving

@@ -7,7 +7,7 @@ use native.Mathlib.Omega.{arith}
 use lib.Dec.{T, ltb, ltb→lt, lt→ltb}
 use lib.IntN.{ℤ, pos}
 use lib.Pow.{pow_pos}
-use lib.Ieee.{Float, nan, inf, fin, Format, binary64, prec, emax, low, up, down, hid, ones, top, fits, to_bits, of_bits, nan_bits, is_nan, round, units, odd, lt, eq, div}
+use lib.Ieee.{Float, nan, inf, fin, Format, binary64, prec, emax, low, up, down, hid, ones, top, fits, to_bits, of_bits, nan_bits, is_nan, round, units, odd, lt, eq}
 use lib.Ieee.Bits.{is_true, of_bits-to_bits, nan_bits_is}
 use lib.Ieee.Exact.{HasValue}
 use lib.Ieee.Fits.{up_pos, down_pos, round-fits, round_is}
@@ -16,7 +16,7 @@ use Rattle.fraction.proofs.Encoding.{hidden_pos, of_bits_value}
 use Rattle.fraction.proofs.Value.{Encoded, encoded}
 use Rattle.float.specs.Root.{root_of, sqrt_of, isqrt, sticky}
 use Rattle.float.specs.RootSteps.{root_bits}
-use Rattle.float.proofs.Tests.{clash, holds, +0, +1, zero_is, infinity_is, Zero, is_zero, zero_eq}
+use Rattle.float.proofs.Tests.{clash, holds, +0, +∞, zero_is, infinity_is, Zero, is_zero, zero_eq}
 
 -- ---- the bits of a finite number above 0
 module _ (f : Format) (m : ℕ) (e : ℤ) (F : T (fits f (fin false (suc m) e))) where
@@ -118,14 +118,14 @@ pub record Asked (x : Float) : Type 0 where
   pub small : to_bits binary64 x < ones binary64 * hid binary64
   pub is : root_of binary64 (magnitude (hid binary64) (to_bits binary64 x)) ≡ sqrt_of binary64 x
 
-pub asked : {x : Float} → T (fits binary64 x) → AboveZero x → lt x (div binary64 +1 +0) ≡ true → Asked x
+pub asked : {x : Float} → T (fits binary64 x) → AboveZero x → lt x +∞ ≡ true → Asked x
 unfolding lt
 asked F (number m e) h =
     let p = placed binary64 m e F in
     record { some = p.some; small = p.small; is = root_of_bits binary64 m e F }
 asked F infinity h = clash h (ap (lt (inf false)) infinity_is)
 
-pub root_infinity : {x : Float} → AboveZero x → lt x (div binary64 +1 +0) ≡ false → x ≡ sqrt_of binary64 x
+pub root_infinity : {x : Float} → AboveZero x → lt x +∞ ≡ false → x ≡ sqrt_of binary64 x
 unfolding sqrt_of lt
 root_infinity (number m e) h = clash (ap (lt (fin false (suc m) e)) infinity_is) h
 root_infinity infinity h = refl

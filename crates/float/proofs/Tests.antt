@@ -6,11 +6,10 @@ use native.Mathlib.Nat.{mul-pos, zero-lt-suc}
 use native.Mathlib.Omega.{arith}
 use lib.Dec.{T, eqb, eqb→eq, nltb→le}
 use lib.IntN.{ℤ, pos}
-use lib.Ieee.{Float, nan, inf, fin, binary64, up, down, fits, is_nan, nan_bits, to_bits, of_bits, eq, ne, div, neg}
+use lib.Ieee.{Float, nan, inf, fin, binary64, up, down, fits, is_nan, nan_bits, to_bits, of_bits, eq}
 use lib.Arith.{le→nltb}
 use lib.Ieee.Bits.{of_bits-to_bits, nan_bits_is, nan_bits_above}
 use lib.Ieee.Fits.{up_pos, down_pos, eq→eqb, and_l}
-use lib.Ieee.Compare.{differs_from_itself, nan_differs}
 
 pub clash : {A : Type 0} {b : Bool} → b ≡ true → b ≡ false → A
 clash p q = absurd (true≢false (sym p ∙ q))
@@ -22,27 +21,19 @@ holds e = subst T (sym e) tt
 abbrev pub +0 : Float
 +0 = of_bits binary64 0
 
-abbrev pub +1 : Float
-+1 = of_bits binary64 0x3ff0_0000_0000_0000
-
 pub zero_is : +0 ≡ fin false 0 (pos 0)
 unfolding of_bits
 zero_is = refl
 
-pub one_is : +1 ≡ fin false 1 (pos 0)
-unfolding of_bits
-one_is = refl
+abbrev pub +∞ : Float
++∞ = of_bits binary64 0x7ff0_0000_0000_0000
 
-pub infinity_is : div binary64 +1 +0 ≡ inf false
-unfolding div of_bits
+pub infinity_is : +∞ ≡ inf false
+unfolding of_bits
 infinity_is = refl
 
-pub minus_infinity_is : div binary64 (neg +1) +0 ≡ inf true
-unfolding div neg of_bits
-minus_infinity_is = refl
-
-pub nan_is : div binary64 +0 +0 ≡ nan
-unfolding div of_bits
+pub nan_is : of_bits binary64 0x7ff8_0000_0000_0000 ≡ nan
+unfolding of_bits
 nan_is = refl
 
 -- ---- zero
@@ -97,21 +88,12 @@ zero_eq s e =
     both false b c t u = elim t [ ]
     both true false false t u = elim u [ ]
 
--- ---- a NaN alone differs from itself
-pub nan_yes : (x : Float) → ne x x ≡ true → x ≡ nan
-nan_yes x h = differs_from_itself x (holds h)
-
-pub nan_no : (x : Float) → ne x x ≡ false → is_nan x ≡ false
+-- ---- NaN
+pub is_nan_yes : (x : Float) → is_nan x ≡ true → x ≡ nan
 unfolding is_nan
-nan_no nan h = clash nan_differs h
-nan_no (inf s) h = refl
-nan_no (fin s m e) h = refl
-
-pub equal_no_nan : (x : Float) → eq x x ≡ true → T (not (is_nan x))
-unfolding eq is_nan
-equal_no_nan nan h = true≢false (sym h)
-equal_no_nan (inf s) h = tt
-equal_no_nan (fin s m e) h = tt
+is_nan_yes nan h = refl
+is_nan_yes (inf s) h = absurd (true≢false (sym h))
+is_nan_yes (fin s m e) h = absurd (true≢false (sym h))
 
 -- ---- the patterns that are no NaN's, by the digits below the sign
 pub bits_plain : (n : ℕ) → n % 0x8000_0000_0000_0000 ≤ 0x7ff0_0000_0000_0000 → T (not (nan_bits binary64 n))

@@ -7,10 +7,10 @@ ghost use Rattle.fraction.specs.NextNumber.{next_up, next_down};
 pub fn next_up(x: f64) -> f64
     ensures { result ≡ next_up binary64 x }
 {
-    if x != x {
+    if x.is_nan() {
         return x;
     }
-    let b = f64::to_bits(x);
+    let b = x.to_bits();
     if b < 0x7ff0_0000_0000_0000 {
         return f64::from_bits(b + 1);
     }
@@ -27,10 +27,10 @@ pub fn next_up(x: f64) -> f64
 pub fn next_down(x: f64) -> f64
     ensures { result ≡ next_down binary64 x }
 {
-    if x != x {
+    if x.is_nan() {
         return x;
     }
-    let b = f64::to_bits(x);
+    let b = x.to_bits();
     if b == 0 {
         return f64::from_bits(0x8000_0000_0000_0001);
     }

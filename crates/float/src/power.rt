@@ -11,12 +11,13 @@ pub fn powi(x: f64, n: u32) -> f64
     let mut result = 1.0;
     let mut base = x;
     let mut left = n;
+    // `left` is halved in each turn: it counts no index.
     while 0 < left {
         if left % 2 == 1 {
-            result = result * base;
+            result *= base;
         }
-        base = base * base;
-        left = left / 2;
+        base *= base;
+        left /= 2;
     }
     result
 }

@@ -29,7 +29,7 @@ fn scale(bits: u64) -> Scaled
 {
     let field = bits / 0x10_0000_0000_0000;
     if field == 0 {
-        let zeros = u64::leading_zeros(bits) - 11;
+        let zeros = bits.leading_zeros() - 11;
         Scaled {
             significand: bits << zeros,
             exponent: -1022 - (zeros as i16),
@@ -87,10 +87,10 @@ fn estimate(m: u64, t: u64) -> u64
     let low = s - high;
     let error = ((x - high * high) - 2.0 * high * low) - low * low;
     let r = s + 0.5 * y3 * error;
-    if r == r {
-        return f64::to_bits(r) % 0x10_0000_0000_0000 + 0x10_0000_0000_0000;
+    if r.is_nan() {
+        return 0x10_0000_0000_0000;
     }
-    0x10_0000_0000_0000
+    r.to_bits() % 0x10_0000_0000_0000 + 0x10_0000_0000_0000
 }
 
 // Whether k is the whole number nearest to the root of w * 2^52, by the square of k, a * 2^26 + b.
@@ -132,8 +132,7 @@ fn digits(w: u64) -> Whole
     let mut left = w << 10;
     let mut root: u64 = 0;
     let mut rest: u64 = 0;
-    let mut i: u8 = 0;
-    while i < 53 {
+    for _ in 0u8..53 {
         rest = rest * 4 + left / 0x4000_0000_0000_0000;
         left = (left % 0x4000_0000_0000_0000) * 4;
         let t = root * 4 + 1;
@@ -141,14 +140,10 @@ fn digits(w: u64) -> Whole
             rest -= t;
             root = root * 2 + 1;
         } else {
-            root = root * 2;
+            root *= 2;
         }
-        i += 1;
     }
-    Whole {
-        root: root,
-        rest: rest,
-    }
+    Whole { root, rest }
 }
 
 // The whole number nearest to the root of m * 2^52, or of m * 2^53 where t is 1.
@@ -186,14 +181,13 @@ pub fn sqrt(x: f64) -> f64
     ensures square_root { SquareRoot binary64 x result }
 {
     if 0.0 < x {
-        if x < 1.0 / 0.0 {
-            let bits = f64::to_bits(x);
-            return f64::from_bits(root_bits(bits));
+        if x < f64::INFINITY {
+            return f64::from_bits(root_bits(x.to_bits()));
         }
         return x;
     }
     if x == 0.0 {
         return x;
     }
-    0.0 / 0.0
+    f64::NAN
 }

@@ -1,0 +1,6 @@
+use Rattle.std.proofs.Common.{◌∙◌}
+use Rattle.float.proofs.OrderCases.{absolute_is}
+use Rattle.float.proofs.order.abs.Goals as goal
+
+pub returns : goal.returns
+returns c = c.abs.ensures.value ∙ absolute_is c.args.x

@@ -1,0 +1,21 @@
+use Rattle.std.proofs.Common.{◌≡◌, ◌||◌, sym, ◌∙◌}
+use lib.Ieee.{is_nan, lt}
+use Rattle.float.proofs.OrderCases.{either, other, chosen_second, chosen_first}
+use Rattle.float.proofs.order.max.Goals as goal
+use Rattle.float.proofs.order.max.Goals.{then-is_nan, else-is_nan}
+
+pub returns-then-x-y : goal.returns-then-x-y
+returns-then-x-y c =
+    let v : c.if-is_nan.value ≡ (is_nan c.args.x || lt c.args.x c.args.y) = elim c.if-is_nan.branch [
+      | then-is_nan w ↦ either _ _ c.is_nan.ensures.value w.if-is_nan.true w.value-is
+      | else-is_nan w ↦ other _ _ c.is_nan.ensures.value w.if-is_nan.false w.value-is
+    ] in
+    chosen_second (lt c.args.x c.args.y) c.args.x c.args.y (sym v ∙ c.if-x-y.true)
+
+pub returns-else-x-y : goal.returns-else-x-y
+returns-else-x-y c =
+    let v : c.if-is_nan.value ≡ (is_nan c.args.x || lt c.args.x c.args.y) = elim c.if-is_nan.branch [
+      | then-is_nan w ↦ either _ _ c.is_nan.ensures.value w.if-is_nan.true w.value-is
+      | else-is_nan w ↦ other _ _ c.is_nan.ensures.value w.if-is_nan.false w.value-is
+    ] in
+    chosen_first (lt c.args.x c.args.y) c.args.x c.args.y (sym v ∙ c.if-x-y.false)
