@@ -83,6 +83,7 @@ fn raw_knots(work: &mut [f64], p: Waypoints) -> usize
     let mut k = 0;
     let mut a = 0;
     let mut b = anchor_after(work, p, 0);
+    // From anchor to anchor: no index is counted.
     while b < last {
         let c = anchor_after(work, p, b);
         let t = knots_at(work, p, a, b, c);

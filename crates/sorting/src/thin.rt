@@ -53,7 +53,7 @@ pub fn dedup(s: &mut [f64]) -> usize
     ensures value { result ≡ length (dedup_of s.old) }
     ensures s_after { s.new ≡ dedup_of s.old ++ drop result s.old }
 {
-    thin(s, is_distinct)
+    thin(s, |last, x| is_distinct(last, x))
 }
 
 // The cells over the gap from 0, from 1 and from the last one kept, and how many they are; the cells
@@ -62,5 +62,5 @@ pub fn keep_apart(s: &mut [f64]) -> usize
     ensures value { result ≡ length (kept_of s.old) }
     ensures s_after { s.new ≡ kept_of s.old ++ drop result s.old }
 {
-    thin(s, is_apart)
+    thin(s, |last, x| is_apart(last, x))
 }
