@@ -57,6 +57,7 @@ pub fn fitting_row(
 }
 
 // Whether a control is one of the n active ones from a on.
+#[tactic(auto, unfolding(crate::specs::Add::active))]
 fn is_active(a: usize, n: usize, control: usize) -> bool
     requires { a + n ≤ usize_max }
     ensures { result ≡ active a n control }
@@ -150,6 +151,7 @@ impl Unsolved {
 }
 
 // Whether x is not finite or, where a number above 0 is asked for, not above 0.
+#[tactic(auto, unfolding(crate::specs::Solve::unfit_of))]
 fn unfit(x: f64, positive: bool) -> bool
     ensures { result ≡ unfit_of positive x }
 {
@@ -250,7 +252,8 @@ fn forward_value(sys: &[f64], n: usize, d: usize, i: usize, axis: usize) -> f64
     v
 }
 
-// Forward substitution in row i.
+// Forward substitution in row i. `back_row` differs in the value alone; the value as a closure would have to be told, in its clauses, of
+// the cells that it reads and the loop writes, which is no plainer than the three lines.
 fn forward_row(sys: &mut [f64], n: usize, d: usize, i: usize)
     requires { (length sys.old ≡ size_of n d) × (i < n) × (i * d + d ≤ n * d) }
     ensures { system_of n d sys.new ≡ forward_row_of d i (system_of n d sys.old) }
@@ -287,7 +290,8 @@ fn back_row(sys: &mut [f64], n: usize, d: usize, i: usize)
     }
 }
 
-// The band and the right sides are scaled.
+// The band and the right sides are scaled. This and the loops over all rows below are one line each, which a step as a closure would not
+// shorten.
 fn scale(sys: &mut [f64], n: usize, d: usize)
     requires { length sys.old ≡ size_of n d }
     ensures { system_of n d sys.new ≡ scale_of n d (system_of n d sys.old) }
