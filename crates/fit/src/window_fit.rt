@@ -13,6 +13,7 @@ ghost use Rattle.fit.specs.Assembly.{low, high, assembled, assembled_of};
 ghost use Rattle.fit.specs.Fit.{Bounded, added_to, answer_of, fit_of, cells_after};
 
 use crate::assembly;
+use crate::assembly::Window;
 use fitting_rows::Place;
 use normal::Unsolved;
 
@@ -80,13 +81,14 @@ fn assemble(work: &mut [f64], p: Place, a: usize, z: usize, strength: f64) -> Co
 {
     clear_system(work, p, a, z);
     let g = p.system;
-    let w = reach_of(&work[0..g], p, a, z);
-    let dense = assembly::add_samples(work, p, a, z, w.first, w.last);
-    let rows = assembly::add_sparse(work, p, a, z, w.lo, w.hi, dense);
-    assembly::add_penalties(work, p, a, z, strength, w.lo, w.hi);
+    let r = reach_of(&work[0..g], p, a, z);
+    let w = Window { place: p, a, z };
+    let dense = assembly::add_samples(work, w, r.first, r.last);
+    let rows = assembly::add_sparse(work, w, r.lo, r.hi, dense);
+    assembly::add_penalties(work, w, strength, r.lo, r.hi);
     Counts {
-        first: w.first,
-        last: w.last,
+        first: r.first,
+        last: r.last,
         rows,
     }
 }

@@ -17,11 +17,11 @@ add_mesh_piece-count-requires c =
 pub loop-j-preserved : goal.loop-j-preserved
 loop-j-preserved c =
     let a = c.args in
-    let p = a.p in
+    let p = a.w.place in
     let l = c.loop-j in
     let v = c.add_mesh_piece-count.ensures in
-    let n = assembled l.count (system_at p (a.z - a.a) l.work) in
-    let e = v.work_after ∙ ap (λ (u : List Float). mesh_turn (arrays_at p u) a.a a.z a.mesh l.j n) l.invariant.arrays_same in
+    let n = assembled l.count (system_at p (a.w.z - a.w.a) l.work) in
+    let e = v.work_after ∙ ap (λ (u : List Float). mesh_turn (arrays_at p u) a.w.a a.w.z a.mesh l.j n) l.invariant.arrays_same in
     record {
       six_each = omega arith;
       upper_bound = omega arith;

@@ -8,11 +8,11 @@ use Rattle.fit.proofs.assembly.add_mesh.Given as goal
 
 abbrev pub invariant-loop-j : goal.invariant-loop-j
 invariant-loop-j l =
-    let x = arrays_at l.p (before l.p l.fn.work) in
+    let x = arrays_at l.w.place (before l.w.place l.fn.work) in
     record {
       six_each : l.count + 6 * l.mesh.begin ≡ l.rows + 6 * l.j;
       upper_bound : l.count ≤ l.rows + 6 * (l.mesh.end + 1);
-      arrays_same : before l.p l.work ≡ before l.p l.fn.work;
-      left : each (mesh_turn x l.a l.z l.mesh) l.j (l.mesh.end + 1) (assembled l.count (system_at l.p (l.z - l.a) l.work))
-          ≡ mesh_of x l.a l.z l.mesh (assembled l.rows (system_at l.p (l.z - l.a) l.fn.work));
+      arrays_same : before l.w.place l.work ≡ before l.w.place l.fn.work;
+      left : each (mesh_turn x l.w.a l.w.z l.mesh) l.j (l.mesh.end + 1) (assembled l.count (system_at l.w.place (l.w.z - l.w.a) l.work))
+          ≡ mesh_of x l.w.a l.w.z l.mesh (assembled l.rows (system_at l.w.place (l.w.z - l.w.a) l.fn.work));
     }

@@ -23,7 +23,7 @@ add-row-requires c κs =
       omega (
         arith,
         e,
-        node_start (arrays_at a.p (before a.p a.work.now))
+        node_start (arrays_at a.w.place (before a.w.place a.work.now))
             a.from a.h a.r (omega arith),
       ),
     )
@@ -32,10 +32,10 @@ returns : tie.Need-returns
 returns c =
     let a = c.args in
     let w = a.work.now in
-    let x = arrays_at a.p (before a.p w) in (
+    let x = arrays_at a.w.place (before a.w.place w) in (
       c.add_row.ensures.0,
-      c.add_row.ensures.1 ∙ ap (λ (r : Row). added x a.a a.z r
-          (system_at a.p (a.z - a.a) w)) c.node_row-row.ensures,
+      c.add_row.ensures.1 ∙ ap (λ (r : Row). added x a.w.a a.w.z r
+          (system_at a.w.place (a.w.z - a.w.a) w)) c.node_row-row.ensures,
     )
 
 pub add_node_spec : {M : Type 1} → statement M

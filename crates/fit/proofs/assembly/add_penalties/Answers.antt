@@ -18,19 +18,19 @@ add_penalty-requires c =
     record {
       window_laid = (rw l.auto.work c.requires.window_laid, omega arith, omega arith);
       lo_value = (
-        c.requires.lo_value.0 ∙ ap (λ (u : List Float). low (arrays_at a.p u) a.a a.z) b,
-        c.requires.lo_value.1 ∙ ap (λ (u : List Float). high (arrays_at a.p u) a.a a.z) b,
+        c.requires.lo_value.0 ∙ ap (λ (u : List Float). low (arrays_at a.w.place u) a.w.a a.w.z) b,
+        c.requires.lo_value.1 ∙ ap (λ (u : List Float). high (arrays_at a.w.place u) a.w.a a.w.z) b,
       );
     }
 
 pub loop-span-preserved : goal.loop-span-preserved
 loop-span-preserved c =
     let a = c.args in
-    let p = a.p in
+    let p = a.w.place in
     let l = c.loop-span in
     let v = c.add_penalty.ensures in
-    let e = v.work_after ∙ ap (λ (u : List Float). penalty_turn (arrays_at p u) a.a a.z a.strength l.span
-    (system_at p (a.z - a.a) l.work)) l.invariant.arrays_same in
+    let e = v.work_after ∙ ap (λ (u : List Float). penalty_turn (arrays_at p u) a.w.a a.w.z a.strength l.span
+    (system_at p (a.w.z - a.w.a) l.work)) l.invariant.arrays_same in
     record {
       arrays_same = v.work_unchanged ∙ l.invariant.arrays_same;
       left = each_next _ _ _ (omega arith) e l.invariant.left;

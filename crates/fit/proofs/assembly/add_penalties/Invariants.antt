@@ -8,9 +8,9 @@ use Rattle.fit.proofs.assembly.add_penalties.Given as goal
 
 abbrev pub invariant-loop-span : goal.invariant-loop-span
 invariant-loop-span l =
-    let x = arrays_at l.p (before l.p l.fn.work) in
+    let x = arrays_at l.w.place (before l.w.place l.fn.work) in
     record {
-      arrays_same : before l.p l.work ≡ before l.p l.fn.work;
-      left : each (penalty_turn x l.a l.z l.strength) l.span l.p.count (system_at l.p (l.z - l.a) l.work)
-          ≡ penalties_of x l.a l.z l.strength (system_at l.p (l.z - l.a) l.fn.work);
+      arrays_same : before l.w.place l.work ≡ before l.w.place l.fn.work;
+      left : each (penalty_turn x l.w.a l.w.z l.strength) l.span l.w.place.count (system_at l.w.place (l.w.z - l.w.a) l.work)
+          ≡ penalties_of x l.w.a l.w.z l.strength (system_at l.w.place (l.w.z - l.w.a) l.fn.work);
     }

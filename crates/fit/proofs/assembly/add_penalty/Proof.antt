@@ -17,10 +17,10 @@ returns : tie.Need-returns-then-is_left_out
 returns c =
     let a = c.args in
     let w = a.work.now in
-    let x = arrays_at a.p (before a.p w) in (
+    let x = arrays_at a.w.place (before a.w.place w) in (
       refl,
-      penalty_left x a.a a.z a.lo a.hi c.requires.1.0
-          c.requires.1.1 a.span _ a.strength (system_at a.p (a.z - a.a) w)
+      penalty_left x a.w.a a.w.z a.lo a.hi c.requires.1.0
+          c.requires.1.1 a.span _ a.strength (system_at a.w.place (a.w.z - a.w.a) w)
           c.is_left_out.ensures c.if-is_left_out.true,
     )
 
@@ -31,13 +31,13 @@ returns-2 : tie.Need-returns
 returns-2 c =
     let a = c.args in
     let w = a.work.now in
-    let x = arrays_at a.p (before a.p w) in
+    let x = arrays_at a.w.place (before a.w.place w) in
     let v = c.add_penalty_nodes.ensures in (
       v.0,
-      v.1 ∙ penalty_added x a.a a.z a.lo a.hi
+      v.1 ∙ penalty_added x a.w.a a.w.z a.lo a.hi
           c.requires.1.0
           c.requires.1.1 a.span _ a.strength
-          (system_at a.p (a.z - a.a) w) c.is_left_out.ensures
+          (system_at a.w.place (a.w.z - a.w.a) w) c.is_left_out.ensures
           c.if-is_left_out.false,
     )
 

@@ -17,11 +17,11 @@ add_penalty_node-requires c = (rw c.loop-r.auto.work c.requires.0, omega arith, 
 pub loop-r-preserved : goal.loop-r-preserved
 loop-r-preserved c =
     let a = c.args in
-    let p = a.p in
+    let p = a.w.place in
     let l = c.loop-r in
     let v = c.add_penalty_node.ensures in
-    let s = system_at p (a.z - a.a) l.work in
-    let e = v.work_after ∙ ap (λ (u : List Float). added (arrays_at p u) a.a a.z (penalty_row_of (arrays_at p u) a.strength a.span l.r)
+    let s = system_at p (a.w.z - a.w.a) l.work in
+    let e = v.work_after ∙ ap (λ (u : List Float). added (arrays_at p u) a.w.a a.w.z (penalty_row_of (arrays_at p u) a.strength a.span l.r)
     s) l.invariant.arrays_same in
     record {
       arrays_same = v.work_unchanged ∙ l.invariant.arrays_same;

@@ -9,9 +9,9 @@ use Rattle.fit.proofs.assembly.add_penalty_nodes.Given as goal
 
 abbrev pub invariant-loop-r : goal.invariant-loop-r
 invariant-loop-r l =
-    let x = arrays_at l.p (before l.p l.fn.work) in
+    let x = arrays_at l.w.place (before l.w.place l.fn.work) in
     record {
-      arrays_same : before l.p l.work ≡ before l.p l.fn.work;
-      left : each (λ r k. added x l.a l.z (penalty_row_of x l.strength l.span r) k) l.r 3 (system_at l.p (l.z - l.a) l.work)
-          ≡ nodes_of x l.a l.z l.strength l.span (system_at l.p (l.z - l.a) l.fn.work);
+      arrays_same : before l.w.place l.work ≡ before l.w.place l.fn.work;
+      left : each (λ r k. added x l.w.a l.w.z (penalty_row_of x l.strength l.span r) k) l.r 3 (system_at l.w.place (l.w.z - l.w.a) l.work)
+          ≡ nodes_of x l.w.a l.w.z l.strength l.span (system_at l.w.place (l.w.z - l.w.a) l.fn.work);
     }

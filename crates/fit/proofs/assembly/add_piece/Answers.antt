@@ -21,15 +21,15 @@ add_node-requires c = (rw c.loop-r.auto.work c.requires.0, omega arith)
 pub loop-r-preserved : goal.loop-r-preserved
 loop-r-preserved c =
     let a = c.args in
-    let p = a.p in
+    let p = a.w.place in
     let l = c.loop-r in
     let x = arrays_at p (before p a.work.now) in
     let v = c.add_node.ensures in
     let h = sub binary64 a.to a.from in
-    let s = system_at p (a.z - a.a) l.work in
+    let s = system_at p (a.w.z - a.w.a) l.work in
     let n : a.rows + (l.r + 1) ≡ a.rows + l.r + 1 = omega arith in
-    let e = ap (assembled (a.rows + l.r + 1)) (v.work_after ∙ ap (λ (u : List Float). added (arrays_at p u) a.a a.z
-    (node_row_of (arrays_at p u) a.from h l.r) s) l.invariant.arrays_same) ∙ row_counted x a.a a.z (node_row_of x a.from h l.r) (a.rows + l.r)
+    let e = ap (assembled (a.rows + l.r + 1)) (v.work_after ∙ ap (λ (u : List Float). added (arrays_at p u) a.w.a a.w.z
+    (node_row_of (arrays_at p u) a.from h l.r) s) l.invariant.arrays_same) ∙ row_counted x a.w.a a.w.z (node_row_of x a.from h l.r) (a.rows + l.r)
     s in
     record {
       arrays_same = v.work_unchanged ∙ l.invariant.arrays_same;

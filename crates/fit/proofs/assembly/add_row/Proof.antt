@@ -13,13 +13,13 @@ returns : tie.Need-returns
 returns c =
     let a = c.args in
     let v = c.add in
-    let g = a.p.system in
-    let n = a.z - a.a in
-    let e = g + (6 * n + n * a.p.axes + n) in
+    let g = a.w.place.system in
+    let n = a.w.z - a.w.a in
+    let e = g + (6 * n + n * a.w.place.axes + n) in
     let lies : e ≡ length a.work.now = omega arith in
     let fills : length v.new.sys ≡ e - g = omega arith in (
       front_kept g e v.new.sys a.work.now (omega arith) lies fills,
-      ap (system_of n a.p.axes) (back_written g e v.new.sys a.work.now (omega arith) lies fills) ∙ v.ensures,
+      ap (system_of n a.w.place.axes) (back_written g e v.new.sys a.work.now (omega arith) lies fills) ∙ v.ensures,
     )
 
 pub add_row_spec : {M : Type 1} → statement M

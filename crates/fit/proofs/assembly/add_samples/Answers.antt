@@ -30,8 +30,8 @@ look-seen-requires c =
     let a = c.args in
     let l = c.loop-i in
     record {
-      arrays_within = (placed a.p a.a a.z l.work (rw l.invariant.length_same c.requires.0), omega arith);
-      dense_value = l.invariant.seen_dense ∙ ap (λ (v : List Float). dense_of (arrays_at a.p v).t (arrays_at a.p v).s l.seen.span)
+      arrays_within = (placed a.w.place a.w.a a.w.z l.work (rw l.invariant.length_same c.requires.0), omega arith);
+      dense_value = l.invariant.seen_dense ∙ ap (λ (v : List Float). dense_of (arrays_at a.w.place v).t (arrays_at a.w.place v).s l.seen.span)
           (sym l.invariant.arrays_same);
     }
 
@@ -43,7 +43,7 @@ add_sample-requires c =
 pub loop-i-preserved : goal.loop-i-preserved
 loop-i-preserved c =
     let a = c.args in
-    let p = a.p in
+    let p = a.w.place in
     let l = c.loop-i in
     let x = arrays_at p (before p a.work.now) in
     let b = l.invariant.arrays_same in
@@ -51,7 +51,7 @@ loop-i-preserved c =
     let span : s.span ≡ sample_span x l.i = c.look-seen.ensures.span_value ∙ ap (λ (v : List Float). sample_span (arrays_at p v) l.i) b in
     let dense : s.dense ≡ dense_of x.t x.s s.span = c.look-seen.ensures.dense_value_2 ∙ ap (λ (v : List Float). dense_of (arrays_at p v).t
     (arrays_at p v).s s.span) b in
-    let state = system_at p (a.z - a.a) l.work in
+    let state = system_at p (a.w.z - a.w.a) l.work in
     elim c.if-seen.branch [
       | goal.then-seen w ↦ rw (w.work-is, w.rows-is) (record {
         rows_few = omega arith;
@@ -60,10 +60,10 @@ loop-i-preserved c =
         arrays_same = w.add_sample.ensures.work_unchanged ∙ b;
         seen_dense = dense;
         left = each_next _ _ _ (omega arith) (ap (assembled (l.rows + 1))
-            (w.add_sample.ensures.work_after ∙ ap (λ (u : List Float). added (arrays_at p u) a.a a.z (sample_row_of (arrays_at p u) l.i s.span)
+            (w.add_sample.ensures.work_after ∙ ap (λ (u : List Float). added (arrays_at p u) a.w.a a.w.z (sample_row_of (arrays_at p u) l.i s.span)
             state) b)
-            ∙ row_counted x a.a a.z (sample_row_of x l.i s.span) l.rows state
-            ∙ sample_counted x a.a a.z l.i s.span s.dense (assembled l.rows state) span dense w.if-seen.true) l.invariant.left;
+            ∙ row_counted x a.w.a a.w.z (sample_row_of x l.i s.span) l.rows state
+            ∙ sample_counted x a.w.a a.w.z l.i s.span s.dense (assembled l.rows state) span dense w.if-seen.true) l.invariant.left;
       })
       | goal.else-seen w ↦ rw (w.work-is, w.rows-is) (record {
         rows_few = omega arith;
@@ -72,7 +72,7 @@ loop-i-preserved c =
         arrays_same = b;
         seen_dense = dense;
         left = each_next _ _ _ (omega arith)
-            (sample_passed x a.a a.z l.i s.span s.dense (assembled l.rows state) span dense w.if-seen.false) l.invariant.left;
+            (sample_passed x a.w.a a.w.z l.i s.span s.dense (assembled l.rows state) span dense w.if-seen.false) l.invariant.left;
       })
     ]
 

@@ -25,11 +25,11 @@ returns : tie.Need-returns-then-is_passed_over
 returns c =
     let a = c.args in
     let w = a.work.now in
-    let x = arrays_at a.p (before a.p w) in (
+    let x = arrays_at a.w.place (before a.w.place w) in (
       refl,
       (
-        span_passed x a.a a.z a.lo a.hi c.requires.1.0
-            c.requires.1.1 a.span _ (assembled a.rows (system_at a.p (a.z - a.a) w))
+        span_passed x a.w.a a.w.z a.lo a.hi c.requires.1.0
+            c.requires.1.1 a.span _ (assembled a.rows (system_at a.w.place (a.w.z - a.w.a) w))
             c.is_passed_over.ensures c.if-is_passed_over.true,
         omega arith,
       ),
@@ -47,26 +47,26 @@ add-mesh-requires : tie.Need-add_mesh-requires
 add-mesh-requires c κs =
     let a = c.args in
     let w = a.work.now in
-    let x = arrays_at a.p (before a.p w) in
+    let x = arrays_at a.w.place (before a.w.place w) in
     let e = ap (λ (m : Mesh). m.end) c.mesh_at-mesh.ensures in
     let h = mesh-within x a.span in
-    let l = length_window 0 a.p.system w (omega arith) (omega arith) in
-    let k = length_window a.p.parameters (a.p.parameters + a.p.samples) (before a.p w) (omega arith) (omega arith) in
+    let l = length_window 0 a.w.place.system w (omega arith) (omega arith) in
+    let k = length_window a.w.place.parameters (a.w.place.parameters + a.w.place.samples) (before a.w.place w) (omega arith) (omega arith) in
     (c.requires.0.0, omega (arith, e, h, k), omega arith)
 
 returns-2 : tie.Need-returns
 returns-2 c =
     let a = c.args in
     let w = a.work.now in
-    let x = arrays_at a.p (before a.p w) in
-    let n = assembled a.rows (system_at a.p (a.z - a.a) w) in
+    let x = arrays_at a.w.place (before a.w.place w) in
+    let n = assembled a.rows (system_at a.w.place (a.w.z - a.w.a) w) in
     let v = c.add_mesh.ensures in
-    let t = span_counted x a.a a.z a.lo a.hi
+    let t = span_counted x a.w.a a.w.z a.lo a.hi
     c.requires.1.0
     c.requires.1.1 a.span _ n
     c.is_passed_over.ensures
     c.if-is_passed_over.false in
-    (v.0, (v.1.0 ∙ ap (λ (m : Mesh). mesh_of x a.a a.z m n) c.mesh_at-mesh.ensures ∙ t, v.1.1))
+    (v.0, (v.1.0 ∙ ap (λ (m : Mesh). mesh_of x a.w.a a.w.z m n) c.mesh_at-mesh.ensures ∙ t, v.1.1))
 
 pub add_span_spec : {M : Type 1} → statement M
 add_span_spec =

@@ -18,19 +18,19 @@ add_span-count-requires c =
     record {
       window_laid = (rw l.auto.work c.requires.window_laid.0, omega arith, omega arith);
       lo_value = (
-        c.requires.lo_value.0 ∙ ap (λ (u : List Float). low (arrays_at a.p u) a.a a.z) b,
-        c.requires.lo_value.1 ∙ ap (λ (u : List Float). high (arrays_at a.p u) a.a a.z) b,
+        c.requires.lo_value.0 ∙ ap (λ (u : List Float). low (arrays_at a.w.place u) a.w.a a.w.z) b,
+        c.requires.lo_value.1 ∙ ap (λ (u : List Float). high (arrays_at a.w.place u) a.w.a a.w.z) b,
       );
     }
 
 pub loop-span-preserved : goal.loop-span-preserved
 loop-span-preserved c =
     let a = c.args in
-    let p = a.p in
+    let p = a.w.place in
     let l = c.loop-span in
     let v = c.add_span-count.ensures in
-    let n = assembled l.count (system_at p (a.z - a.a) l.work) in
-    let e = v.work_after ∙ ap (λ (u : List Float). sparse_turn (arrays_at p u) a.a a.z l.span n) l.invariant.arrays_same in
+    let n = assembled l.count (system_at p (a.w.z - a.w.a) l.work) in
+    let e = v.work_after ∙ ap (λ (u : List Float). sparse_turn (arrays_at p u) a.w.a a.w.z l.span n) l.invariant.arrays_same in
     record {
       upper_bound = omega arith;
       arrays_same = v.work_unchanged ∙ l.invariant.arrays_same;

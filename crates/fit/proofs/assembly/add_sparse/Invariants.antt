@@ -8,10 +8,10 @@ use Rattle.fit.proofs.assembly.add_sparse.Given as goal
 
 abbrev pub invariant-loop-span : goal.invariant-loop-span
 invariant-loop-span l =
-    let x = arrays_at l.p (before l.p l.fn.work) in
+    let x = arrays_at l.w.place (before l.w.place l.fn.work) in
     record {
       upper_bound : l.count ≤ 65536 + 393222 * (l.span - 5);
-      arrays_same : before l.p l.work ≡ before l.p l.fn.work;
-      left : each (sparse_turn x l.a l.z) l.span l.p.count (assembled l.count (system_at l.p (l.z - l.a) l.work))
-          ≡ sparse_of x l.a l.z (assembled l.rows (system_at l.p (l.z - l.a) l.fn.work));
+      arrays_same : before l.w.place l.work ≡ before l.w.place l.fn.work;
+      left : each (sparse_turn x l.w.a l.w.z) l.span l.w.place.count (assembled l.count (system_at l.w.place (l.w.z - l.w.a) l.work))
+          ≡ sparse_of x l.w.a l.w.z (assembled l.rows (system_at l.w.place (l.w.z - l.w.a) l.fn.work));
     }

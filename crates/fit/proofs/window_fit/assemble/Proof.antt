@@ -18,7 +18,7 @@ use Rattle.fit.proofs.window_fit.assemble.Tie as tie
 add-sparse-requires : tie.Need-add_sparse-rows-requires
 add-sparse-requires c κs =
     let a = c.args in
-    let r = c.reach_of-w.ensures in
+    let r = c.reach_of-r.ensures in
     let b = sym c.add_samples-dense.ensures.0 in (
       (omega arith, omega (arith, c.add_samples-dense.ensures.1.1)),
       (
@@ -31,7 +31,7 @@ add-sparse-requires c κs =
 add-penalties-requires : tie.Need-add_penalties-requires
 add-penalties-requires c κs =
     let a = c.args in
-    let r = c.reach_of-w.ensures in
+    let r = c.reach_of-r.ensures in
     let b = sym c.add_samples-dense.ensures.0
     ∙ sym c.add_sparse-rows.ensures.0 in (
       omega arith,
@@ -46,7 +46,7 @@ returns : tie.Need-returns
 returns c =
     let a = c.args in
     let p = a.p in
-    let r = c.reach_of-w in
+    let r = c.reach_of-r in
     let v₁ = c.clear_system.ensures in
     let v₂ = c.add_samples-dense.ensures in
     let v₃ = c.add_sparse-rows.ensures in
