@@ -18,6 +18,10 @@ use Rattle.order.specs.Sets.{Fitting}
 use Rattle.order.specs.Outcome.{Outcome, outcome, above_limits, in_range, placed, is_ring, cutting_order_of, Promised}
 use Rattle.order.proofs.Orders.{taken, meets, least, ring}
 
+-- the lanes of pair i are in range
+abbrev pub pair_fits : Pairs → ℕ → ℕ → Bool
+pair_fits pairs lanes i = ltb (before_of pairs i) lanes && ltb (after_of pairs i) lanes
+
 -- the lanes of every pair are in range
 in_range_at : (lanes : ℕ) (pairs : Pairs) → in_range lanes pairs ≡ true → (p : ℕ) → p < length pairs
     → (before_of pairs p < lanes) × (after_of pairs p < lanes)

@@ -1,19 +1,19 @@
 -- The answer to a call, and what the lent slice holds after it: document 02, request 14.
-use Rattle.std.specs.Prelude.{◌≡◌, Bool, true, false, ◌&&◌, ◌||◌, not, cond, List, ◌++◌, ◌⊎◌, ℕ, ◌≤◌, ltb, length, take, drop}
+use Rattle.std.specs.Prelude.{◌≡◌, Bool, true, false, ◌&&◌, ◌||◌, not, cond, List, ◌++◌, ◌⊎◌, ℕ, ◌≤◌, ltb, length, take, drop, Result, Ok, Err}
 use Rattle.std.proofs.Math.Option.{Option, some, none}
 use Rattle.arith.specs.First.{every}
-use Rattle.order.specs.declared.Answer.{Answer}
-use Rattle.order.specs.declared.Answer.TheVariants.{Ordered, AboveLimits, NoSuchLane, TooShort, Ring}
+use Rattle.order.specs.declared.Refusal.{Refusal}
+use Rattle.order.specs.declared.Refusal.TheVariants.{AboveLimits, NoSuchLane, TooShort, Ring}
 use Rattle.order.specs.Pairs.{Pairs, before_of, after_of, Meets, Lower}
 use Rattle.order.specs.Order.{order_of}
 
 -- the answer's number in the papers; 0 says that there is an order
-abbrev pub number_of : Answer → ℕ
-number_of Ordered = 0
-number_of AboveLimits = 18
-number_of NoSuchLane = 31
-number_of TooShort = 19
-number_of Ring = 32
+abbrev pub number_of : Result (Unit {0}) Refusal → ℕ
+number_of (Ok _) = 0
+number_of (Err AboveLimits) = 18
+number_of (Err NoSuchLane) = 31
+number_of (Err TooShort) = 19
+number_of (Err Ring) = 32
 
 -- the answer's number, and the cells of the lent slice after it
 pub record Outcome : Type 0 where

@@ -4,6 +4,7 @@ ghost use Rattle.arith.specs.First.{first_of};
 ghost use Rattle.order.specs.Sets.{held};
 
 // Whether the lane is in the set.
+#[tactic(auto, unfolding(crate::specs::Sets::held))]
 pub(crate) fn has(set: u64, lane: usize) -> bool
     requires { lane < 64 }
     ensures { result ≡ held set lane }
@@ -31,13 +32,10 @@ pub(crate) fn lowest_outside(set: u64, lanes: usize) -> usize
     requires { lanes ≤ 64 }
     ensures { result ≡ first_of lanes (λ l. not (held set l)) }
 {
-    let mut lane = 0;
-    while lane < lanes {
-        if has(set, lane) {
-            lane += 1;
-        } else {
+    for lane in 0..lanes {
+        if !has(set, lane) {
             return lane;
         }
     }
-    lane
+    lanes
 }

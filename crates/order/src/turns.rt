@@ -13,9 +13,10 @@ fn hold_back(set: u64, cut: u64, before: usize, after: usize) -> u64
     ensures { (l : ℕ) → held result l ≡ (held set l || (not (held cut before) && eqb after l)) }
 {
     if sets::has(cut, before) {
-        return set;
+        set
+    } else {
+        sets::insert(set, after)
     }
-    sets::insert(set, after)
 }
 
 // The lanes that a pair holds back: its first lane is not cut.
@@ -25,10 +26,8 @@ fn waiting(pairs: &[[usize; 2]], cut: u64) -> u64
         (passes pairs.now list l)) }
 {
     let mut set = 0u64;
-    let mut i = 0;
-    while i < pairs.len() {
-        set = hold_back(set, cut, pairs[i][0], pairs[i][1]);
-        i += 1;
+    for pair in pairs {
+        set = hold_back(set, cut, pair[0], pair[1]);
     }
     set
 }
@@ -47,14 +46,12 @@ pub(crate) fn has_ring(pairs: &[[usize; 2]], lanes: usize) -> bool
     ensures { result ≡ is_ring (order_of lanes pairs.now) }
 {
     let mut cut = 0u64;
-    let mut place = 0;
-    while place < lanes {
+    for _place in 0..lanes {
         let lane = next(pairs, lanes, cut);
         if lanes <= lane {
             return true;
         }
         cut = sets::insert(cut, lane);
-        place += 1;
     }
     false
 }
@@ -65,11 +62,9 @@ pub(crate) fn write_order(pairs: &[[usize; 2]], lanes: usize, order: &mut [usize
     ensures { order.new ≡ (placed (order_of lanes pairs.now) order.old).cells }
 {
     let mut cut = 0u64;
-    let mut place = 0;
-    while place < lanes {
+    for place in 0..lanes {
         let lane = next(pairs, lanes, cut);
         order[place] = lane;
         cut = sets::insert(cut, lane);
-        place += 1;
     }
 }

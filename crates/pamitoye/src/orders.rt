@@ -1,21 +1,8 @@
 // Which lane is cut first.
 ghost use Rattle.std.specs.Prelude.{◌≡◌};
-ghost use Rattle.order.specs.Outcome.{number_of, outcome, cutting_order_of, Promised};
+ghost use Rattle.order.specs.Outcome.{outcome, cutting_order_of, Promised};
 
-use order::{Answer, cutting_order};
-
-// The number of an answer.
-fn number(answer: Answer) -> u64
-    ensures { result ≡ number_of answer }
-{
-    match answer {
-        Answer::Ordered => 0,
-        Answer::AboveLimits => 18,
-        Answer::NoSuchLane => 31,
-        Answer::TooShort => 19,
-        Answer::Ring => 32,
-    }
-}
+use order::{cutting_order, number};
 
 // The cutting order: `order::cutting_order`. An order that is given meets all pairs, and is the least of
 // those that do; 32 says that none does.

@@ -1,15 +1,15 @@
 -- Which answer a call gets: by the first check that refuses, or that all are passed; and what an answer leaves in the lent slices.
 use mathlib.Core.Path.{◌≡◌, refl, ap, ◌∙◌}
-use mathlib.Core.Bool.{Bool, true, false, not, ◌&&◌, ◌||◌, cond}
+use mathlib.Core.Bool.{Bool, true, false, not, ◌&&◌, cond}
 use mathlib.Core.List.{List}
 use Prim.Native.Nat.{ℕ, suc, ◌+◌, ◌-◌, ◌*◌, ◌≤◌}
 use native.Mathlib.Omega.{arith}
-use borrow.Author.Tests.{eqb-true, ltb-false, not-false}
-use lib.Dec.{eqb, ltb}
+use borrow.Author.Tests.{eqb-true, le-ltb, not-false}
+use lib.Dec.{eqb}
 use lib.ListN.{length, take, drop}
 use lib.Seq.{take_at}
 use lib.Ieee.{Float}
-use Rattle.arith.proofs.Truth.{and_parts, or_none}
+use Rattle.arith.proofs.Truth.{and_parts}
 use Rattle.window.specs.Rows.{written}
 use Rattle.window.proofs.Written.{written_plain}
 use Rattle.curve.specs.declared.Curve.{Curve}
@@ -72,48 +72,41 @@ module _ (c : Curve) (s : Slices) where
 
   -- the checks in their order
   module _ (lent : Slices) where
-    abbrev selected_short : Bool
-    selected_short = ltb (length lent.breaks) (length s.breaks) || ltb (length lent.coefficients) (length s.coefficients)
-
-    abbrev others_short : Bool
-    others_short =
-        ltb (length lent.other_breaks) (length s.other_breaks)
-        || ltb (length lent.other_coefficients) (length s.other_coefficients)
-
     pub malformed : well_formed c s ≡ false → outcome 24 lent ≡ return_of c s lent
     unfolding return_of
     malformed f = rw f
 
-    pub selected_short_law : well_formed c s ≡ true → selected_short ≡ true → outcome 19 lent ≡ return_of c s lent
-    unfolding return_of short_for
-    selected_short_law f h = rw (f, h)
-
-    pub others_short_law : well_formed c s ≡ true → selected_short ≡ false → others_short ≡ true → outcome 19 lent ≡ return_of c s lent
-    unfolding return_of short_for
-    others_short_law f h g = rw (f, h, g)
+    pub too_short : well_formed c s ≡ true → short_for s lent ≡ true → outcome 19 lent ≡ return_of c s lent
+    unfolding return_of
+    too_short f h = rw (f, h)
 
     -- what the first two checks let through
     pub record Roomy : Type 0 where
       pub formed : well_formed c s ≡ true
-      pub selected_long : selected_short ≡ false
-      pub others_long : others_short ≡ false
+      pub breaks : length s.breaks ≤ length lent.breaks
+      pub coefficients : length s.coefficients ≤ length lent.coefficients
+      pub other_breaks : length s.other_breaks ≤ length lent.other_breaks
+      pub other_coefficients : length s.other_coefficients ≤ length lent.other_coefficients
 
     module _ (p : Roomy) where
-      pub lengths : (length s.breaks ≤ length lent.breaks) × (length s.coefficients ≤ length lent.coefficients)
-          × (length s.other_breaks ≤ length lent.other_breaks) × (length s.other_coefficients ≤ length lent.other_coefficients)
-      lengths =
-          let a = or_none _ _ p.selected_long in
-          let b = or_none _ _ p.others_long in
-          (ltb-false _ _ a.0, ltb-false _ _ a.1, ltb-false _ _ b.0, ltb-false _ _ b.1)
+      long : short_for s lent ≡ false
+      unfolding short_for
+      long =
+          rw (
+            le-ltb _ _ p.breaks,
+            le-ltb _ _ p.coefficients,
+            le-ltb _ _ p.other_breaks,
+            le-ltb _ _ p.other_coefficients,
+          )
 
       pub not_rising : (rises_back s.breaks && rises_back s.other_breaks) ≡ false → outcome 29 lent ≡ return_of c s lent
-      unfolding return_of short_for
-      not_rising h = rw (p.formed, p.selected_long, p.others_long, h)
+      unfolding return_of
+      not_rising h = rw (p.formed, long, h)
 
       pub done : (after : Slices) → rises_back s.breaks ≡ true → rises_back s.other_breaks ≡ true
           → after ≡ onto_slices (return_slices c s) lent → outcome 0 after ≡ return_of c s lent
-      unfolding return_of short_for
-      done after r q e = rw (p.formed, p.selected_long, p.others_long, r, q) (ap (outcome 0) e)
+      unfolding return_of
+      done after r q e = rw (p.formed, long, r, q) (ap (outcome 0) e)
 
     -- what an answer without a refusal says
     pub record Done (after : Slices) : Type 0 where

@@ -45,6 +45,10 @@ module _ (breaks : List Float) where
   unfolding return_breaks
   break_at_law i l = list_at (length breaks) (return_break breaks) nan i l
 
+-- break i is below the next
+abbrev pub rises_at : List Float → ℕ → Bool
+rises_at breaks i = lt (at (return_breaks breaks) i) (at (return_breaks breaks) (i + 1))
+
 pub segment_length : (m : ℕ) (c : List Float) (i : ℕ) → length (return_segment m c i) ≡ m * 6
 unfolding return_segment
 segment_length m c i = table_length m 6 (λ a k. return_coefficient floats (λ j. at c (6 * (i * m + a) + j)) k)

@@ -1,5 +1,5 @@
 -- The return lane: document 02, request 12.
-use Rattle.std.specs.Prelude.{Bool, not, cond, ◌&&◌, ◌||◌, List, ℕ, ◌+◌, ◌-◌, ◌*◌, ltb, length, take, Float}
+use Rattle.std.specs.Prelude.{Bool, not, cond, ◌&&◌, ◌||◌, List, ℕ, ◌+◌, ◌-◌, ◌*◌, ltb, length, take, Float, Result, Ok, Err}
 use Rattle.std.specs.Float.{binary64}
 use Rattle.std.specs.Float.Ieee.{of_bits, sub}
 use Rattle.arith.specs.Operations.{floats}
@@ -7,8 +7,8 @@ use Rattle.window.specs.Cells.{at}
 use Rattle.window.specs.Rows.{join, list_of, table, written}
 use Rattle.curve.specs.declared.Curve.{Curve}
 use Rattle.curve.specs.Form.{Slices, slices, breaks_rise, with_widths, well_formed}
-use Rattle.return_lane.specs.declared.Answer.{Answer}
-use Rattle.return_lane.specs.declared.Answer.TheVariants.{Done, Malformed, TooShort, NotRising}
+use Rattle.return_lane.specs.declared.Refusal.{Refusal}
+use Rattle.return_lane.specs.declared.Refusal.TheVariants.{Malformed, TooShort, NotRising}
 use Rattle.return_lane.specs.Segment.{return_coefficient}
 
 -- 1 minus the i-th break from the end
@@ -74,9 +74,9 @@ return_of c s lent =
     (cond (not (rises_back s.breaks && rises_back s.other_breaks)) (outcome 29 lent)
     (outcome 0 (onto_slices (return_slices c s) lent))))
 
--- document 02's number of an answer
-abbrev pub number_of : Answer → ℕ
-number_of Done = 0
-number_of Malformed = 24
-number_of TooShort = 19
-number_of NotRising = 29
+-- document 02's number of an answer, 0 where nothing is refused
+abbrev pub number_of : Result (Unit {0}) Refusal → ℕ
+number_of (Ok _) = 0
+number_of (Err Malformed) = 24
+number_of (Err TooShort) = 19
+number_of (Err NotRising) = 29

@@ -3,8 +3,6 @@ ghost use Rattle.std.specs.Prelude.{◌≡◌, ◌+◌, ◌-◌, ◌≤◌, ◌<
 ghost use Rattle.window.specs.Rows.{written};
 ghost use Rattle.return_lane.specs.Return.{return_break, return_breaks, rises_back};
 
-use curve::count::one_if;
-
 // Break i.
 fn break_at(breaks: &[f64], i: usize) -> f64
     requires { i < length breaks.now }
@@ -13,17 +11,17 @@ fn break_at(breaks: &[f64], i: usize) -> f64
     1.0 - breaks[breaks.len() - (i + 1)]
 }
 
-// Whether they rise strictly: those that are below the next are counted.
+// Whether they rise strictly.
 pub fn rise_back(breaks: &[f64]) -> bool
     ensures { result ≡ rises_back breaks.now }
 {
-    let mut below = 0;
-    let mut i = 0;
-    while i + 1 < breaks.len() {
-        below += one_if(break_at(breaks, i) < break_at(breaks, i + 1));
-        i += 1;
+    for i in 0..breaks.len().saturating_sub(1) {
+        let rises = break_at(breaks, i) < break_at(breaks, i + 1);
+        if !rises {
+            return false;
+        }
     }
-    below == i
+    true
 }
 
 // All of them, to the first cells.
@@ -31,9 +29,7 @@ pub fn put_breaks(breaks: &[f64], cells: &mut [f64])
     requires { length breaks.now ≤ length cells.old }
     ensures { cells.new ≡ written 0 (return_breaks breaks.now) cells.old }
 {
-    let mut i = 0;
-    while i < breaks.len() {
+    for i in 0..breaks.len() {
         cells[i] = break_at(breaks, i);
-        i += 1;
     }
 }

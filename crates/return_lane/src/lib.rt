@@ -1,7 +1,7 @@
 // The return lane: a curve driven back (document 02, request 12).
 #![tactic(auto)]
 
-ghost use Rattle.std.specs.Prelude.{◌≡◌, true, ◌||◌, ltb};
+ghost use Rattle.std.specs.Prelude.{◌≡◌, true};
 ghost use Rattle.curve.specs.Form.{slices, well_formed};
 ghost use Rattle.return_lane.specs.Return.{outcome, return_of, used_by, number_of};
 
@@ -13,35 +13,27 @@ mod breaks; // breaks.rt: the breaks in reverse
 mod segments; // segments.rt: the coefficients of segments in reverse
 mod set; // set.rt: one set
 
-// The answer to a call. A refusal has written nothing.
-#[derive(Clone, Copy)]
-pub enum Answer {
-    Done,
+// Why there is no return lane. A refusal has written nothing.
+#[derive(Clone, Copy, Debug, PartialEq, Eq)]
+pub enum Refusal {
+    // 24: the curve is not well formed
     Malformed,
+    // 19: a lent slice is too short
     TooShort,
+    // 29: the breaks of the return lane do not rise strictly
     NotRising,
 }
 
 // Document 02's number of an answer, 0 where nothing is refused.
-pub fn number(answer: Answer) -> u64
+pub fn number(answer: Result<(), Refusal>) -> u64
     ensures { result ≡ number_of answer }
 {
     match answer {
-        Answer::Done => 0,
-        Answer::Malformed => 24,
-        Answer::TooShort => 19,
-        Answer::NotRising => 29,
+        Ok(()) => 0,
+        Err(Refusal::Malformed) => 24,
+        Err(Refusal::TooShort) => 19,
+        Err(Refusal::NotRising) => 29,
     }
-}
-
-// Whether a set does not fit the two slices that are lent for it: of these lengths.
-fn short(lent_breaks: usize, breaks: usize, lent_coefficients: usize, coefficients: usize) -> bool
-    ensures { result ≡ (ltb lent_breaks breaks || ltb lent_coefficients coefficients) }
-{
-    if lent_breaks < breaks {
-        return true;
-    }
-    lent_coefficients < coefficients
 }
 
 // The return lane of a curve, to the first cells of four lent slices: as many as the curve's own slices
@@ -56,7 +48,7 @@ pub fn return_lane(
     lent_coefficients: &mut [f64],
     lent_other_breaks: &mut [f64],
     lent_other_coefficients: &mut [f64],
-) -> Answer
+) -> Result<(), Refusal>
     ensures lent_other_coefficients_after { outcome (number_of result) (slices lent_breaks.new lent_coefficients.new
         lent_other_breaks.new lent_other_coefficients.new)
         ≡ return_of curve (slices breaks.now coefficients.now other_breaks.now
@@ -73,29 +65,17 @@ pub fn return_lane(
         other_breaks,
         other_coefficients,
     ) {
-        return Answer::Malformed;
+        return Err(Refusal::Malformed);
     }
-    if short(
-        lent_breaks.len(),
-        breaks.len(),
-        lent_coefficients.len(),
-        coefficients.len(),
-    ) {
-        return Answer::TooShort;
+    if lent_breaks.len() < breaks.len()
+        || lent_coefficients.len() < coefficients.len()
+        || lent_other_breaks.len() < other_breaks.len()
+        || lent_other_coefficients.len() < other_coefficients.len()
+    {
+        return Err(Refusal::TooShort);
     }
-    if short(
-        lent_other_breaks.len(),
-        other_breaks.len(),
-        lent_other_coefficients.len(),
-        other_coefficients.len(),
-    ) {
-        return Answer::TooShort;
-    }
-    if !rise_back(breaks) {
-        return Answer::NotRising;
-    }
-    if !rise_back(other_breaks) {
-        return Answer::NotRising;
+    if !rise_back(breaks) || !rise_back(other_breaks) {
+        return Err(Refusal::NotRising);
     }
     let d = curve.d;
     let k = curve.k;
@@ -111,5 +91,5 @@ pub fn return_lane(
         lent_other_breaks,
         lent_other_coefficients,
     );
-    Answer::Done
+    Ok(())
 }

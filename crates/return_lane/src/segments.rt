@@ -22,10 +22,8 @@ fn coefficient(p: &[f64], from: usize, k: usize) -> f64
     ensures { result ≡ return_coefficient floats (λ j. at p.now (from + j)) k }
 {
     let mut sum = 0.0;
-    let mut j = k;
-    while j < 6 {
+    for j in k..6 {
         sum += choose(j, k) * p[from + j];
-        j += 1;
     }
     sign_of(k) * sum
 }
@@ -36,10 +34,8 @@ fn put_six(p: &[f64], from: usize, to: usize, cells: &mut [f64])
     ensures { cells.new
         ≡ written to (list_of 6 (return_coefficient floats (λ j. at p.now (from + j)))) cells.old }
 {
-    let mut k = 0;
-    while k < 6 {
+    for k in 0..6 {
         cells[to + k] = coefficient(p, from, k);
-        k += 1;
     }
 }
 
@@ -48,10 +44,8 @@ fn put_segment(m: usize, p: &[f64], i: usize, to: usize, cells: &mut [f64])
     requires { (6 * (i * m + m) ≤ length p.now) × (to + 6 * m ≤ length cells.old) }
     ensures { cells.new ≡ written to (return_segment m p.now i) cells.old }
 {
-    let mut a = 0;
-    while a < m {
+    for a in 0..m {
         put_six(p, 6 * (i * m + a), to + 6 * a, cells);
-        a += 1;
     }
 }
 
@@ -60,9 +54,7 @@ pub fn put_segments(m: usize, n: usize, p: &[f64], cells: &mut [f64])
     requires { (6 * (n * m) ≤ length p.now) × (6 * (n * m) ≤ length cells.old) }
     ensures { cells.new ≡ written 0 (return_coefficients m n p.now) cells.old }
 {
-    let mut i = 0;
-    while i < n {
+    for i in 0..n {
         put_segment(m, p, n - (i + 1), 6 * (i * m), cells);
-        i += 1;
     }
 }

@@ -1,5 +1,5 @@
 -- A call of `return_lane::return_lane`, by its contract; and what its return lane is certified against: document 02, request 12.
-use Rattle.std.specs.Prelude.{◌≡◌, true, List, ℕ, ◌+◌, ◌-◌, ◌*◌, ◌≤◌, ◌<◌, Float}
+use Rattle.std.specs.Prelude.{◌≡◌, true, List, ℕ, ◌+◌, ◌-◌, ◌*◌, ◌≤◌, ◌<◌, Float, Result}
 use Rattle.std.specs.Float.{binary64}
 use Rattle.std.specs.Float.Ieee.{of_bits, sub}
 use Rattle.arith.specs.Operations.{floats}
@@ -8,12 +8,12 @@ use Rattle.window.specs.Rows.{table}
 use Rattle.curve.specs.declared.Curve.{Curve}
 use Rattle.curve.specs.Form.{Slices, well_formed}
 use Rattle.figure.specs.Figure.{Axis}
-use Rattle.return_lane.specs.declared.Answer.{Answer}
+use Rattle.return_lane.specs.declared.Refusal.{Refusal}
 use Rattle.return_lane.specs.Return.{number_of, outcome, return_of, used_by}
 use Rattle.return_lane.specs.Segment.{return_coefficient}
 
 pub record ReturnCall (c : Curve) (s lent : Slices) : Type 0 where
-  pub answer : Answer
+  pub answer : Result (Unit {0}) Refusal
   pub after : Slices
   -- the contract
   pub answered : outcome (number_of answer) after ≡ return_of c s lent

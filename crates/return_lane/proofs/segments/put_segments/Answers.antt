@@ -10,7 +10,7 @@ use Rattle.return_lane.proofs.segments.put_segments.Goals as goal
 
 pub loop-i-init : goal.loop-i-init
 unfolding join
-loop-i-init c = (omega arith, (refl, sym (written_none 0 c.args.cells.now)))
+loop-i-init c = (refl, sym (written_none 0 c.args.cells.now))
 
 -- segment i lies within all from the front, and from the end
 pub put_segment-requires : goal.put_segment-requires
@@ -19,22 +19,19 @@ put_segment-requires c =
     let i = c.loop-i.i in
     let front : i * a.m + a.m ≤ a.n * a.m = row_end i a.n a.m (a.n * a.m) c.loop-i-test.true (omega arith) in
     let end : (a.n - (i + 1)) * a.m + a.m ≤ a.n * a.m = row_end (a.n - (i + 1)) a.n a.m (a.n * a.m) (omega arith) (omega arith) in
-    (omega (arith, end), omega (arith, front, c.loop-i.invariant.1.0))
+    (omega (arith, end), omega (arith, front, c.loop-i.invariant.0))
 
 pub loop-i-preserved : goal.loop-i-preserved
 loop-i-preserved c =
     let a = c.args in
     let l = c.loop-i in
-    let front : l.i * a.m + a.m ≤ a.n * a.m = row_end l.i a.n a.m (a.n * a.m) c.loop-i-test.true (omega arith) in (
-      omega arith,
-      row_put 0 (a.m * 6) l.i (6 * (l.i * a.m)) (row a.m a.n a.p.now) a.cells.now
-          l.cells _ (λ j. segment_length a.m a.p.now (a.n - (j + 1))) (omega arith) (omega arith)
-          l.invariant.1.1 c.put_segment.ensures,
-    )
+    let front : l.i * a.m + a.m ≤ a.n * a.m = row_end l.i a.n a.m (a.n * a.m) c.loop-i-test.true (omega arith) in
+    row_put 0 (a.m * 6) l.i (6 * (l.i * a.m)) (row a.m a.n a.p.now) a.cells.now l.cells _
+    (λ j. segment_length a.m a.p.now (a.n - (j + 1))) (omega arith) (omega arith) l.invariant.1 c.put_segment.ensures
 
 pub returns : goal.returns
 unfolding return_coefficients
 returns c =
     let a = c.args in
     let e : c.loop-i.i ≡ a.n = omega arith in
-    c.loop-i.invariant.1.1 ∙ ap (λ (n : ℕ). written 0 (join n (row a.m a.n a.p.now)) a.cells.now) e
+    c.loop-i.invariant.1 ∙ ap (λ (n : ℕ). written 0 (join n (row a.m a.n a.p.now)) a.cells.now) e

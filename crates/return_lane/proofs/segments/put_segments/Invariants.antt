@@ -1,5 +1,5 @@
 -- The first i segments are written.
-use Rattle.std.proofs.Common.{ℕ, ◌+◌, ◌-◌, ◌≤◌, List}
+use Rattle.std.proofs.Common.{ℕ, ◌+◌, ◌-◌, List}
 use lib.Ieee.{Float}
 use Rattle.return_lane.specs.Return.{return_segment}
 use Rattle.return_lane.proofs.Rows.{RowsPut}
@@ -10,7 +10,4 @@ abbrev pub row : ℕ → ℕ → List Float → ℕ → List Float
 row m n p i = return_segment m p (n - (i + 1))
 
 abbrev pub invariant-loop-i : goal.invariant-loop-i
-invariant-loop-i l = (l.i ≤ l.n) × RowsPut 0 l.i (row l.m l.n l.p) l.initial.cells l.cells
-
-abbrev pub decreases-loop-i : goal.decreases-loop-i
-decreases-loop-i l = l.n - l.i
+invariant-loop-i l = RowsPut 0 l.i (row l.m l.n l.p) l.fn.cells l.cells

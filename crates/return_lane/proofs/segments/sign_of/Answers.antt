@@ -1,12 +1,9 @@
--- `segments::sign_of` meets its contract: one k after the other.
-use mathlib.Core.Path.{◌≡◌, refl}
-use Prim.Native.Nat.{ℕ, zero, suc, ◌%◌, ◌<◌}
-use native.Mathlib.Omega.{arith}
+-- One k after the other.
+use Rattle.std.proofs.Common.{arith, ◌≡◌, refl, ℕ, zero, suc, ◌%◌, ◌<◌}
 use lib.Ieee.{Float, binary64, of_bits, neg, sub, add, round, sum}
 use Rattle.arith.specs.Operations.{floats}
 use Rattle.return_lane.specs.Segment.{sign}
-use Rattle.return_lane.proofs.segments.sign_of.Statement.{statement}
-use Rattle.return_lane.proofs.segments.sign_of.Tie as tie
+use Rattle.return_lane.proofs.segments.sign_of.Goals as goal
 
 abbrev one : Float
 one = of_bits binary64 0x3ff0_0000_0000_0000
@@ -31,12 +28,9 @@ odd (suc (suc (suc (suc zero)))) l e = absurd (e refl)
 odd (suc (suc (suc (suc (suc zero))))) l e = refl
 odd (suc (suc (suc (suc (suc (suc k)))))) l e = absurd (omega arith)
 
-returns : tie.Need-returns-then-k-eq0
-returns c = even c.args.k c.requires c.if-k-eq0.true
+pub returns-then-k-eq0 : goal.returns-then-k-eq0
+returns-then-k-eq0 c = even c.args.k c.requires c.if-k-eq0.true
 
-returns-2 : tie.Need-returns-else-k-eq0
+pub returns-else-k-eq0 : goal.returns-else-k-eq0
 unfolding of_bits neg
-returns-2 c = odd c.args.k c.requires c.if-k-eq0.false
-
-pub sign_of_spec : {M : Type 1} → statement M
-sign_of_spec = tie.close (tie.spec returns returns-2)
+returns-else-k-eq0 c = odd c.args.k c.requires c.if-k-eq0.false
