@@ -13,7 +13,7 @@ use lib.Ieee.{Float, nan, inf, fin, binary64, up, down, below, lt, le, eq}
 use Rattle.arith.proofs.Truth.{and_parts, clash}
 use Rattle.arith.proofs.Rows.{row_end}
 use Rattle.fraction.proofs.Value.{plus_zero}
-use Rattle.window.specs.Cells.{at, Doubles}
+use Rattle.window.specs.Cells.{at}
 use Rattle.polynomial.specs.Span.{break_span}
 use Rattle.curve.specs.Form.{set_formed, others_formed}
 use Rattle.arith.proofs.Firsts.{every_at}
@@ -79,21 +79,21 @@ other_rows_law zero n b c u h = omega arith
 other_rows_law (suc m) n b c u h = set_rows (suc m) n b c u (rw (ne_eqb (suc m) 0 (λ e. absurd (omega arith))) at h)
 
 -- the widths of a set's segments lie behind its coefficients
-pub set_widths : (m n : ℕ) (breaks coefficients : List Float) → Doubles coefficients → set_formed m n breaks coefficients ≡ true
+pub set_widths : (m n : ℕ) (breaks coefficients : List Float) → set_formed m n breaks coefficients ≡ true
     → Widths breaks coefficients (6 * (n * m))
-set_widths m n b c F h i l =
+set_widths m n b c h i l =
     let z = set_parts m n b c h in
     let k : i < n = omega (arith, z.breaks_length) in
-    (omega (arith, z.coefficients_length), kept_width (6 * (n * m)) n b c z.kept i k (F (6 * (n * m) + i)))
+    (omega (arith, z.coefficients_length), λ F. kept_width (6 * (n * m)) n b c z.kept i k F)
 
-pub other_widths : (m n : ℕ) (breaks coefficients : List Float) → Doubles coefficients → others_formed m n breaks coefficients ≡ true
+pub other_widths : (m n : ℕ) (breaks coefficients : List Float) → others_formed m n breaks coefficients ≡ true
     → Widths breaks coefficients (6 * (n * m))
 unfolding others_formed
-other_widths zero n b c F h = λ i l.
+other_widths zero n b c h = λ i l.
     let p = and_parts (eqb n 0 && eqb (length b) 0) (eqb (length c) 0) h in
     let z = eqb-true (length b) 0 (and_parts (eqb n 0) (eqb (length b) 0) p.0).1 in
     absurd (omega arith)
-other_widths (suc m) n b c F h = set_widths (suc m) n b c F (rw (ne_eqb (suc m) 0 (λ e. absurd (omega arith))) at h)
+other_widths (suc m) n b c h = set_widths (suc m) n b c (rw (ne_eqb (suc m) 0 (λ e. absurd (omega arith))) at h)
 
 -- the coefficients of a set of up to 16 axes are few
 pub set_few : (m n : ℕ) (breaks coefficients : List Float) → m ≤ 16 → set_formed m n breaks coefficients ≡ true → n * m ≤ 320000

@@ -5,3 +5,4 @@ pub mod Segment
 pub mod Range
 pub mod Row
 pub mod Query
+pub mod Lent

@@ -1,6 +1,7 @@
 -- Where a parameter lies among breaks that rise from 0.
-use Rattle.std.specs.Prelude.{◌≡◌, true, false, List, ℕ, ◌+◌, ◌≤◌, ◌<◌, length, Float}
-use Rattle.std.specs.Float.Ieee.{lt, le}
+use Rattle.std.specs.Prelude.{◌≡◌, true, false, List, ℕ, ◌+◌, ◌≤◌, ◌<◌, length, T, Float}
+use Rattle.std.specs.Float.{binary64}
+use Rattle.std.specs.Float.Ieee.{lt, le, fits}
 use Rattle.window.specs.Cells.{+0, at}
 use Rattle.curve.specs.Form.{width_of}
 
@@ -18,6 +19,7 @@ Found breaks x r =
 abbrev pub Begins : List Float → ℕ → Type 0
 Begins breaks near = 2 ≤ length breaks → near + 1 < length breaks
 
--- the widths of the segments lie in these cells, from the cell `from` on
+-- the widths of the segments lie in these cells, from the cell `from` on: a cell that is an f64 is one
 abbrev pub Widths : List Float → List Float → ℕ → Type 0
-Widths breaks cells from = (i : ℕ) → i + 1 < length breaks → (from + i < length cells) × (at cells (from + i) ≡ width_of breaks i)
+Widths breaks cells from = (i : ℕ) → i + 1 < length breaks
+    → (from + i < length cells) × (T (fits binary64 (at cells (from + i))) → at cells (from + i) ≡ width_of breaks i)

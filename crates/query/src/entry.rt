@@ -1,13 +1,15 @@
 // One query, and many in one call.
 ghost use Rattle.std.specs.Prelude.{◌≡◌, true, ◌*◌, ◌<◌, length, MatchOption, IfOk};
-ghost use Rattle.curve.specs.Form.{slices, well_formed};
+ghost use Rattle.curve.specs.Form.{well_formed};
+ghost use Rattle.query.specs.Lent.{slices_of};
 ghost use Rattle.query.specs.Range.{Inside, Taken};
 ghost use Rattle.query.specs.Row.{outputs, Room, filled};
 ghost use Rattle.query.specs.Query.{columns_of, first_refused, short_of, outcome, evaluate_of, evaluate_all_of};
 ghost use Rattle.query.specs.Query.{number_of, refused_place, span_at, Last};
 
+use crate::lent::Lent;
 use crate::{places, range, row, segment};
-use curve::{Curve, form};
+use curve::Curve;
 
 // Why a query is refused, which then has written nothing. OutsideAt has the place of the first parameter
 // that is outside, 0 for a single query.
@@ -84,11 +86,7 @@ fn first_refused(curve: Curve, xs: &[f64], inside: bool) -> Option<usize>
 // begins at the two segments that are near, if there are such, and each other one at the segments of the
 // parameter before; the last ones are handed back.
 fn write_all<'a>(
-    curve: Curve,
-    breaks: &[f64],
-    coefficients: &'a [f64],
-    other_breaks: &[f64],
-    other_coefficients: &'a [f64],
+    lent: &Lent<'a>,
     near: usize,
     other_near: usize,
     xs: &[f64],
@@ -99,17 +97,20 @@ fn write_all<'a>(
     ddq: &mut [f64],
     dddq: &mut [f64],
 ) -> Spans
-    requires other_coefficients_value { well_formed curve (slices breaks.now coefficients.now other_breaks.now other_coefficients.now) ≡ true }
-    requires taken { Taken curve xs.now }
-    requires inside { inside ≡ true → Inside curve xs.now }
-    requires room { Room order (length xs.now * curve.d) (outputs q.old dq.old ddq.old dddq.old) }
+    requires other_coefficients_value { well_formed lent.now.curve (slices_of lent.now) ≡ true }
+    requires taken { Taken lent.now.curve xs.now }
+    requires inside { inside ≡ true → Inside lent.now.curve xs.now }
+    requires room { Room order (length xs.now * lent.now.curve.d) (outputs q.old dq.old ddq.old dddq.old) }
     ensures dddq_after { outputs q.new dq.new ddq.new dddq.new
-        ≡ filled order 0 (λ part. columns_of part curve (slices breaks.now coefficients.now
-        other_breaks.now other_coefficients.now) xs.now)
+        ≡ filled order 0 (λ part. columns_of part lent.now.curve (slices_of lent.now) xs.now)
         (outputs q.old dq.old ddq.old dddq.old) }
-    ensures last { Last curve (slices breaks.now coefficients.now other_breaks.now
-        other_coefficients.now) xs.now (length xs.now) result.span result.other_span }
+    ensures last { Last lent.now.curve (slices_of lent.now) xs.now (length xs.now) result.span result.other_span }
 {
+    let curve = lent.curve;
+    let breaks = lent.breaks;
+    let coefficients = lent.coefficients;
+    let other_breaks = lent.other_breaks;
+    let other_coefficients = lent.other_coefficients;
     let d = curve.d;
     let k = curve.k;
     let n = curve.segments;
@@ -156,11 +157,7 @@ fn write_all<'a>(
 // segments that are tried first, one of each set: whatever numbers they are, the answer is the same. Handed
 // back are the segments of the answer.
 pub fn evaluate_near<'a>(
-    curve: Curve,
-    breaks: &[f64],
-    coefficients: &'a [f64],
-    other_breaks: &[f64],
-    other_coefficients: &'a [f64],
+    lent: &Lent<'a>,
     span: usize,
     other_span: usize,
     x: f64,
@@ -170,29 +167,25 @@ pub fn evaluate_near<'a>(
     ddq: &mut [f64],
     dddq: &mut [f64],
 ) -> Result<Spans, Refusal>
-    requires { well_formed curve (slices breaks.now coefficients.now other_breaks.now other_coefficients.now) ≡ true }
+    requires { well_formed lent.now.curve (slices_of lent.now) ≡ true }
     ensures dddq_after { outcome (number_of result) (refused_place result) (outputs q.new dq.new ddq.new dddq.new)
-        ≡ evaluate_of curve (slices breaks.now coefficients.now other_breaks.now
-        other_coefficients.now) x order (outputs q.old dq.old ddq.old
+        ≡ evaluate_of lent.now.curve (slices_of lent.now) x order (outputs q.old dq.old ddq.old
         dddq.old) }
-    ensures ok { IfOk result (λ at. (at.span ≡ span_at curve breaks.now x) × (at.other_span ≡ span_at curve other_breaks.now x)) }
+    ensures ok { IfOk result (λ at. (at.span ≡ span_at lent.now.curve lent.now.breaks.now x)
+        × (at.other_span ≡ span_at lent.now.curve lent.now.other_breaks.now x)) }
 {
-    let d = curve.d;
+    let d = lent.curve.d;
     if 3 < order {
         return Err(Refusal::OrderAboveThree);
     }
     if short(order, d, q.len(), dq.len(), ddq.len(), dddq.len()) {
         return Err(Refusal::TooShort);
     }
-    if range::in_range(curve, x).is_none() {
+    if range::in_range(lent.curve, x).is_none() {
         return Err(Refusal::OutsideAt(0));
     }
     Ok(write_all(
-        curve,
-        breaks,
-        coefficients,
-        other_breaks,
-        other_coefficients,
+        lent,
         span,
         other_span,
         &[x],
@@ -209,11 +202,7 @@ pub fn evaluate_near<'a>(
 // (`accepted_well_formed` in smoothing/proofs/WellFormed). Hence the `requires`: the curve is not tested, so
 // that a query does not take longer the more breaks there are. The answer is that of `evaluate`, never 24.
 pub fn evaluate_formed<'a>(
-    curve: Curve,
-    breaks: &[f64],
-    coefficients: &'a [f64],
-    other_breaks: &[f64],
-    other_coefficients: &'a [f64],
+    lent: &Lent<'a>,
     x: f64,
     order: usize,
     q: &mut [f64],
@@ -221,18 +210,13 @@ pub fn evaluate_formed<'a>(
     ddq: &mut [f64],
     dddq: &mut [f64],
 ) -> Result<(), Refusal>
-    requires { well_formed curve (slices breaks.now coefficients.now other_breaks.now other_coefficients.now) ≡ true }
+    requires { well_formed lent.now.curve (slices_of lent.now) ≡ true }
     ensures { outcome (number_of result) (refused_place result) (outputs q.new dq.new ddq.new dddq.new)
-        ≡ evaluate_of curve (slices breaks.now coefficients.now other_breaks.now
-        other_coefficients.now) x order (outputs q.old dq.old ddq.old
+        ≡ evaluate_of lent.now.curve (slices_of lent.now) x order (outputs q.old dq.old ddq.old
         dddq.old) }
 {
     evaluate_near(
-        curve,
-        breaks,
-        coefficients,
-        other_breaks,
-        other_coefficients,
+        lent,
         0,
         0,
         x,
@@ -248,11 +232,7 @@ pub fn evaluate_formed<'a>(
 // The query at x: the value of every axis to q and its derivatives up to the order asked, 0 to 3, to the
 // others. On an answer d cells of each slice asked for are written and nothing else, on a refusal nothing.
 pub fn evaluate<'a>(
-    curve: Curve,
-    breaks: &[f64],
-    coefficients: &'a [f64],
-    other_breaks: &[f64],
-    other_coefficients: &'a [f64],
+    lent: &Lent<'a>,
     x: f64,
     order: usize,
     q: &mut [f64],
@@ -261,25 +241,14 @@ pub fn evaluate<'a>(
     dddq: &mut [f64],
 ) -> Result<(), Refusal>
     ensures { outcome (number_of result) (refused_place result) (outputs q.new dq.new ddq.new dddq.new)
-        ≡ evaluate_of curve (slices breaks.now coefficients.now other_breaks.now
-        other_coefficients.now) x order (outputs q.old dq.old ddq.old
+        ≡ evaluate_of lent.now.curve (slices_of lent.now) x order (outputs q.old dq.old ddq.old
         dddq.old) }
 {
-    if !form::well_formed(
-        curve,
-        breaks,
-        coefficients,
-        other_breaks,
-        other_coefficients,
-    ) {
+    if !lent.well_formed() {
         return Err(Refusal::Malformed);
     }
     evaluate_formed(
-        curve,
-        breaks,
-        coefficients,
-        other_breaks,
-        other_coefficients,
+        lent,
         x,
         order,
         q,
@@ -292,11 +261,7 @@ pub fn evaluate<'a>(
 // The queries at all of `xs` of a curve that is known to be well formed; the `requires` is that of
 // `evaluate_formed`. The answer is that of `evaluate_all`, and never 24.
 pub fn evaluate_all_formed<'a>(
-    curve: Curve,
-    breaks: &[f64],
-    coefficients: &'a [f64],
-    other_breaks: &[f64],
-    other_coefficients: &'a [f64],
+    lent: &Lent<'a>,
     xs: &[f64],
     order: usize,
     q: &mut [f64],
@@ -304,12 +269,12 @@ pub fn evaluate_all_formed<'a>(
     ddq: &mut [f64],
     dddq: &mut [f64],
 ) -> Result<(), Refusal>
-    requires { well_formed curve (slices breaks.now coefficients.now other_breaks.now other_coefficients.now) ≡ true }
+    requires { well_formed lent.now.curve (slices_of lent.now) ≡ true }
     ensures { outcome (number_of result) (refused_place result) (outputs q.new dq.new ddq.new
-        dddq.new) ≡ evaluate_all_of curve (slices breaks.now coefficients.now
-        other_breaks.now other_coefficients.now) xs.now order (outputs q.old
+        dddq.new) ≡ evaluate_all_of lent.now.curve (slices_of lent.now) xs.now order (outputs q.old
         dq.old ddq.old dddq.old) }
 {
+    let curve = lent.curve;
     let d = curve.d;
     let count = xs.len();
     if 3 < order {
@@ -326,11 +291,7 @@ pub fn evaluate_all_formed<'a>(
         return Err(Refusal::OutsideAt(place));
     }
     write_all(
-        curve,
-        breaks,
-        coefficients,
-        other_breaks,
-        other_coefficients,
+        lent,
         0,
         0,
         xs,
@@ -347,11 +308,7 @@ pub fn evaluate_all_formed<'a>(
 // The queries at all of `xs`, each as `evaluate` has it, d cells after d cells. The curve is tested once.
 // The first query that is refused refuses the call; on a refusal nothing is written.
 pub fn evaluate_all<'a>(
-    curve: Curve,
-    breaks: &[f64],
-    coefficients: &'a [f64],
-    other_breaks: &[f64],
-    other_coefficients: &'a [f64],
+    lent: &Lent<'a>,
     xs: &[f64],
     order: usize,
     q: &mut [f64],
@@ -360,25 +317,14 @@ pub fn evaluate_all<'a>(
     dddq: &mut [f64],
 ) -> Result<(), Refusal>
     ensures { outcome (number_of result) (refused_place result) (outputs q.new dq.new ddq.new
-        dddq.new) ≡ evaluate_all_of curve (slices breaks.now coefficients.now
-        other_breaks.now other_coefficients.now) xs.now order (outputs q.old
+        dddq.new) ≡ evaluate_all_of lent.now.curve (slices_of lent.now) xs.now order (outputs q.old
         dq.old ddq.old dddq.old) }
 {
-    if !form::well_formed(
-        curve,
-        breaks,
-        coefficients,
-        other_breaks,
-        other_coefficients,
-    ) {
+    if !lent.well_formed() {
         return Err(Refusal::Malformed);
     }
     evaluate_all_formed(
-        curve,
-        breaks,
-        coefficients,
-        other_breaks,
-        other_coefficients,
+        lent,
         xs,
         order,
         q,

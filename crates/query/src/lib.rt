@@ -2,6 +2,7 @@
 // adds.
 #![tactic(auto)]
 
+mod lent; // lent.rt: a curve with its slices
 mod search; // search.rt: the segment of a parameter
 mod segment; // segment.rt: one axis on one segment
 mod places; // places.rt: where each axis stands in its set
@@ -9,6 +10,7 @@ mod range; // range.rt: parameters outside start to end
 mod row; // row.rt: the axes of one query, written
 mod entry; // entry.rt: one query, and many in one call
 
+pub use lent::Lent;
 pub use entry::{
     Refusal, Spans, evaluate, evaluate_all, evaluate_all_formed, evaluate_formed, evaluate_near,
     number,

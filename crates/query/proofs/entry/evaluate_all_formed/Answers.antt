@@ -22,15 +22,15 @@ pub returns-then-q-d : goal.returns-then-q-d
 unfolding evaluate_all_of
 returns-then-q-d c =
     let a = c.args in
-    let some : 0 < a.curve.d = omega (arith, (formed _ _ c.requires).d_low) in
+    let some : 0 < a.lent.now.curve.d = omega (arith, (formed _ _ c.requires).d_low) in
     too_short _ _ _ _ _ _ c.requires c.if-order-gt3.false
-    (short_first a.order (length a.xs.now * a.curve.d) (outputs a.q.now a.dq.now a.ddq.now a.dddq.now)
+    (short_first a.order (length a.xs.now * a.lent.now.curve.d) (outputs a.q.now a.dq.now a.ddq.now a.dddq.now)
     ((div-lt_iff_lt-mul some).0 c.if-q-d.true))
 
 pub overflow_mul-count : goal.overflow_mul-count
 overflow_mul-count c =
-    let some : 0 < c.args.curve.d = omega (arith, (formed _ _ c.requires).d_low) in
-    let r = room_count (length c.args.q.now) c.args.curve.d (length c.args.xs.now) some c.if-q-d.false in
+    let some : 0 < c.args.lent.now.curve.d = omega (arith, (formed _ _ c.requires).d_low) in
+    let r = room_count (length c.args.q.now) c.args.lent.now.curve.d (length c.args.xs.now) some c.if-q-d.false in
     omega (arith, r)
 
 pub returns-then-short : goal.returns-then-short
@@ -47,13 +47,13 @@ returns-in-Some c =
 pub write_all-requires-clause-taken : goal.write_all-requires-clause-taken
 write_all-requires-clause-taken c = λ i l.
     let a = c.args in
-    is_some_of (ranged_of a.curve (at a.xs.now i))
-    (first_before (λ j. is_none (ranged_of a.curve (at a.xs.now j))) (length a.xs.now) i (rw c.in_default.ensures l))
+    is_some_of (ranged_of a.lent.now.curve (at a.xs.now i))
+    (first_before (λ j. is_none (ranged_of a.lent.now.curve (at a.xs.now j))) (length a.xs.now) i (rw c.in_default.ensures l))
 
 pub write_all-requires-clause-room : goal.write_all-requires-clause-room
 write_all-requires-clause-room c =
     let a = c.args in
-    rooms a.order (length a.xs.now * a.curve.d) (outputs a.q.now a.dq.now a.ddq.now a.dddq.now) (sym c.short.ensures ∙ c.if-short.false)
+    rooms a.order (length a.xs.now * a.lent.now.curve.d) (outputs a.q.now a.dq.now a.ddq.now a.dddq.now) (sym c.short.ensures ∙ c.if-short.false)
 
 pub returns : goal.returns
 returns c =

@@ -27,7 +27,7 @@ returns-then-is_none-clause-dddq_after c =
 pub write_all-requires-clause-room : goal.write_all-requires-clause-room
 write_all-requires-clause-room c =
     let a = c.args in
-    let d = a.curve.d in
+    let d = a.lent.now.curve.d in
     let given = outputs a.q.now a.dq.now a.ddq.now a.dddq.now in
     room_for a.order (1 * d) d given given (omega arith) (as_long given) (rooms a.order d given (sym c.short.ensures ∙ c.if-short.false))
 

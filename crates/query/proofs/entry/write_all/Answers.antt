@@ -4,7 +4,8 @@ use Rattle.arith.proofs.Rows.{row_end}
 use Rattle.window.specs.Cells.{at}
 use Rattle.window.specs.Rows.{join}
 use Rattle.curve.specs.declared.Curve.{Curve}
-use Rattle.curve.specs.Form.{Slices, slices}
+use Rattle.curve.specs.Form.{Slices}
+use Rattle.query.specs.Lent.{slices_of}
 use Rattle.curve.specs.Places.{axis_place}
 use Rattle.curve.proofs.Placing.{place_below}
 use Rattle.curve.proofs.Formed.{Formed, formed, axes_good}
@@ -64,11 +65,11 @@ loop-i-init c = let g = c.args in
 
 pub locate-here-requires : goal.locate-here-requires
 locate-here-requires c = let f = (formed _ _ c.requires.other_coefficients_value).set_formed_law in
-    (set_rising _ _ _ _ f, c.loop-i.invariant.begins.0, set_widths _ _ _ _ c.type_inv.coefficients f)
+    (set_rising _ _ _ _ f, c.loop-i.invariant.begins.0, set_widths _ _ _ _ f)
 
 pub locate-there-requires : goal.locate-there-requires
 locate-there-requires c = let f = (formed _ _ c.requires.other_coefficients_value).others_formed_law in
-    (others_rising _ _ _ _ f, c.loop-i.invariant.begins.1, other_widths _ _ _ _ c.type_inv.other_coefficients f)
+    (others_rising _ _ _ _ f, c.loop-i.invariant.begins.1, other_widths _ _ _ _ f)
 
 pub put_axes-requires-clause-m_bound : goal.put_axes-requires-clause-m_bound
 put_axes-requires-clause-m_bound c = let f = formed _ _ c.requires.other_coefficients_value in (
@@ -85,11 +86,11 @@ pub put_axes-requires-clause-room : goal.put_axes-requires-clause-room
 put_axes-requires-clause-room c =
     let g = c.args in
     let f = formed _ _ c.requires.other_coefficients_value in
-    let d = g.curve.d in
+    let d = g.lent.now.curve.d in
     let n = length g.xs.now in
     let l = c.loop-i in
     let r = row_end l.i n d (n * d) c.loop-i-test.true (omega arith) in
-    room_for g.order (l.i * d + (g.curve.k + (d - g.curve.k))) (n * d) (outputs g.q.now g.dq.now g.ddq.now g.dddq.now)
+    room_for g.order (l.i * d + (g.lent.now.curve.k + (d - g.lent.now.curve.k))) (n * d) (outputs g.q.now g.dq.now g.ddq.now g.dddq.now)
     (outputs l.q l.dq l.ddq l.dddq) (omega (arith, f.k_high, r)) (l.auto.q, l.auto.dq, l.auto.ddq, l.auto.dddq)
     c.requires.room
 
@@ -98,21 +99,21 @@ loop-i-preserved c =
     let g = c.args in
     let l = c.loop-i in
     let f = formed _ _ c.requires.other_coefficients_value in
-    let s = slices g.breaks.now g.coefficients.now g.other_breaks.now g.other_coefficients.now in
+    let s = slices_of g.lent.now in
     let given = outputs g.q.now g.dq.now g.ddq.now g.dddq.now in
-    let d = g.curve.d in
+    let d = g.lent.now.curve.d in
     let n = length g.xs.now in
     let x = c.answered-ranged.ensures in
-    let e = rows_columns g.curve s (answered_at g.curve (at g.xs.now l.i)) c.find_places-table.result f.k_high c.find_places-table.ensures
+    let e = rows_columns g.lent.now.curve s (answered_at g.lent.now.curve (at g.xs.now l.i)) c.find_places-table.result f.k_high c.find_places-table.ensures
     g.order (l.i * d) (outputs l.q l.dq l.ddq l.dddq) _ _ _ _ _ _ x refl refl c.locate-here.ensures c.locate-there.ensures
     c.put_axes.ensures in
     record {
       begins = (rw c.locate-here.ensures (located_within _ _), rw c.locate-there.ensures (located_within _ _));
-      written = (rows_next g.order 0 d l.i n (l.i * d) (column g.curve s g.xs.now) given (outputs l.q l.dq l.ddq l.dddq) _ (omega arith)
-          (λ part j. column_length part g.curve s (answered_at g.curve (at g.xs.now j))) c.loop-i-test.true
+      written = (rows_next g.order 0 d l.i n (l.i * d) (column g.lent.now.curve s g.xs.now) given (outputs l.q l.dq l.ddq l.dddq) _ (omega arith)
+          (λ part j. column_length part g.lent.now.curve s (answered_at g.lent.now.curve (at g.xs.now j))) c.loop-i-test.true
           (room_for g.order (0 + n * d) (n * d) given given (omega arith) (as_long given) c.requires.room) l.invariant.written e).1;
       last = λ j e. let same : j ≡ l.i = omega arith in (
-        rw same (span_found g.curve g.breaks.now _ _ _ _ x refl c.locate-here.ensures),
-        rw same (span_found g.curve g.other_breaks.now _ _ _ _ x refl c.locate-there.ensures),
+        rw same (span_found g.lent.now.curve g.lent.now.breaks.now _ _ _ _ x refl c.locate-here.ensures),
+        rw same (span_found g.lent.now.curve g.lent.now.other_breaks.now _ _ _ _ x refl c.locate-there.ensures),
       );
     }
