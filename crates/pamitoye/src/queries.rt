@@ -7,7 +7,7 @@ ghost use Rattle.pamitoye.specs.Choices.{passed_curve};
 ghost use Rattle.pamitoye.specs.Queries.{place_after};
 
 use crate::curves;
-use query::Refusal;
+use query::{Lent, Refusal};
 
 // The number of an answer to many; with 22, the place of the first parameter that is refused.
 fn put_place(answers: Result<(), Refusal>, refused_at: &mut usize) -> u64
@@ -31,9 +31,9 @@ pub extern "C" fn pamitoye_evaluate<'a>(
     clamp: bool,
     segments: usize,
     other_segments: usize,
-    breaks: &[f64],
+    breaks: &'a [f64],
     coefficients: &'a [f64],
-    other_breaks: &[f64],
+    other_breaks: &'a [f64],
     other_coefficients: &'a [f64],
     x: f64,
     order: usize,
@@ -51,12 +51,15 @@ pub extern "C" fn pamitoye_evaluate<'a>(
         other_breaks.now other_coefficients.now) x order (outputs q.old dq.old
         ddq.old dddq.old)).after }
 {
-    let answered = query::evaluate(
-        curves::curve(d, k, axes, start, end, clamp, segments, other_segments),
+    let lent = Lent {
+        curve: curves::curve(d, k, axes, start, end, clamp, segments, other_segments),
         breaks,
         coefficients,
         other_breaks,
         other_coefficients,
+    };
+    let answered = query::evaluate(
+        &lent,
         x,
         order,
         q,
@@ -78,9 +81,9 @@ pub extern "C" fn pamitoye_evaluate_all<'a>(
     clamp: bool,
     segments: usize,
     other_segments: usize,
-    breaks: &[f64],
+    breaks: &'a [f64],
     coefficients: &'a [f64],
-    other_breaks: &[f64],
+    other_breaks: &'a [f64],
     other_coefficients: &'a [f64],
     xs: &[f64],
     order: usize,
@@ -102,12 +105,15 @@ pub extern "C" fn pamitoye_evaluate_all<'a>(
         other_breaks.now other_coefficients.now) xs.now order (outputs q.old
         dq.old ddq.old dddq.old)).place refused_at.old }
 {
-    let answered = query::evaluate_all(
-        curves::curve(d, k, axes, start, end, clamp, segments, other_segments),
+    let lent = Lent {
+        curve: curves::curve(d, k, axes, start, end, clamp, segments, other_segments),
         breaks,
         coefficients,
         other_breaks,
         other_coefficients,
+    };
+    let answered = query::evaluate_all(
+        &lent,
         xs,
         order,
         q,
@@ -129,9 +135,9 @@ pub extern "C" fn pamitoye_evaluate_formed<'a>(
     clamp: bool,
     segments: usize,
     other_segments: usize,
-    breaks: &[f64],
+    breaks: &'a [f64],
     coefficients: &'a [f64],
-    other_breaks: &[f64],
+    other_breaks: &'a [f64],
     other_coefficients: &'a [f64],
     x: f64,
     order: usize,
@@ -151,12 +157,15 @@ pub extern "C" fn pamitoye_evaluate_formed<'a>(
         other_breaks.now other_coefficients.now) x order (outputs q.old dq.old
         ddq.old dddq.old)).after }
 {
-    let answered = query::evaluate_formed(
-        curves::curve(d, k, axes, start, end, clamp, segments, other_segments),
+    let lent = Lent {
+        curve: curves::curve(d, k, axes, start, end, clamp, segments, other_segments),
         breaks,
         coefficients,
         other_breaks,
         other_coefficients,
+    };
+    let answered = query::evaluate_formed(
+        &lent,
         x,
         order,
         q,
@@ -179,9 +188,9 @@ pub extern "C" fn pamitoye_evaluate_near<'a>(
     clamp: bool,
     segments: usize,
     other_segments: usize,
-    breaks: &[f64],
+    breaks: &'a [f64],
     coefficients: &'a [f64],
-    other_breaks: &[f64],
+    other_breaks: &'a [f64],
     other_coefficients: &'a [f64],
     x: f64,
     order: usize,
@@ -207,12 +216,15 @@ pub extern "C" fn pamitoye_evaluate_near<'a>(
         × (other_span.new ≡ kept_of result (passed_curve d k axes.now start end clamp segments other_segments)
         other_breaks.now x other_span.old) }
 {
-    let found = query::evaluate_near(
-        curves::curve(d, k, axes, start, end, clamp, segments, other_segments),
+    let lent = Lent {
+        curve: curves::curve(d, k, axes, start, end, clamp, segments, other_segments),
         breaks,
         coefficients,
         other_breaks,
         other_coefficients,
+    };
+    let found = query::evaluate_near(
+        &lent,
         *span,
         *other_span,
         x,
@@ -240,9 +252,9 @@ pub extern "C" fn pamitoye_evaluate_all_formed<'a>(
     clamp: bool,
     segments: usize,
     other_segments: usize,
-    breaks: &[f64],
+    breaks: &'a [f64],
     coefficients: &'a [f64],
-    other_breaks: &[f64],
+    other_breaks: &'a [f64],
     other_coefficients: &'a [f64],
     xs: &[f64],
     order: usize,
@@ -266,12 +278,15 @@ pub extern "C" fn pamitoye_evaluate_all_formed<'a>(
         other_breaks.now other_coefficients.now) xs.now order (outputs q.old
         dq.old ddq.old dddq.old)).place refused_at.old }
 {
-    let answered = query::evaluate_all_formed(
-        curves::curve(d, k, axes, start, end, clamp, segments, other_segments),
+    let lent = Lent {
+        curve: curves::curve(d, k, axes, start, end, clamp, segments, other_segments),
         breaks,
         coefficients,
         other_breaks,
         other_coefficients,
+    };
+    let answered = query::evaluate_all_formed(
+        &lent,
         xs,
         order,
         q,

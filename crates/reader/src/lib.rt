@@ -3,53 +3,30 @@
 #![tactic(auto)]
 
 ghost use Rattle.std.specs.Prelude.{◌≡◌, IfOk};
-ghost use Rattle.curve.specs.Form.{slices};
+ghost use Rattle.query.specs.Lent.{slices_of};
 ghost use Rattle.query.specs.Row.{outputs};
 ghost use Rattle.query.specs.Query.{outcome, evaluate_of, number_of, refused_place, span_at};
-ghost use Rattle.reader.specs.Reading.{made, Knows, lent, asked};
+ghost use Rattle.reader.specs.Reading.{made, Knows, asked};
 
-use curve::{Curve, form};
-use query::{Refusal, Spans, evaluate_near};
+use query::{Lent, Refusal, Spans, evaluate_near};
 
 // The curve with its four slices, which are lent; whether it is well formed; and the segments of the
 // selected and of the other set that are tried first.
 #[derive(Clone, Copy)]
 pub struct Reader<'a> {
-    pub curve: Curve,
-    pub breaks: &'a [f64],
-    pub coefficients: &'a [f64],
-    pub other_breaks: &'a [f64],
-    pub other_coefficients: &'a [f64],
+    pub lent: Lent<'a>,
     pub formed: bool,
     pub span: usize,
     pub other_span: usize,
 }
 
 // A reader of a curve. The curve is tested here, and never again.
-pub fn new<'a>(
-    curve: Curve,
-    breaks: &'a [f64],
-    coefficients: &'a [f64],
-    other_breaks: &'a [f64],
-    other_coefficients: &'a [f64],
-) -> Reader<'a>
-    ensures { result ≡ made curve breaks.entry coefficients.entry other_breaks.entry
-        other_coefficients.entry }
+pub fn new<'a>(lent: Lent<'a>) -> Reader<'a>
+    ensures { result ≡ made lent.entry }
 {
-    let formed = form::well_formed(
-        curve,
-        breaks,
-        coefficients,
-        other_breaks,
-        other_coefficients,
-    );
     Reader {
-        curve,
-        breaks,
-        coefficients,
-        other_breaks,
-        other_coefficients,
-        formed,
+        lent,
+        formed: lent.well_formed(),
         span: 0,
         other_span: 0,
     }
@@ -69,7 +46,7 @@ pub fn ask<'s, 'a>(
 ) -> Result<(), Refusal>
     requires { Knows reader.old }
     ensures answer { outcome (number_of result) (refused_place result) (outputs q.new dq.new ddq.new dddq.new)
-        ≡ evaluate_of reader.old.curve (lent reader.old) x order (outputs q.old dq.old
+        ≡ evaluate_of reader.old.lent.curve (slices_of reader.old.lent) x order (outputs q.old dq.old
         ddq.old dddq.old) }
     ensures after { reader.new ≡ asked reader.old (number_of result) x }
 {
@@ -77,11 +54,7 @@ pub fn ask<'s, 'a>(
         return Err(Refusal::Malformed);
     }
     let found = evaluate_near(
-        reader.curve,
-        reader.breaks,
-        reader.coefficients,
-        reader.other_breaks,
-        reader.other_coefficients,
+        &reader.lent,
         reader.span,
         reader.other_span,
         x,
@@ -99,11 +72,7 @@ pub fn ask<'s, 'a>(
 // One question to a reader of this curve that keeps these two segments, and the segments that it keeps
 // afterwards, if it answers: for callers that can't hold a reader. The curve is tested at each call.
 pub fn ask_from<'a>(
-    curve: Curve,
-    breaks: &'a [f64],
-    coefficients: &'a [f64],
-    other_breaks: &'a [f64],
-    other_coefficients: &'a [f64],
+    lent: Lent<'a>,
     span: usize,
     other_span: usize,
     x: f64,
@@ -114,18 +83,12 @@ pub fn ask_from<'a>(
     dddq: &mut [f64],
 ) -> Result<Spans, Refusal>
     ensures answer { outcome (number_of result) (refused_place result) (outputs q.new dq.new ddq.new dddq.new)
-        ≡ evaluate_of curve (slices breaks.now coefficients.now other_breaks.now
-        other_coefficients.now) x order (outputs q.old dq.old ddq.old
+        ≡ evaluate_of lent.entry.curve (slices_of lent.entry) x order (outputs q.old dq.old ddq.old
         dddq.old) }
-    ensures ok { IfOk result (λ at. (at.span ≡ span_at curve breaks.now x) × (at.other_span ≡ span_at curve other_breaks.now x)) }
+    ensures ok { IfOk result (λ at. (at.span ≡ span_at lent.entry.curve lent.entry.breaks.now x)
+        × (at.other_span ≡ span_at lent.entry.curve lent.entry.other_breaks.now x)) }
 {
-    let mut reader = new(
-        curve,
-        breaks,
-        coefficients,
-        other_breaks,
-        other_coefficients,
-    );
+    let mut reader = new(lent);
     reader.span = span;
     reader.other_span = other_span;
     ask(&mut reader, x, order, q, dq, ddq, dddq)?;

@@ -67,9 +67,9 @@ fn find_slices(d: usize, k: usize, n: usize, others: usize, queries: usize, coun
 // The four orders of one query.
 fn query<'a>(
     curve: Curve,
-    breaks: &[f64],
+    breaks: &'a [f64],
     coefficients: &'a [f64],
-    other_breaks: &[f64],
+    other_breaks: &'a [f64],
     other_coefficients: &'a [f64],
     x: f64,
     out: &mut [u8],
@@ -79,12 +79,15 @@ fn query<'a>(
     let mut dq = [0.0; 16];
     let mut ddq = [0.0; 16];
     let mut dddq = [0.0; 16];
-    let answer = query::evaluate(
+    let lent = Lent {
         curve,
         breaks,
         coefficients,
         other_breaks,
         other_coefficients,
+    };
+    let answer = query::evaluate(
+        &lent,
         x,
         3,
         &mut q,
@@ -105,9 +108,9 @@ fn query<'a>(
 // Each of the queries.
 fn queries<'a>(
     curve: Curve,
-    breaks: &[f64],
+    breaks: &'a [f64],
     coefficients: &'a [f64],
-    other_breaks: &[f64],
+    other_breaks: &'a [f64],
     other_coefficients: &'a [f64],
     xs: &[f64],
     out: &mut [u8],

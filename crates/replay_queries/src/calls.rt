@@ -9,7 +9,7 @@ ghost use Rattle.replay_queries.specs.Told.{marks, marked_outputs, refusal_text,
 
 use curve::Curve;
 use listing::output;
-use query::Refusal;
+use query::{Lent, Refusal};
 
 const MARK: f64 = -6.0221407623e-123;
 
@@ -76,9 +76,9 @@ pub fn cells(q: &[f64], dq: &[f64], ddq: &[f64], dddq: &[f64], out: &mut [u8], a
 // One query.
 pub fn single<'a>(
     curve: Curve,
-    breaks: &[f64],
+    breaks: &'a [f64],
     coefficients: &'a [f64],
-    other_breaks: &[f64],
+    other_breaks: &'a [f64],
     other_coefficients: &'a [f64],
     x: f64,
     order: usize,
@@ -94,12 +94,15 @@ pub fn single<'a>(
         (marked_outputs (length q.old) (length dq.old) (length ddq.old) (length dddq.old)))) }
 {
     mark_all(q, dq, ddq, dddq);
-    let answer = query::evaluate(
+    let lent = Lent {
         curve,
         breaks,
         coefficients,
         other_breaks,
         other_coefficients,
+    };
+    let answer = query::evaluate(
+        &lent,
         x,
         order,
         q,
@@ -114,9 +117,9 @@ pub fn single<'a>(
 // Many in one call.
 pub fn all<'a>(
     curve: Curve,
-    breaks: &[f64],
+    breaks: &'a [f64],
     coefficients: &'a [f64],
-    other_breaks: &[f64],
+    other_breaks: &'a [f64],
     other_coefficients: &'a [f64],
     xs: &[f64],
     order: usize,
@@ -133,12 +136,15 @@ pub fn all<'a>(
         (length dddq.old)))) }
 {
     mark_all(q, dq, ddq, dddq);
-    let answers = query::evaluate_all(
+    let lent = Lent {
         curve,
         breaks,
         coefficients,
         other_breaks,
         other_coefficients,
+    };
+    let answers = query::evaluate_all(
+        &lent,
         xs,
         order,
         q,

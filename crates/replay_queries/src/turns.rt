@@ -11,6 +11,7 @@ ghost use Rattle.replay_queries.specs.Told.{marked_outputs, told_text, turns_tex
 use crate::calls;
 use curve::Curve;
 use listing::axes;
+use query::Lent;
 
 // Where the next byte goes, and the segments that are tried next.
 #[derive(Clone, Copy)]
@@ -41,12 +42,15 @@ fn next<'a>(
         (marked_outputs (length q.old) (length dq.old) (length ddq.old) (length dddq.old)))) }
 {
     calls::mark_all(q, dq, ddq, dddq);
-    let found = reader::ask_from(
+    let lent = Lent {
         curve,
         breaks,
         coefficients,
         other_breaks,
         other_coefficients,
+    };
+    let found = reader::ask_from(
+        lent,
         kept.span,
         kept.other_span,
         x,
