@@ -13,11 +13,12 @@ use Rattle.window.proofs.Filling.{write_more}
 use native.Mathlib.Decide.{dec_lt}
 use Rattle.window.specs.Window.{window}
 use lib.Dec.{T}
-use lib.Ieee.{nan, binary64, of_bits, nan_bits}
+use lib.Ieee.{nan, binary64, of_bits, to_bits, nan_bits}
+use Rattle.std.specs.Int.{w64, from_le_bytes}
 use lib.Ieee.Bits.{nan_bits_is, nan_bits_above}
 use borrow.Author.Tests.{lt-ltb, le-ltb}
 use Rattle.arith.proofs.Nan.{is_nan_law}
-use Rattle.encoding.specs.Bytes.{low_first, each_of, Filled}
+use Rattle.encoding.specs.Bytes.{low_first, each_of}
 
 -- one byte more, in front of the others
 pub low_first_more : (l : List ℕ) (i : ℕ) → i < length l → low_first (drop i l) ≡ 256 * low_first (drop (i + 1) l) + get_or l i 0
@@ -74,30 +75,36 @@ module _ {A : Type 0} (value : List ℕ → A) where
             rw e (get_or_at (each_of value n bytes) x [] z n m)
       ]
 
--- cells that are filled one after the other
-module _ {A : Type 0} (value : List ℕ → A) (bytes : List ℕ) (before : List A) where
-  pub filled_none : Filled value bytes before 0 before
-  unfolding each_of
-  filled_none = record { within = omega arith; now = refl }
+  -- one cell more is filled
+  pub each_next : (i : ℕ) (bytes : List ℕ) (before : List A) → i < length before
+      → set (each_of value i bytes ++ drop i before) i (value (window (8 * i) (8 * i + 8) bytes))
+      ≡ each_of value (i + 1) bytes ++ drop (i + 1) before
+  each_next i bytes before h =
+      write_more (each_of value i bytes) before i (value (window (8 * i) (8 * i + 8) bytes)) (length_each i bytes) h
+      ∙ rw (each_more i bytes)
 
-  module _ (i : ℕ) (after : List A) (f : Filled value bytes before i after) where
-    pub filled_length : length after ≡ length before
-    filled_length =
-        ap length f.now ∙ length-append (each_of value i bytes) (drop i before)
-        ∙ omega (arith, length_each value i bytes, length-drop i before, f.within)
+  -- all are
+  pub each_all : (n i : ℕ) (bytes : List ℕ) (before after : List A) → n ≡ length before → i ≡ n
+      → after ≡ each_of value i bytes ++ drop i before → after ≡ each_of value n bytes
+  each_all n i bytes before after e h g =
+      g ∙ rw (h, e, drop-length) (append-nil _)
 
-    pub filled_next : (j : ℕ) (after' : List A) → j ≡ i + 1 → i < length before
-        → after' ≡ set after i (value (window (8 * i) (8 * i + 8) bytes)) → Filled value bytes before j after'
-    filled_next j after' e h g = record {
-      within = omega (arith, e);
-      now =
-          g ∙ ap (λ (l : List A). set l i (value (window (8 * i) (8 * i + 8) bytes))) f.now
-          ∙ write_more (each_of value i bytes) before i (value (window (8 * i) (8 * i + 8) bytes)) (length_each value i bytes) h
-          ∙ rw (e, each_more value i bytes);
-    }
+-- the patterns of the NaN that the language's 0 / 0 is
+pub nan_is : of_bits binary64 0x7ff8_0000_0000_0000 ≡ nan
+unfolding of_bits
+nan_is = refl
 
-    pub filled_all : i ≡ length before → after ≡ each_of value (length before) bytes
-    filled_all e = f.now ∙ rw (e, drop-length) (append-nil _)
+pub nan_bits_are : 0x7ff8_0000_0000_0000 ≡ to_bits binary64 nan
+unfolding to_bits
+nan_bits_are = refl
+
+-- the number of eight bytes, as the language reads it
+pub eight_bytes : (l : List ℕ) → length l ≡ 8
+    → from_le_bytes w64 (get_or l 0 0 ∷ get_or l 1 0 ∷ get_or l 2 0 ∷ get_or l 3 0 ∷ get_or l 4 0 ∷ get_or l 5 0 ∷ get_or l 6 0 ∷ get_or l 7 0 ∷ [])
+    ≡ low_first l
+unfolding low_first
+eight_bytes (a ∷ (b ∷ (c ∷ (d ∷ (e ∷ (f ∷ (g ∷ (h ∷ [])))))))) k = omega arith
+eight_bytes _ k = absurd (omega arith)
 
 -- a pattern whose low 63 bits are above those of infinity is a NaN's
 pub nan_pattern : (n : ℕ) → 0x7ff0_0000_0000_0000 < n % 0x8000_0000_0000_0000 → of_bits binary64 n ≡ nan

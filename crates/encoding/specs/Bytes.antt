@@ -1,5 +1,5 @@
 -- Numbers of bytes, low byte first, as document 01 has them in a job.
-use Rattle.std.specs.Prelude.{◌≡◌, ℕ, zero, suc, ◌+◌, ◌*◌, ◌≤◌, List, [], ◌∷◌, ◌++◌, length, drop, Float}
+use Rattle.std.specs.Prelude.{ℕ, zero, suc, ◌+◌, ◌*◌, List, [], ◌∷◌, ◌++◌, Float}
 use Rattle.std.specs.Float.{binary64}
 use Rattle.std.specs.Float.Ieee.{of_bits}
 use Rattle.window.specs.Window.{window}
@@ -24,8 +24,3 @@ wholes_of n bytes = each_of low_first n bytes
 
 abbrev pub floats_of : ℕ → List ℕ → List Float
 floats_of n bytes = each_of float_of n bytes
-
--- the first i cells are the first i values, the others as they were
-pub record Filled {A : Type 0} (value : List ℕ → A) (bytes : List ℕ) (before : List A) (i : ℕ) (after : List A) : Type 0 where
-  pub within : i ≤ length before
-  pub now : after ≡ each_of value i bytes ++ drop i before

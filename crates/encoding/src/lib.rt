@@ -2,12 +2,13 @@
 // and an f64 as 16 upper-case hex digits.
 #![tactic(auto)]
 
-ghost use Rattle.std.specs.Prelude.{◌≡◌, ◌+◌, ◌*◌, ◌≤◌, ◌<◌, [], length, take, set};
+ghost use Rattle.std.specs.Prelude.{◌≡◌, ◌+◌, ◌*◌, ◌≤◌, ◌<◌, List, ℕ, [], length, take};
 ghost use Rattle.std.specs.Float.{binary64};
 ghost use Rattle.std.specs.Float.Ieee.{of_bits, to_bits};
-ghost use Rattle.window.specs.Window.{window};
-ghost use Rattle.encoding.specs.Bytes.{low_first, wholes_of, float_of, floats_of, Filled};
+ghost use Rattle.encoding.specs.Bytes.{low_first, wholes_of, float_of, floats_of};
 ghost use Rattle.encoding.specs.Text.{digit_of, hex_digits, float_text};
+
+use std::marker::Model;
 
 // The whole number of at most eight bytes, low byte first.
 pub fn whole(bytes: &[u8]) -> u64
@@ -15,39 +16,20 @@ pub fn whole(bytes: &[u8]) -> u64
     ensures { result ≡ low_first bytes.now }
 {
     let mut value: u64 = 0;
-    let mut i = bytes.len();
-    while 0 < i {
-        i -= 1;
+    for i in (0..bytes.len()).rev() {
         value = 256 * value + bytes[i] as u64;
     }
     value
 }
 
-// The whole number i, of eight bytes, into its cell.
-fn put_whole(bytes: &[u8], cells: &mut [u64], i: usize)
-    requires { (8 * i + 8 ≤ length bytes.now) × (i < length cells.old) }
-    ensures { cells.new ≡ set cells.old i (low_first (window (8 * i) (8 * i + 8) bytes.now)) }
+// The whole number of eight bytes: one load.
+fn eight(bytes: &[u8]) -> u64
+    requires { length bytes.now ≡ 8 }
+    ensures { result ≡ low_first bytes.now }
 {
-    let from = 8 * i;
-    let to = from + 8;
-    cells[i] = whole(&bytes[from..to]);
-}
-
-// As many fours of whole numbers as `cells` has places for; how many numbers. Four to a turn take half the
-// time of one.
-fn put_fours(bytes: &[u8], cells: &mut [u64]) -> usize
-    requires { 8 * length cells.old ≤ length bytes.now }
-    ensures { Filled low_first bytes.now cells.old result cells.new }
-{
-    let mut i = 0;
-    while i + 4 <= cells.len() {
-        put_whole(bytes, cells, i);
-        put_whole(bytes, cells, i + 1);
-        put_whole(bytes, cells, i + 2);
-        put_whole(bytes, cells, i + 3);
-        i += 4;
-    }
-    i
+    u64::from_le_bytes([
+        bytes[0], bytes[1], bytes[2], bytes[3], bytes[4], bytes[5], bytes[6], bytes[7],
+    ])
 }
 
 // As many whole numbers as `cells` has places, from eight bytes each.
@@ -55,10 +37,8 @@ pub fn wholes(bytes: &[u8], cells: &mut [u64])
     requires { 8 * length cells.old ≤ length bytes.now }
     ensures { cells.new ≡ wholes_of (length cells.old) bytes.now }
 {
-    let mut i = put_fours(bytes, cells);
-    while i < cells.len() {
-        put_whole(bytes, cells, i);
-        i += 1;
+    for i in 0..cells.len() {
+        cells[i] = eight(&bytes[8 * i..8 * i + 8]);
     }
 }
 
@@ -70,7 +50,7 @@ pub fn number(bits: u64) -> f64
     ensures { result ≡ of_bits binary64 bits }
 {
     if bits % 0x8000_0000_0000_0000 > INFINITY {
-        return 0.0 / 0.0;
+        return f64::NAN;
     }
     f64::from_bits(bits)
 }
@@ -80,10 +60,10 @@ pub fn number(bits: u64) -> f64
 pub fn pattern(x: f64) -> u64
     ensures { result ≡ to_bits binary64 x }
 {
-    if x != x {
+    if x.is_nan() {
         return 0x7ff8_0000_0000_0000;
     }
-    f64::to_bits(x)
+    x.to_bits()
 }
 
 // The f64 of eight bytes, low byte first; any NaN's pattern gives a NaN.
@@ -99,19 +79,34 @@ pub fn floats(bytes: &[u8], cells: &mut [f64])
     requires { 8 * length cells.old ≤ length bytes.now }
     ensures { cells.new ≡ floats_of (length cells.old) bytes.now }
 {
-    let mut i = 0;
-    while i < cells.len() {
+    for i in 0..cells.len() {
         let start = 8 * i;
-        let end = start + 8;
-        cells[i] = float(&bytes[start..end]);
-        i += 1;
+        cells[i] = float(&bytes[start..start + 8]);
     }
 }
 
-#[derive(Clone, Copy)]
+// At most 16 bytes of text.
+#[derive(Drop)]
 pub struct Text {
-    pub bytes: [u8; 16],
-    pub len: usize,
+    bytes: [u8; 16],
+    len: usize,
+}
+
+impl Model for Text {
+    ghost Value = { List ℕ };
+
+    ghost view = { λ t. take t.len t.bytes };
+
+    ghost invariant = { λ t. t.len ≤ 16 };
+}
+
+impl Text {
+    pub fn as_bytes(&self) -> &[u8]
+        ensures value { result.now ≡ self.now }
+        ensures len { length result.now ≤ 16 }
+    {
+        &self.bytes[0..self.len]
+    }
 }
 
 // The upper-case hex digit of a number below 16.
@@ -119,34 +114,33 @@ fn digit(n: u64) -> u8
     requires { n < 16 }
     ensures { result ≡ digit_of n }
 {
-    if n < 10 { 48 + n as u8 } else { 55 + n as u8 }
+    if n < 10 { b'0' + n as u8 } else { 55 + n as u8 }
 }
 
 // 64 bits as 16 upper-case hex digits.
-fn digits(bits: u64) -> Text
-    ensures { (result.len ≡ 16) × (result.bytes ≡ hex_digits 16 bits []) }
+fn digits(bits: u64) -> [u8; 16]
+    ensures { result ≡ hex_digits 16 bits [] }
 {
     let mut bytes = [0u8; 16];
     let mut rest = bits;
-    let mut i = 16;
-    while 0 < i {
-        i -= 1;
+    for i in (0..16).rev() {
         bytes[i] = digit(rest % 16);
         rest /= 16;
     }
-    Text { bytes, len: 16 }
+    bytes
 }
 
 // The bits of x as 16 upper-case hex digits, or `NaN`.
 pub fn hex(x: f64) -> Text
-    ensures { (result.len ≤ 16) × (take result.len result.bytes ≡ float_text x) }
+    ensures { result ≡ float_text x }
 {
-    if x != x {
+    if x.is_nan() {
         let mut bytes = [0u8; 16];
-        bytes[0] = b'N';
-        bytes[1] = b'a';
-        bytes[2] = b'N';
+        bytes[0..3].copy_from_slice(b"NaN");
         return Text { bytes, len: 3 };
     }
-    digits(f64::to_bits(x))
+    Text {
+        bytes: digits(x.to_bits()),
+        len: 16,
+    }
 }

@@ -9,9 +9,11 @@ use lib.Dec.{ltb, leb, eqb}
 use lib.ListN.{length, drop, get_or, length-drop, drop_of_length-le}
 use lib.Seq.{drop-cons, drop-drop, drop-length}
 use borrow.Author.Tests.{lt-ltb, le-ltb, eq-eqb, leb-true, leb-false}
+use Rattle.std.specs.Prelude.{None}
+use Rattle.std.proofs.lemmas.Option.{same_Some}
+use Rattle.forms.specs.declared.Number.{Number}
 use Rattle.forms.specs.Read.{Read, got, bad, after}
-use Rattle.forms.specs.Groups.{read_groups, found, number_at}
-use Rattle.forms.specs.declared.Found.TheVariants.{Number, Nothing}
+use Rattle.forms.specs.Groups.{read_groups, number_to, found, number_at}
 use Rattle.forms.proofs.OneSpelling.{above, above_is}
 use Rattle.forms.proofs.Exact.{not_got, Stepped, stepped, step}
 
@@ -37,8 +39,8 @@ module _ (l : List ℕ) (at : ℕ) where
   more k h g = ap (read_groups (suc k)) (front h) ∙ rw (le-ltb (get_or l at 0) 128 g)
 
   -- where it stands
-  pub placed : (v : ℕ) → at ≤ length l → found (length l) (got v (drop at l)) ≡ Number v at
-  placed v h = ap (Number v) (rw (length-drop at l) (omega arith))
+  pub placed : (v : ℕ) → at ≤ length l → found (length l) (got v (drop at l)) ≡ number_to v at
+  placed v h = ap (number_to v) (rw (length-drop at l) (omega arith))
 
 above_zero : (b : ℕ) (rest : List ℕ) (h : ℕ) → h ≡ 0 → above b h rest ≡ bad
 above_zero b rest h e = rw (eq-eqb h 0 e)
@@ -54,22 +56,22 @@ module _ (l : List ℕ) (at : ℕ) where
   d = get_or l (at + 1 + 1) 0
 
   -- the answers of the code, in its order
-  pub answer1 : length l ≤ at → Nothing ≡ number_at l at
+  pub answer1 : length l ≤ at → None ≡ number_at l at
   answer1 h = ap (found (length l)) (sym (ended l at 3 h))
 
-  pub answer2 : at < length l → a < 128 → Number a (at + 1) ≡ number_at l at
+  pub answer2 : at < length l → a < 128 → number_to a (at + 1) ≡ number_at l at
   answer2 h g = sym (placed l (at + 1) a (omega arith)) ∙ ap (found (length l)) (sym (last l at 2 h g))
 
   two : at < length l → 128 ≤ a → (r : Read ℕ) → read_groups 2 (drop (at + 1) l) ≡ r → found (length l) (after r (above a)) ≡ number_at l at
   two h g r e = ap (found (length l)) (ap (λ (r : Read ℕ). after r (above a)) (sym e) ∙ sym (more l at 2 h g))
 
-  pub answer3 : at < length l → 128 ≤ a → length l ≤ at + 1 → Nothing ≡ number_at l at
+  pub answer3 : at < length l → 128 ≤ a → length l ≤ at + 1 → None ≡ number_at l at
   answer3 h g f = two h g bad (ended l (at + 1) 2 f)
 
-  pub answer4 : at + 1 < length l → 128 ≤ a → b < 128 → b ≡ 0 → Nothing ≡ number_at l at
+  pub answer4 : at + 1 < length l → 128 ≤ a → b < 128 → b ≡ 0 → None ≡ number_at l at
   answer4 h g f z = ap (found (length l)) (sym (above_zero a (drop (at + 1 + 1) l) b z)) ∙ two (omega arith) g _ (last l (at + 1) 1 h f)
 
-  pub answer5 : at + 1 < length l → 128 ≤ a → b < 128 → 1 ≤ b → Number (a - 128 + 128 * b) (at + 1 + 1) ≡ number_at l at
+  pub answer5 : at + 1 < length l → 128 ≤ a → b < 128 → 1 ≤ b → number_to (a - 128 + 128 * b) (at + 1 + 1) ≡ number_at l at
   answer5 h g f z =
       sym (placed l (at + 1 + 1) (a - 128 + 128 * b) (omega arith)) ∙ ap (found (length l)) (sym (above_is a b (drop (at + 1 + 1) l) z))
       ∙ two (omega arith) g _ (last l (at + 1) 1 h f)
@@ -78,15 +80,15 @@ module _ (l : List ℕ) (at : ℕ) where
       → found (length l) (after (after r (above b)) (above a)) ≡ number_at l at
   three h g f r e = two (omega arith) g (after r (above b)) (more l (at + 1) 1 h f ∙ ap (λ (r : Read ℕ). after r (above b)) e)
 
-  pub answer6 : at + 1 < length l → 128 ≤ a → 128 ≤ b → length l ≤ at + 1 + 1 → Nothing ≡ number_at l at
+  pub answer6 : at + 1 < length l → 128 ≤ a → 128 ≤ b → length l ≤ at + 1 + 1 → None ≡ number_at l at
   answer6 h g f e = three h g f bad (ended l (at + 1 + 1) 1 e)
 
-  pub answer7 : at + 1 + 1 < length l → 128 ≤ a → 128 ≤ b → d < 128 → d ≡ 0 → Nothing ≡ number_at l at
+  pub answer7 : at + 1 + 1 < length l → 128 ≤ a → 128 ≤ b → d < 128 → d ≡ 0 → None ≡ number_at l at
   answer7 h g f e z =
       ap (λ (r : Read ℕ). found (length l) (after r (above a))) (sym (above_zero b (drop (at + 1 + 1 + 1) l) d z))
       ∙ three (omega arith) g f (got d (drop (at + 1 + 1 + 1) l)) (last l (at + 1 + 1) 0 h e)
 
-  pub answer8 : at + 1 + 1 < length l → 128 ≤ a → 128 ≤ b → d < 128 → 1 ≤ d → Number (a - 128 + 128 * (b - 128 + 128 * d)) (at + 1 + 1 + 1)
+  pub answer8 : at + 1 + 1 < length l → 128 ≤ a → 128 ≤ b → d < 128 → 1 ≤ d → number_to (a - 128 + 128 * (b - 128 + 128 * d)) (at + 1 + 1 + 1)
       ≡ number_at l at
   answer8 h g f e z =
       let rest = drop (at + 1 + 1 + 1) l in
@@ -95,7 +97,7 @@ module _ (l : List ℕ) (at : ℕ) where
       ∙ ap (λ (r : Read ℕ). found (length l) (after r (above a))) (sym (above_is b d rest z))
       ∙ three (omega arith) g f (got d rest) (last l (at + 1 + 1) 0 h e)
 
-  pub answer9 : at + 1 + 1 < length l → 128 ≤ a → 128 ≤ b → 128 ≤ d → Nothing ≡ number_at l at
+  pub answer9 : at + 1 + 1 < length l → 128 ≤ a → 128 ≤ b → 128 ≤ d → None ≡ number_at l at
   unfolding read_groups
   answer9 h g f e = three (omega arith) g f bad (more l (at + 1 + 1) 0 h e)
 
@@ -137,23 +139,24 @@ groups_end (suc k) (b ∷ m) v rest e = go (ltb b 128) e (λ h r f. groups_end k
     go false f ih = more_groups (step (read_groups k m) (above b) v rest f) ih
 
 module _ (l : List ℕ) (at : ℕ) where
-  pub number_read : (v next : ℕ) → Number v next ≡ number_at l at
+  pub number_read : (v next : ℕ) → number_to v next ≡ number_at l at
       → (read_groups 3 (drop at l) ≡ got v (drop next l)) × (next ≤ length l)
   number_read v next e = go (read_groups 3 (drop at l)) refl e
     where
-      go : (o : Read ℕ) → read_groups 3 (drop at l) ≡ o → Number v next ≡ found (length l) o → (o ≡ got v (drop next l)) × (next ≤ length l)
+      go : (o : Read ℕ) → read_groups 3 (drop at l) ≡ o → number_to v next ≡ found (length l) o → (o ≡ got v (drop next l)) × (next ≤ length l)
       go bad r f = absurd (let z : ◌≡◌ {A = ℕ} 0 1 = cc in omega arith)
       go (got w rest) r f =
-          let x : w ≡ v = cc in
-          let y : length l - length rest ≡ next = cc in
+          let same = same_Some _ _ f in
+          let x : w ≡ v = sym (ap (λ (n : Number). n.value) same) in
+          let y : length l - length rest ≡ next = sym (ap (λ (n : Number). n.next) same) in
           let j = groups_end 3 (drop at l) w rest r in
           let i : rest ≡ drop (at + j.0) l = j.1 ∙ drop-drop j.0 at l in
           let n : drop next l ≡ rest = rw (← y, i) (from_length (at + j.0) l) in
           (rw (x, n), omega arith)
 
-  pub number_bad : Nothing ≡ number_at l at → read_groups 3 (drop at l) ≡ bad
+  pub number_bad : None ≡ number_at l at → read_groups 3 (drop at l) ≡ bad
   number_bad e = go (read_groups 3 (drop at l)) e
     where
-      go : (o : Read ℕ) → Nothing ≡ found (length l) o → o ≡ bad
+      go : (o : Read ℕ) → None ≡ found (length l) o → o ≡ bad
       go bad f = refl
       go (got w rest) f = absurd (let z : ◌≡◌ {A = ℕ} 0 1 = cc in omega arith)

@@ -2,9 +2,11 @@
 use mathlib.Core.Path.{◌≡◌, refl, sym, ap, ◌∙◌}
 use mathlib.Core.Bool.{Bool, true, false, cond}
 use mathlib.Core.List.{List, [], ◌∷◌, ◌++◌, append-nil, append_assoc}
-use Prim.Native.Nat.{ℕ, zero, suc, ◌+◌, ◌*◌, ◌-◌, ◌/◌, ◌%◌, ◌≤◌, ◌<◌}
+use Prim.Native.Nat.{ℕ, zero, suc, ◌+◌, ◌*◌, ◌-◌, ◌/◌, ◌%◌, ◌^◌, ◌≤◌, ◌<◌}
 use native.Mathlib.Omega.{arith}
 use native.Mathlib.Numerals.{add-one}
+use borrow.Rule.Slice.PartMut.{put_mid}
+use Rattle.std.specs.Int.{w64, to_le_bytes}
 use lib.Dec.{ltb}
 use lib.ListN.{length, drop, set, get_or, length-append, drop_of_length-le}
 use lib.Seq.{drop-cons}
@@ -47,34 +49,25 @@ module _ (l : List ℕ) (p a b : ℕ) where
   pub three_bytes : (d : ℕ) → p + 2 < length l → set (set (set l p a) (p + 1) b) (p + 2) d ≡ written p (a ∷ b ∷ d ∷ []) l
   three_bytes d h = ap (λ (t : List ℕ). set t (p + 2) d) (two_bytes (omega arith)) ∙ set_next p (a ∷ b ∷ []) l d h
 
--- ---- eight bytes
--- one byte, in front of what follows it
-one_more : (l u : List ℕ) (p b : ℕ) → p < length l → written (p + 1) u (set l p b) ≡ written p (b ∷ u) l
-one_more l u p b h = ap (written (p + 1) u) (set_written l p b h) ∙ written_next p (b ∷ []) l u (omega arith)
-
--- the rest of a number's bytes, put from place at + i on, gives the whole
-abbrev pub Rest : List ℕ → ℕ → ℕ → List ℕ → ℕ → ℕ → Type 0
-Rest file₀ at bits file rest i = written (at + i) (low_bytes (8 - i) rest) file ≡ written at (low_bytes 8 bits) file₀
-
-pub rest_first : (file : List ℕ) (at bits : ℕ) → Rest file at bits file bits 0
-rest_first file at bits = ap (λ (n : ℕ). written n (low_bytes 8 bits) file) {x = at + 0} {y = at} (omega arith)
-
-module _ (file₀ : List ℕ) (at bits : ℕ) (file : List ℕ) (rest i : ℕ) where
-  pub rest_next : i < 8 → at + i < length file → Rest file₀ at bits file rest i
-      → Rest file₀ at bits (set file (at + i) (rest % 256)) (rest / 256) (i + 1)
+-- ---- eight bytes, as the language has them
+module _ (n : ℕ) where
+  pub word_bytes : to_le_bytes w64 n ≡ low_bytes 8 n
   unfolding low_bytes
-  rest_next h g e =
-      let n : 8 - i ≡ suc (8 - (i + 1)) = omega arith in
-      let m : at + (i + 1) ≡ at + i + 1 = omega arith in
-      ap (λ (m : ℕ). written m (low_bytes (8 - (i + 1)) (rest / 256)) (set file (at + i) (rest % 256))) m
-      ∙ one_more file (low_bytes (8 - (i + 1)) (rest / 256)) (at + i) (rest % 256) g
-      ∙ ap (λ (k : ℕ). written (at + i) (low_bytes k rest) file) (sym n) ∙ e
+  word_bytes =
+      let a : n / 256 ^ 1 ≡ n / 256 = omega arith in
+      let b : n / 256 ^ 2 ≡ n / 256 / 256 = omega arith in
+      let c : n / 256 ^ 3 ≡ n / 256 / 256 / 256 = omega arith in
+      let d : n / 256 ^ 4 ≡ n / 256 / 256 / 256 / 256 = omega arith in
+      let e : n / 256 ^ 5 ≡ n / 256 / 256 / 256 / 256 / 256 = omega arith in
+      let f : n / 256 ^ 6 ≡ n / 256 / 256 / 256 / 256 / 256 / 256 = omega arith in
+      let g : n / 256 ^ 7 ≡ n / 256 / 256 / 256 / 256 / 256 / 256 / 256 = omega arith in
+      λ i. n % 256 ∷ a i % 256 ∷ b i % 256 ∷ c i % 256 ∷ d i % 256 ∷ e i % 256 ∷ f i % 256 ∷ g i % 256 ∷ []
 
-  pub rest_last : i ≡ 8 → Rest file₀ at bits file rest i → file ≡ written at (low_bytes 8 bits) file₀
-  unfolding low_bytes
-  rest_last h e =
-      let z : 8 - i ≡ 0 = omega arith in
-      sym (ap (λ (k : ℕ). written (at + i) (low_bytes k rest) file) z ∙ written_none (at + i) file) ∙ e
+  pub put_bytes : (l v : List ℕ) (at m : ℕ) → m ≡ 8 → v ≡ to_le_bytes w64 n → put_mid at m l v ≡ written at (low_bytes 8 n) l
+  put_bytes l v at m h e =
+      let k : at + length (low_bytes 8 n) - at ≡ m = omega (arith, length_low 8 n) in
+      let w : v ≡ low_bytes 8 n = e ∙ word_bytes in
+      rw (w, k)
 
 -- ---- many numbers
 pub length_words : (l : List ℕ) → length (write_all (bytes 8) l) ≡ 8 * length l

@@ -46,13 +46,7 @@ pub fn put_word(file: &mut [u8], at: usize, bits: u64)
     requires { at + 8 ≤ length file.old }
     ensures { file.new ≡ written at (low_bytes 8 bits) file.old }
 {
-    let mut rest = bits;
-    let mut i = 0;
-    while i < 8 {
-        file[at + i] = (rest % 256) as u8;
-        rest /= 256;
-        i += 1;
-    }
+    file[at..at + 8].copy_from_slice(&bits.to_le_bytes());
 }
 
 // The patterns in the cells, eight bytes each.
@@ -60,10 +54,8 @@ pub fn put_words(file: &mut [u8], at: usize, cells: &[u64])
     requires { at + 8 * length cells.now ≤ length file.old }
     ensures { file.new ≡ written at (write_all (bytes 8) cells.now) file.old }
 {
-    let mut i = 0;
-    while i < cells.len() {
-        put_word(file, at + 8 * i, cells[i]);
-        i += 1;
+    for (i, bits) in cells.iter().enumerate() {
+        put_word(file, at + 8 * i, *bits);
     }
 }
 
@@ -73,9 +65,7 @@ pub fn put_floats(file: &mut [u8], at: usize, cells: &[f64])
     ensures { file.new ≡ written at (write_all (bytes 8) (map (λ x. to_bits binary64 x) cells.now))
         file.old }
 {
-    let mut i = 0;
-    while i < cells.len() {
-        put_word(file, at + 8 * i, encoding::pattern(cells[i]));
-        i += 1;
+    for (i, x) in cells.iter().enumerate() {
+        put_word(file, at + 8 * i, encoding::pattern(*x));
     }
 }

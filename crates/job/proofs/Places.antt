@@ -15,8 +15,8 @@ use Rattle.smoothing.specs.Answer.{Answer, and_then}
 use Rattle.smoothing.specs.Answer.Answer.{done, refused}
 use Rattle.smoothing.proofs.Accepted.{refused_done, done_same, not_refused}
 use Rattle.forms.specs.Read.{Read, got, bad, after}
-use Rattle.forms.specs.Groups.{number_at}
-use Rattle.forms.specs.declared.Found.TheVariants.{Number, Nothing}
+use Rattle.forms.specs.Groups.{number_to, number_at}
+use Rattle.std.specs.Prelude.{None}
 use Rattle.forms.specs.Form.{bytes, read_bytes, read_all, no_rest, read_whole}
 use Rattle.forms.proofs.Exact.{Stepped, stepped, step, not_got, pair, many_count}
 use Rattle.forms.proofs.Places.{number_read, number_bad}
@@ -82,22 +82,22 @@ cells_are c l =
 
 -- ---- the four counts, as the code reads them
 module _ (l : List ℕ) where
-  pub unread1 : Nothing ≡ number_at l 0 → bad ≡ counts_form.read l
+  pub unread1 : None ≡ number_at l 0 → bad ≡ counts_form.read l
   unread1 p = rw (number_bad l 0 p)
 
-  module _ (d a : ℕ) (p : Number d a ≡ number_at l 0) where
-    pub unread2 : Nothing ≡ number_at l a → bad ≡ counts_form.read l
+  module _ (d a : ℕ) (p : number_to d a ≡ number_at l 0) where
+    pub unread2 : None ≡ number_at l a → bad ≡ counts_form.read l
     unread2 q = rw ((number_read l 0 d a p).0, number_bad l a q)
 
-    module _ (n b : ℕ) (q : Number n b ≡ number_at l a) where
-      pub unread3 : Nothing ≡ number_at l b → bad ≡ counts_form.read l
+    module _ (n b : ℕ) (q : number_to n b ≡ number_at l a) where
+      pub unread3 : None ≡ number_at l b → bad ≡ counts_form.read l
       unread3 u = rw ((number_read l 0 d a p).0, (number_read l a n b q).0, number_bad l b u)
 
-      module _ (r e : ℕ) (u : Number r e ≡ number_at l b) where
-        pub unread4 : Nothing ≡ number_at l e → bad ≡ counts_form.read l
+      module _ (r e : ℕ) (u : number_to r e ≡ number_at l b) where
+        pub unread4 : None ≡ number_at l e → bad ≡ counts_form.read l
         unread4 w = rw ((number_read l 0 d a p).0, (number_read l a n b q).0, (number_read l b r e u).0, number_bad l e w)
 
-        pub all_read : (s k : ℕ) → Number s k ≡ number_at l e
+        pub all_read : (s k : ℕ) → number_to s k ≡ number_at l e
             → (got (record { d = d; n = n; refinements = r; segments = s }) (drop k l) ≡ counts_form.read l) × (k ≤ length l)
         all_read s k w =
             let last = number_read l e s k w in

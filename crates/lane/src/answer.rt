@@ -10,7 +10,7 @@ ghost use Rattle.lane.specs.Room.{Lent, Small};
 use crate::lines;
 use building::{Answer, Axes, Limits, Tolerance};
 use curve::Mode;
-use job::{Counts, Reading};
+use job::Counts;
 use request::parameters::Spacing;
 
 // `build`, of a job with these counts, whose tolerance and points stand in the first cells.
@@ -77,10 +77,9 @@ pub(crate) fn answer(
     ensures out_after { take result out.new ≡ printed_of (lane_of bytes.now) }
     ensures by_index { (input : List ℕ) → take 1621 input ≡ bytes.now → take result out.new ≡ printed_of (lane_of input) }
 {
-    let reading = job::read(bytes, cells);
-    match reading {
-        Reading::Refused(number) => lines::refused(number, out),
-        Reading::Read(counts) => {
+    match job::read(bytes, cells) {
+        Err(refusal) => lines::refused(refusal.number(), out),
+        Ok(counts) => {
             let told = build(
                 counts,
                 cells,

@@ -11,17 +11,8 @@ pub(crate) fn number(out: &mut [u8], at: usize, n: u64) -> usize
     ensures upper_bound { result ≤ at + 21 }
     ensures out_after { take result out.new ≡ take at out.old ++ field (decimal_of n) }
 {
-    let next = text::put(out, at, b" ", 1);
+    let next = text::put(out, at, b" ");
     text::number(out, next, n)
-}
-
-// The first n of some hex digits.
-fn put_hex(out: &mut [u8], at: usize, digits: [u8; 16], n: usize) -> usize
-    requires { (n ≤ 16) × (at + n ≤ length out.old) }
-    ensures value { result ≡ at + n }
-    ensures out_after { take result out.new ≡ take at out.old ++ take n digits }
-{
-    text::put(out, at, &digits, n)
 }
 
 // An f64 as 16 hex digits, or `NaN`.
@@ -31,6 +22,5 @@ pub(crate) fn float(out: &mut [u8], at: usize, x: f64) -> usize
     ensures out_after { take result out.new ≡ take at out.old ++ float_text x }
 {
     let words = encoding::hex(x);
-    let digits = words.bytes;
-    put_hex(out, at, digits, words.len)
+    text::put(out, at, words.as_bytes())
 }

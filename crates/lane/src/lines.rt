@@ -15,7 +15,7 @@ fn refusal(number: u64, out: &mut [u8]) -> usize
     requires { 256 ≤ length out.old }
     ensures { (result ≤ 64) × (take result out.new ≡ refusal_text number) }
 {
-    let at = text::put(out, 0, b"refused", 7);
+    let at = text::put(out, 0, b"refused");
     fields::number(out, at, number)
 }
 
@@ -34,7 +34,7 @@ fn exhausted(ratio: f64, out: &mut [u8]) -> usize
     ensures { (result ≤ 256) × (take result out.new ≡ printed_of (Exhausted ratio)) }
 {
     let at = refusal(14, out);
-    let at = text::put(out, at, b" ", 1);
+    let at = text::put(out, at, b" ");
     let at = fields::float(out, at, ratio);
     text::newline(out, at)
 }
@@ -44,7 +44,7 @@ fn counts(report: Report, out: &mut [u8]) -> usize
     requires { 256 ≤ length out.old }
     ensures { (result ≤ 128) × (take result out.new ≡ counts_text report) }
 {
-    let at = text::put(out, 0, b"accepted", 8);
+    let at = text::put(out, 0, b"accepted");
     let at = fields::number(out, at, report.segments as u64);
     let at = fields::number(out, at, report.interpolated_segments as u64);
     let at = fields::number(out, at, report.refinements as u64);
@@ -70,10 +70,8 @@ fn error_lines(errors: &[f64], out: &mut [u8], at: usize) -> usize
     ensures out_after { take result out.new ≡ take at out.old ++ error_lines errors.now }
 {
     let mut next = at;
-    let mut i = 0;
-    while i < errors.len() {
-        next = error_line(errors[i], out, next);
-        i += 1;
+    for error in errors {
+        next = error_line(*error, out, next);
     }
     next
 }

@@ -7,8 +7,8 @@ use lib.ListN.{length, drop, set, replicate, length-append}
 use lib.Seq.{append_snoc}
 use Rattle.window.specs.Rows.{join}
 use Rattle.forms.specs.Read.{Read, got, bad, after}
-use Rattle.forms.specs.Groups.{number_at}
-use Rattle.forms.specs.declared.Found.TheVariants.{Number, Nothing}
+use Rattle.forms.specs.Groups.{number_to, number_at}
+use Rattle.std.specs.Prelude.{None}
 use Rattle.forms.specs.Form.{groups, read_all}
 use Rattle.forms.proofs.Places.{number_read, number_bad}
 use Rattle.curve.specs.Places.{padded}
@@ -49,7 +49,7 @@ module _ (l : List ℕ) (at k : ℕ) where
     next_is : i < k → k - i ≡ suc (k - (i + 1))
     next_is h = omega arith
 
-    pub so_far_next : (axes' : List ℕ) (a place : ℕ) → i < k → Number a place ≡ number_at l next → axes' ≡ padded (so.list ++ (a ∷ []))
+    pub so_far_next : (axes' : List ℕ) (a place : ℕ) → i < k → number_to a place ≡ number_at l next → axes' ≡ padded (so.list ++ (a ∷ []))
         → SoFar l at k axes' place (i + 1)
     so_far_next axes' a place h e held =
         let r = number_read l next a place e in
@@ -76,7 +76,7 @@ module _ (l : List ℕ) (at k : ℕ) where
     pub not_kept : (a : ℕ) → 16 ≤ i → axes ≡ padded (so.list ++ (a ∷ []))
     not_kept a h = so.held ∙ sym (padded_long so.list (a ∷ []) (omega (arith, so.count)))
 
-    pub so_far_bad : i < k → Nothing ≡ number_at l next → read_all groups k (drop at l) ≡ bad
+    pub so_far_bad : i < k → None ≡ number_at l next → read_all groups k (drop at l) ≡ bad
     so_far_bad h e =
         let step : read_all groups (k - i) (drop next l) ≡ bad = ap (λ (n : ℕ). read_all groups n (drop next l)) (next_is h)
         ∙ ap (λ (o : Read ℕ). after o (λ a r. after (read_all groups (k - (i + 1)) r) (λ vs s. got (a ∷ vs) s))) (number_bad l next e) in

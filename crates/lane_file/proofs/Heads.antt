@@ -7,8 +7,8 @@ use native.Mathlib.Nat.{mul-le-mul}
 use borrow.Author.Tests.{le-leb, lt-leb, leb-true}
 use lib.ListN.{length, drop}
 use Rattle.forms.specs.Read.{got, bad, Bytes}
-use Rattle.forms.specs.Groups.{number_at}
-use Rattle.forms.specs.declared.Found.TheVariants.{Number, Nothing}
+use Rattle.forms.specs.Groups.{number_to, number_at}
+use Rattle.std.specs.Prelude.{None}
 use Rattle.forms.specs.Form.{groups, read_all}
 use Rattle.forms.proofs.Places.{number_read, number_bad}
 use Rattle.lane_file.specs.File.{Head, tail_form, head_form}
@@ -16,22 +16,22 @@ use Rattle.lane_file.proofs.Spelling.{head_exact}
 
 -- ---- the mode and both segment counts
 module _ (l : List ℕ) (at : ℕ) where
-  pub tail_unread1 : Nothing ≡ number_at l at → bad ≡ tail_form.read (drop at l)
+  pub tail_unread1 : None ≡ number_at l at → bad ≡ tail_form.read (drop at l)
   tail_unread1 p = rw (number_bad l at p)
 
-  module _ (mode b : ℕ) (p : Number mode b ≡ number_at l at) where
+  module _ (mode b : ℕ) (p : number_to mode b ≡ number_at l at) where
     pub tail_mode : 1 < mode → bad ≡ tail_form.read (drop at l)
     tail_mode h = rw ((number_read l at mode b p).0, lt-leb mode 1 h)
 
     module _ (h : mode ≤ 1) where
-      pub tail_unread2 : Nothing ≡ number_at l b → bad ≡ tail_form.read (drop at l)
+      pub tail_unread2 : None ≡ number_at l b → bad ≡ tail_form.read (drop at l)
       tail_unread2 q = rw ((number_read l at mode b p).0, le-leb mode 1 h, number_bad l b q)
 
-      module _ (n e : ℕ) (q : Number n e ≡ number_at l b) where
-        pub tail_unread3 : Nothing ≡ number_at l e → bad ≡ tail_form.read (drop at l)
+      module _ (n e : ℕ) (q : number_to n e ≡ number_at l b) where
+        pub tail_unread3 : None ≡ number_at l e → bad ≡ tail_form.read (drop at l)
         tail_unread3 u = rw ((number_read l at mode b p).0, le-leb mode 1 h, (number_read l b n e q).0, number_bad l e u)
 
-        pub tail_read : (m next : ℕ) → Number m next ≡ number_at l e
+        pub tail_read : (m next : ℕ) → number_to m next ≡ number_at l e
             → (got (record { first = mode; second = record { first = n; second = m } }) (drop next l) ≡ tail_form.read (drop at l))
             × (next ≤ length l)
         tail_read m next u =
@@ -40,14 +40,14 @@ module _ (l : List ℕ) (at : ℕ) where
 
 -- ---- the head
 module _ (l : List ℕ) where
-  pub head_unread1 : Nothing ≡ number_at l 0 → head_form.read l ≡ bad
+  pub head_unread1 : None ≡ number_at l 0 → head_form.read l ≡ bad
   head_unread1 p = rw (number_bad l 0 p)
 
-  module _ (d a : ℕ) (p : Number d a ≡ number_at l 0) where
-    pub head_unread2 : Nothing ≡ number_at l a → head_form.read l ≡ bad
+  module _ (d a : ℕ) (p : number_to d a ≡ number_at l 0) where
+    pub head_unread2 : None ≡ number_at l a → head_form.read l ≡ bad
     head_unread2 q = rw ((number_read l 0 d a p).0, number_bad l a q)
 
-    module _ (k b : ℕ) (q : Number k b ≡ number_at l a) where
+    module _ (k b : ℕ) (q : number_to k b ≡ number_at l a) where
       pub head_above : d < k → head_form.read l ≡ bad
       head_above h = rw ((number_read l 0 d a p).0, (number_read l a k b q).0, lt-leb k d h)
 

@@ -1,5 +1,5 @@
 -- What writing and reading a lane file answer, and what every lent slice holds afterwards: document 02, request 1.
-use Rattle.std.specs.Prelude.{◌≡◌, Bool, true, false, cond, not, ◌||◌, List, ℕ, ◌+◌, ◌-◌, ltb, length, take}
+use Rattle.std.specs.Prelude.{◌≡◌, Result, Ok, Err, Bool, true, false, cond, not, ◌||◌, List, ℕ, ◌+◌, ◌-◌, ltb, length, take}
 use Rattle.window.specs.Cells.{onto}
 use Rattle.forms.specs.Read.{Read, got, bad}
 use Rattle.forms.specs.Form.{read_whole}
@@ -8,10 +8,14 @@ use Rattle.curve.specs.declared.Mode.TheVariants.{Error}
 use Rattle.curve.specs.Form.{well_formed, no_curve}
 use Rattle.lane_file.specs.File.{break_count, coefficient_count, Contents, file_form}
 use Rattle.lane_file.specs.Curves.{Cells, cells, Storable, slices_of, file_of, cleared, curve_of, cells_of}
-use Rattle.lane_file.specs.declared.Writing.{Writing}
-use Rattle.lane_file.specs.declared.Writing.TheVariants.{Written, NotWellFormed, TooShort}
-use Rattle.lane_file.specs.declared.Reading.{Reading}
-use Rattle.lane_file.specs.declared.Reading.TheVariants as reading
+use Rattle.lane_file.specs.declared.refusal.Refusal.{Refusal}
+use Rattle.lane_file.specs.declared.refusal.Refusal.TheVariants.{DoesNotRead, NotWellFormed, TooShort}
+
+-- the papers' number of a refusal
+abbrev pub refusal_number : Refusal → ℕ
+refusal_number DoesNotRead = 27
+refusal_number NotWellFormed = 24
+refusal_number TooShort = 19
 
 -- ---- writing
 -- the number of an answer, the bytes of the file, and the lent slice after it
@@ -24,15 +28,13 @@ abbrev pub write_outcome : ℕ → ℕ → List ℕ → WriteOutcome
 write_outcome number count bytes = record { number = number; count = count; bytes = bytes }
 
 -- an answer of the code: 0, or the refusal's number; and the bytes of the file
-abbrev pub write_number : Writing → ℕ
-write_number (Written count) = 0
-write_number NotWellFormed = 24
-write_number TooShort = 19
+abbrev pub write_number : Result ℕ Refusal → ℕ
+write_number (Ok count) = 0
+write_number (Err r) = refusal_number r
 
-abbrev pub write_count : Writing → ℕ
-write_count (Written count) = count
-write_count NotWellFormed = 0
-write_count TooShort = 0
+abbrev pub write_count : Result ℕ Refusal → ℕ
+write_count (Ok count) = count
+write_count (Err r) = 0
 
 -- "Only well-formed curves are written", "writing tests 24 then 19", "The writer leaves the rest of its slice."
 unfoldable pub write_of : Curve → Cells → List ℕ → WriteOutcome
@@ -51,11 +53,14 @@ pub record ReadOutcome : Type 0 where
 abbrev pub read_outcome : ℕ → Curve → Cells → ReadOutcome
 read_outcome number curve cells = record { number = number; curve = curve; cells = cells }
 
-abbrev pub read_number : Reading → ℕ
-read_number reading.Done = 0
-read_number reading.DoesNotRead = 27
-read_number reading.NotWellFormed = 24
-read_number reading.TooShort = 19
+-- an answer of the code: 0, or the refusal's number; and the curve, which on a refusal is the one without axes
+abbrev pub read_number : Result Curve Refusal → ℕ
+read_number (Ok c) = 0
+read_number (Err r) = refusal_number r
+
+abbrev pub curve_in : Result Curve Refusal → Curve
+curve_in (Ok c) = c
+curve_in (Err r) = no_curve Error
 
 -- a lent slice is too short
 abbrev pub too_short : Cells → Cells → Bool

@@ -1,5 +1,5 @@
 -- A lane file as the code reads it: what it begins with by value, the numbers at their places in the bytes.
-use Rattle.std.specs.Prelude.{◌≡◌, Bool, true, false, ◌&&◌, ◌||◌, List, [], ℕ, ◌+◌, ◌-◌, ◌*◌, ◌≤◌, ◌<◌, ltb, length, take, drop, Float}
+use Rattle.std.specs.Prelude.{◌≡◌, Option, Some, None, MatchOption, Bool, ◌&&◌, ◌||◌, List, [], ℕ, ◌+◌, ◌-◌, ◌*◌, ◌≤◌, ◌<◌, ltb, length, take, drop, Float}
 use Rattle.encoding.specs.Bytes.{low_first, wholes_of, floats_of}
 use Rattle.forms.specs.Read.{Read, got, bad}
 use Rattle.forms.specs.Form.{groups, read_all, read_whole}
@@ -9,7 +9,6 @@ use Rattle.curve.specs.Places.{padded}
 use Rattle.lane_file.specs.declared.head.Axes.{Axes}
 use Rattle.lane_file.specs.declared.head.FoundHead.{FoundHead}
 use Rattle.lane_file.specs.declared.head.Tail.{Tail}
-use Rattle.lane_file.specs.declared.head.Tail.TheVariants.{Three, Nothing}
 use Rattle.lane_file.specs.File as file
 use Rattle.lane_file.specs.File.{Head, head_form, break_count, coefficient_count, Contents, file_form}
 use Rattle.lane_file.specs.Curves.{Cells, cells, widened, number_of, slices_of, mode_of, curve_of, cells_of}
@@ -22,18 +21,18 @@ pub record AxesIn (l : List ℕ) (at k : ℕ) (r : Axes) : Type 0 where
   pub held : r.axes ≡ padded list
   pub ended : r.next ≤ length l
 
-abbrev pub AxesAt : List ℕ → ℕ → ℕ → Axes → Type 0
-AxesAt l at k r = (r.reads ≡ false → read_all groups k (drop at l) ≡ bad) × (r.reads ≡ true → AxesIn l at k r)
+abbrev pub AxesAt : List ℕ → ℕ → ℕ → Option Axes → Type 0
+AxesAt l at k r = MatchOption r (read_all groups k (drop at l) ≡ bad) (λ found. AxesIn l at k found)
 
 -- the mode and both segment counts, with the bytes after them
-abbrev pub tail_in : List ℕ → Tail → Read file.Tail
-tail_in l (Three mode segments others next) =
-    got (record { first = mode; second = record { first = segments; second = others } }) (drop next l)
-tail_in l Nothing = bad
+abbrev pub tail_in : List ℕ → Option Tail → Read file.Tail
+tail_in l (Some t) =
+    got (record { first = t.mode; second = record { first = t.segments; second = t.other_segments } }) (drop t.next l)
+tail_in l None = bad
 
-abbrev pub tail_end : Tail → ℕ
-tail_end (Three mode segments others next) = next
-tail_end Nothing = 0
+abbrev pub tail_end : Option Tail → ℕ
+tail_end (Some t) = t.next
+tail_end None = 0
 
 -- the head, with its list of axes
 abbrev pub head_in : FoundHead → List ℕ → Head

@@ -61,16 +61,10 @@ pub(crate) fn too_short(
 {
     let n = head.segments;
     let others = head.other_segments;
-    if breaks < break_count(n) {
-        return true;
-    }
-    if coefficients < 6 * (n * head.k) + n {
-        return true;
-    }
-    if other_breaks < break_count(others) {
-        return true;
-    }
-    other_coefficients < 6 * (others * (head.d - head.k)) + others
+    breaks < break_count(n)
+        || coefficients < 6 * (n * head.k) + n
+        || other_breaks < break_count(others)
+        || other_coefficients < 6 * (others * (head.d - head.k)) + others
 }
 
 // The patterns of the widths of the segments between the breaks, to the cells from `from` on.
@@ -78,10 +72,8 @@ fn put_widths(breaks: &[f64], from: usize, cells: &mut [u64])
     requires { from + (length breaks.now - 1) ≤ length cells.old }
     ensures { cells.new ≡ written from (width_patterns breaks.now) cells.old }
 {
-    let mut i = 0;
-    while i + 1 < breaks.len() {
+    for i in 0..breaks.len().saturating_sub(1) {
         cells[from + i] = pattern(breaks[i + 1] - breaks[i]);
-        i += 1;
     }
 }
 

@@ -1,18 +1,15 @@
 // Writing and reading a lane file.
 ghost use Rattle.std.specs.Prelude.{◌≡◌, take};
-ghost use Rattle.curve.specs.declared.Mode.TheVariants.{Error};
-ghost use Rattle.curve.specs.Form.{no_curve};
 ghost use Rattle.lane_file.specs.Curves.{cells};
-ghost use Rattle.lane_file.specs.Outcome.{write_outcome, write_number, write_count, write_of, WritePromised, read_outcome, read_number, read_of, ReadPromised};
+ghost use Rattle.lane_file.specs.Outcome.{write_outcome, write_number, write_count, write_of, WritePromised, read_outcome, read_number, curve_in, read_of, ReadPromised};
 
 use crate::cells::{curve_at, read_sets, too_short};
 use crate::formed::formed;
 use crate::head::whole_head;
 use crate::kept::well_formed;
 use crate::put::{head_length, put_head, put_patterns};
-use crate::{Reading, Writing};
-use curve::form::no_curve;
-use curve::{Curve, Mode};
+use crate::Refusal;
+use curve::Curve;
 
 // The file of the curve, into the first bytes of the slice.
 pub fn write(
@@ -22,7 +19,7 @@ pub fn write(
     coefficients: &[u64],
     other_breaks: &[f64],
     other_coefficients: &[u64],
-) -> Writing
+) -> Result<usize, Refusal>
     ensures file_after { write_outcome (write_number result) (write_count result) file.new
         ≡ write_of curve (cells breaks.now coefficients.now other_breaks.now
         other_coefficients.now)
@@ -39,14 +36,14 @@ pub fn write(
         other_coefficients,
     );
     if !formed {
-        return Writing::NotWellFormed;
+        return Err(Refusal::NotWellFormed);
     }
     let numbers = coefficients.len() - curve.segments;
     let others = other_coefficients.len() - curve.other_segments;
     let cells = 2 + breaks.len() + numbers + other_breaks.len() + others;
     let count = head_length(curve) + 8 * cells;
     if file.len() < count {
-        return Writing::TooShort;
+        return Err(Refusal::TooShort);
     }
     let next = put_head(file, curve);
     put_patterns(
@@ -58,22 +55,7 @@ pub fn write(
         other_breaks,
         &other_coefficients[0..others],
     );
-    Writing::Written(count)
-}
-
-// The answer to reading, and the curve; on a refusal it is without axes.
-#[derive(Clone, Copy)]
-pub struct CurveRead {
-    pub answer: Reading,
-    pub curve: Curve,
-}
-
-// The answer of a refusal.
-fn refused(answer: Reading) -> CurveRead
-    ensures { (result.answer ≡ answer) × (result.curve ≡ no_curve Error) }
-{
-    let curve = no_curve(Mode::Error);
-    CurveRead { answer, curve }
+    Ok(count)
 }
 
 // The curve of the file, its breaks and coefficients into the first cells of the slices.
@@ -83,21 +65,20 @@ pub fn read(
     coefficients: &mut [u64],
     other_breaks: &mut [f64],
     other_coefficients: &mut [u64],
-) -> CurveRead
-    ensures other_coefficients_after { read_outcome (read_number result.answer) result.curve (cells breaks.new coefficients.new
+) -> Result<Curve, Refusal>
+    ensures other_coefficients_after { read_outcome (read_number result) (curve_in result) (cells breaks.new coefficients.new
         other_breaks.new other_coefficients.new)
         ≡ read_of file.now (cells breaks.old coefficients.old other_breaks.old
         other_coefficients.old) }
-    ensures read_promised { read_number result.answer ≡ 0 → ReadPromised file.now result.curve
+    ensures read_promised { read_number result ≡ 0 → ReadPromised file.now (curve_in result)
         (cells breaks.new coefficients.new
         other_breaks.new other_coefficients.new) }
 {
-    let head = whole_head(file);
-    if !head.reads {
-        return refused(Reading::DoesNotRead);
-    }
+    let Some(head) = whole_head(file) else {
+        return Err(Refusal::DoesNotRead);
+    };
     if !formed(file, head) {
-        return refused(Reading::NotWellFormed);
+        return Err(Refusal::NotWellFormed);
     }
     let short = too_short(
         file,
@@ -108,7 +89,7 @@ pub fn read(
         other_coefficients.len(),
     );
     if short {
-        return refused(Reading::TooShort);
+        return Err(Refusal::TooShort);
     }
     read_sets(
         file,
@@ -118,9 +99,5 @@ pub fn read(
         other_breaks,
         other_coefficients,
     );
-    let curve = curve_at(file, head);
-    CurveRead {
-        answer: Reading::Done,
-        curve,
-    }
+    Ok(curve_at(file, head))
 }

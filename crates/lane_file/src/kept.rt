@@ -9,17 +9,15 @@ use curve::form::{is_width, well_shaped};
 use encoding::number;
 
 // Whether the breaks of n segments rise and the patterns of their widths are kept from the cell `from` on:
-// segments of which both hold are counted.
+// segments of which both hold are counted, as a loop that stops at the first of the others takes longer.
 fn segments_formed(breaks: &[f64], cells: &[u64], from: usize, n: usize) -> bool
     requires { (n ≤ length breaks.now - 1) × (from + n ≤ length cells.now) }
     ensures { result ≡ segments_formed from n breaks.now (map number_of cells.now) }
 {
     let mut kept = 0;
-    let mut i = 0;
-    while i < n {
+    for i in 0..n {
         let width = number(cells[from + i]);
         kept += one_if(is_width(width, breaks[i], breaks[i + 1]));
-        i += 1;
     }
     kept == n
 }

@@ -3,7 +3,7 @@
 // them lie the patterns of the widths (request 12). A file has no widths: reading makes them from the breaks.
 #![tactic(auto)]
 
-mod numbers; // numbers.rt: the papers' numbers of the answers
+mod refusal; // refusal.rt: why a curve is not written, or a file not read
 mod cells; // cells.rt: the curve in the bytes, taken out of them
 mod entry; // entry.rt: writing and reading
 mod formed; // formed.rt: whether the curve in the bytes is well formed
@@ -11,22 +11,5 @@ mod kept; // kept.rt: whether a curve whose coefficients and widths are bit patt
 mod head; // head.rt: what a file begins with, and whether it reads
 mod put; // put.rt: the parts of a file, put into bytes
 
-pub use entry::{CurveRead, read, write};
-pub use numbers::{read_number, write_number};
-
-// The answer to writing: how many bytes the file has, or a refusal, which has written nothing.
-#[derive(Clone, Copy)]
-pub enum Writing {
-    Written(usize),
-    NotWellFormed,
-    TooShort,
-}
-
-// The answer to reading; a refusal has written nothing.
-#[derive(Clone, Copy)]
-pub enum Reading {
-    Done,
-    DoesNotRead,
-    NotWellFormed,
-    TooShort,
-}
+pub use entry::{read, write};
+pub use refusal::Refusal;

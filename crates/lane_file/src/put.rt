@@ -25,10 +25,8 @@ fn put_axes(file: &mut [u8], at: usize, axes: &[usize], k: usize) -> usize
         × (result ≡ at + length (write_all groups (take k axes.now))) × (result ≤ at + 3 * k) }
 {
     let mut next = at;
-    let mut i = 0;
-    while i < k {
+    for i in 0..k {
         next = put_number(file, next, axes[i]);
-        i += 1;
     }
     next
 }

@@ -59,18 +59,15 @@ pub fn in_file(
     requires weights_value { weights.now ≡ weight_table }
     ensures { (totals_in result ≡ lane_totals file.now) × Kept 1 20000 result }
 {
-    let read = lane_file::read(file, breaks, coefficients, other_breaks, other_coefficients);
-    let answer = read.answer;
-    if lane_file::read_number(answer) != 0 {
-        return sums::one_away();
+    match lane_file::read(file, breaks, coefficients, other_breaks, other_coefficients) {
+        Err(_) => sums::one_away(),
+        Ok(curve) => in_curve(
+            weights,
+            curve,
+            breaks,
+            coefficients,
+            other_breaks,
+            other_coefficients,
+        ),
     }
-    let curve = read.curve;
-    in_curve(
-        weights,
-        curve,
-        breaks,
-        coefficients,
-        other_breaks,
-        other_coefficients,
-    )
 }

@@ -21,16 +21,14 @@ fn steps(weights: &[u64], controls: &[u64]) -> Sums
     requires { (weights.now ≡ weight_table) × Lifted controls.now }
     ensures { (totals_in result ≡ step_totals 256 (height_of (map lowered controls.now))) × Kept 0 1 result }
 {
-    let mut low = 4000000;
-    let mut high = 0;
+    let mut low = 4000000u64;
+    let mut high = 0u64;
     let mut sum = 0u64;
-    let mut j = 0;
-    while j < 256 {
+    for j in 0..256 {
         let h = heights::height(weights, controls, j);
-        low = sums::lower(low, h);
-        high = sums::higher(high, h);
+        low = low.min(h);
+        high = high.max(h);
         sum += h;
-        j += 1;
     }
     Sums {
         lanes: 0,
@@ -42,24 +40,16 @@ fn steps(weights: &[u64], controls: &[u64]) -> Sums
     }
 }
 
-// Six coefficients, as f64.
-#[derive(Clone, Copy)]
-struct Powers {
-    cells: [f64; 6],
-}
-
-// Those whose patterns stand from a place on.
-fn powers_at(coefficients: &[u64], from: usize) -> Powers
+// The six coefficients whose patterns stand from a place on, as f64.
+fn powers_at(coefficients: &[u64], from: usize) -> [f64; 6]
     requires { from + 6 ≤ length coefficients.now }
-    ensures { result.cells ≡ window from (from + 6) (map number_of coefficients.now) }
+    ensures { result ≡ window from (from + 6) (map number_of coefficients.now) }
 {
     let mut cells = [0.0; 6];
-    let mut k = 0;
-    while k < 6 {
+    for k in 0..6 {
         cells[k] = number(coefficients[from + k]);
-        k += 1;
     }
-    Powers { cells }
+    cells
 }
 
 // The whole controls, on segment i, of the axis at a place of the m axes of a set.
@@ -68,8 +58,7 @@ fn controls_on(breaks: &[f64], coefficients: &[u64], m: usize, place: usize, i: 
     ensures { ControlsFrom (controls_in breaks.now (map number_of coefficients.now) m place i) result }
 {
     let powers = powers_at(coefficients, 6 * (i * m + place));
-    let cells = powers.cells;
-    heights::of_segment(&cells, breaks[i], breaks[i + 1])
+    heights::of_segment(&powers, breaks[i], breaks[i + 1])
 }
 
 // The heights of the n segments of the axis at a place of the m axes of a set; turned away by 28.
@@ -86,8 +75,7 @@ fn all_segments(
         × Kept 1 20000 result }
 {
     let mut all = sums::one_lane();
-    let mut i = 0;
-    while i < n {
+    for i in 0..n {
         let c = controls_on(breaks, coefficients, m, at, i);
         if c.beyond {
             return sums::one_away();
@@ -95,7 +83,6 @@ fn all_segments(
         let cells = c.cells;
         let one = steps(weights, &cells);
         all = sums::merged(all, one);
-        i += 1;
     }
     all
 }

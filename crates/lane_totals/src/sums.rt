@@ -1,5 +1,5 @@
 // Totals, as they are kept: each height as the number by which it lies above -2,000,000.
-ghost use Rattle.std.specs.Prelude.{◌≡◌, min, max};
+ghost use Rattle.std.specs.Prelude.{◌≡◌};
 ghost use Rattle.lane_totals.specs.Totals.{nothing, away, lane};
 ghost use Rattle.lane_totals.specs.Kept.{totals_in, Kept, merged_of, Small};
 
@@ -57,32 +57,16 @@ pub fn one_lane() -> Sums
     }
 }
 
-// The lower of two numbers.
-pub fn lower(a: u64, b: u64) -> u64
-    ensures { result ≡ min a b }
-{
-    if a < b { a } else { b }
-}
-
-// The higher of two numbers.
-pub fn higher(a: u64, b: u64) -> u64
-    ensures { result ≡ max a b }
-{
-    if a < b { b } else { a }
-}
-
 // The totals of both.
 pub fn merged(a: Sums, b: Sums) -> Sums
     requires { Small a × Small b }
     ensures { result ≡ merged_of a b }
 {
-    let low = lower(a.lowest, b.lowest);
-    let high = higher(a.highest, b.highest);
     Sums {
         lanes: a.lanes + b.lanes,
         segments: a.segments + b.segments,
-        lowest: low,
-        highest: high,
+        lowest: a.lowest.min(b.lowest),
+        highest: a.highest.max(b.highest),
         sum: a.sum + b.sum,
         turned_away: a.turned_away + b.turned_away,
     }

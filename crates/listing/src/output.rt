@@ -87,9 +87,8 @@ pub fn cell(out: &mut [u8], at: usize, x: f64) -> usize
     ensures { (out.new, result) ≡ printed (out.old, at) (cell_text x) }
 {
     let words = encoding::hex(x);
-    let bytes = words.bytes;
     let next = byte(out, at, b' ');
-    prefix(out, next, &bytes, words.len)
+    text(out, next, words.as_bytes())
 }
 
 // The first n cells of `list`, as far as there are any.

@@ -1,26 +1,12 @@
 // Lane files: a curve as bytes. Coefficients and widths come as bit patterns.
-ghost use Rattle.std.specs.Prelude.{◌≡◌, cond, eqb, take};
+ghost use Rattle.std.specs.Prelude.{◌≡◌, take};
 ghost use Rattle.lane_file.specs.Curves.{cells};
-ghost use Rattle.lane_file.specs.Outcome.{write_outcome, write_number, write_count, write_of, WritePromised, read_outcome, read_of, ReadPromised};
+ghost use Rattle.lane_file.specs.Outcome.{write_outcome, write_of, WritePromised, read_outcome, read_of, ReadPromised};
 ghost use Rattle.pamitoye.specs.Choices.{passed_curve};
 ghost use Rattle.pamitoye.specs.LaneFiles.{write_told, read_told};
 
 use crate::{choices, curves};
 use curve::Curve;
-use lane_file::Writing;
-
-// How many bytes a written file has.
-fn put_count(answer: Writing, count: &mut usize)
-    ensures { count.new ≡ cond (eqb (write_number answer) 0) (write_count answer) count.old }
-{
-    match answer {
-        Writing::Written(n) => {
-            *count = n;
-        }
-        Writing::NotWellFormed => {}
-        Writing::TooShort => {}
-    }
-}
 
 // The file of a curve, into the first bytes of a slice: `lane_file::write`.
 #[unsafe(no_mangle)]
@@ -48,7 +34,7 @@ pub extern "C" fn pamitoye_write_lane(
         (cells breaks.now coefficients.now other_breaks.now other_coefficients.now)
         (take count.new file.new) }
 {
-    let answer = lane_file::write(
+    let written = lane_file::write(
         file,
         curves::curve(d, k, axes, start, end, clamp, segments, other_segments),
         breaks,
@@ -56,13 +42,17 @@ pub extern "C" fn pamitoye_write_lane(
         other_breaks,
         other_coefficients,
     );
-    put_count(answer, count);
-    lane_file::write_number(answer)
+    match written {
+        Ok(n) => {
+            *count = n;
+            0
+        }
+        Err(refusal) => refusal.number(),
+    }
 }
 
 // The numbers of a curve that was read.
 fn put_numbers(
-    number: u64,
     read: Curve,
     d: &mut usize,
     k: &mut usize,
@@ -75,21 +65,17 @@ fn put_numbers(
 )
     ensures { passed_curve d.new k.new axes.new start.new end.new
         clamp.new segments.new other_segments.new
-        ≡ cond (eqb number 0) read (passed_curve d.old k.old axes.old start.old
-        end.old clamp.old segments.old other_segments.old) }
+        ≡ read }
 {
-    if number == 0 {
-        let listed = read.axes;
-        let mode = read.mode;
-        *d = read.d;
-        *k = read.k;
-        *axes = listed;
-        *start = read.start;
-        *end = read.end;
-        *clamp = choices::is_clamp(mode);
-        *segments = read.segments;
-        *other_segments = read.other_segments;
-    }
+    let listed = read.axes;
+    *d = read.d;
+    *k = read.k;
+    *axes = listed;
+    *start = read.start;
+    *end = read.end;
+    *clamp = choices::is_clamp(read.mode);
+    *segments = read.segments;
+    *other_segments = read.other_segments;
 }
 
 // The curve of a file: `lane_file::read`. With 0 it is well formed, in slices of exactly its used cells.
@@ -120,20 +106,21 @@ pub extern "C" fn pamitoye_read_lane(
         end.new clamp.new segments.new other_segments.new) (cells breaks.new
         coefficients.new other_breaks.new other_coefficients.new) }
 {
-    let read = lane_file::read(file, breaks, coefficients, other_breaks, other_coefficients);
-    let answer = read.answer;
-    let number = lane_file::read_number(answer);
-    put_numbers(
-        number,
-        read.curve,
-        d,
-        k,
-        axes,
-        start,
-        end,
-        clamp,
-        segments,
-        other_segments,
-    );
-    number
+    match lane_file::read(file, breaks, coefficients, other_breaks, other_coefficients) {
+        Ok(curve) => {
+            put_numbers(
+                curve,
+                d,
+                k,
+                axes,
+                start,
+                end,
+                clamp,
+                segments,
+                other_segments,
+            );
+            0
+        }
+        Err(refusal) => refusal.number(),
+    }
 }

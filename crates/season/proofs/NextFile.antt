@@ -11,8 +11,8 @@ use lib.ListN.{length, drop, length-drop, length-append}
 use lib.Seq.{take-append-le, drop-append-le, drop-drop}
 use Rattle.window.specs.Window.{window}
 use Rattle.forms.specs.Read.{Read, got, bad, after}
-use Rattle.forms.specs.Groups.{read_groups, number_at}
-use Rattle.forms.specs.declared.Found.TheVariants.{Number, Nothing}
+use Rattle.forms.specs.Groups.{read_groups, number_to, number_at}
+use Rattle.std.specs.Prelude.{None}
 use Rattle.forms.proofs.Exact.{not_got, Stepped, stepped, step}
 use Rattle.forms.proofs.OneSpelling.{above}
 use Rattle.forms.proofs.Places.{number_read, number_bad}
@@ -77,6 +77,14 @@ counted_at v next left l rest g k =
       drop-drop v next l,
     )
 
+-- a count is decided where the input has ended, or three bytes are there
+pub decided_last : (b last : Bool) → last ≡ true → (b && not last) ≡ false
+decided_last true last e = rw e
+decided_last false last e = refl
+
+pub decided_three : (n : ℕ) (last : Bool) → 3 ≤ n → (ltb n 3 && not last) ≡ false
+decided_three n last h = rw (le-ltb n 3 h)
+
 module _ (l : List ℕ) (at : ℕ) (last : Bool) (h : at < length l) where
   unread : length (drop at l) ≡ length l - at
   unread = length-drop at l
@@ -100,12 +108,12 @@ module _ (l : List ℕ) (at : ℕ) (last : Bool) (h : at < length l) where
         go false e false q = groups_longer 3 (drop at l) rest (omega (arith, ltb-false (length l - at) 3 q, unread))
 
     -- it does not read
-    pub bad_count : Nothing ≡ number_at l at → NextIn l at last Bad
+    pub bad_count : None ≡ number_at l at → NextIn l at last Bad
     bad_count e rest f left =
         stops left (drop at l ++ rest) (some_left rest)
         (λ left. ap (λ (r : Read ℕ). counted r (files_of left)) (decided rest f ∙ ap (more rest) (number_bad l at e)))
 
-    module _ (v next : ℕ) (e : Number v next ≡ number_at l at) where
+    module _ (v next : ℕ) (e : number_to v next ≡ number_at l at) where
       read : read_groups 3 (drop at l) ≡ got v (drop next l)
       read = (number_read l at v next e).0
 
@@ -152,14 +160,3 @@ module _ (l : List ℕ) (at : ℕ) (last : Bool) (h : at < length l) where
             λ rest f left. goes_on left (drop at l ++ rest) (some_left rest)
                 ∙ ap (λ (r : Read ℕ). counted r (files_of left)) (reads rest f) ∙ counted_at v next left l rest g (omega (arith, k, n)),
           )
-
-  pub undecided : (ltb (length l - at) 3 && not last) ≡ true → NextIn l at last More
-  undecided e = go last refl (ltb (length l - at) 3) refl e
-    where
-      go : (b : Bool) → last ≡ b → (t : Bool) → ltb (length l - at) 3 ≡ t → (t && not b) ≡ true → NextIn l at last More
-      go b q true r f = (q ∙ sym_not b f, omega (arith, ltb-true (length l - at) 3 r, h))
-        where
-          sym_not : (b : Bool) → not b ≡ true → b ≡ false
-          sym_not false e = refl
-          sym_not true e = sym e
-      go b q false r f = absurd (let z : ◌≡◌ {A = ℕ} 0 1 = cc in omega arith)

@@ -16,7 +16,7 @@ use Rattle.lane_totals.specs.Lanes.{lane_totals}
 use Rattle.season.specs.Files.{before, files_of, totalled, run_from}
 use Rattle.season.specs.Next.{Follows, NextIn}
 use Rattle.lane_totals.specs.Kept.{totals_in, Kept, merged_of}
-use Rattle.season.specs.Run.{files_in, goes_on, Running, TakenIn}
+use Rattle.season.specs.Run.{files_in, goes_on, Running, Stops, WentOn}
 use Rattle.lane_totals.proofs.Merging.{merge_comm, merge_nothing, season_from}
 use Rattle.lane_totals.proofs.Keeping.{merged_kept, both_kept, kept_wider}
 use Rattle.season.proofs.NextFile.{some_byte}
@@ -36,37 +36,22 @@ no_more l h = some_byte l none h
 
 module _ (l : List ℕ) (at : ℕ) (last : Bool) (s : Sums) (h : at < length l) (k : Running s) where
   -- the limit on files is reached
-  pub limit_reached : 65535 ≤ files_in s → TakenIn l at last s (record { stopped = true; at = at; sums = s })
-  limit_reached g =
-      record {
-        stops = λ e rest f.
-            let z : 65535 - files_in s ≡ 0 = omega arith in
-            rw z (ap (totalled (totals_in s)) (no_more (drop at l ++ rest)
-            (omega (arith, length-append (drop at l) rest, length-drop at l))));
-        goes = λ e. absurd (clash e);
-        inside = omega arith;
-        more = λ e. absurd (clash e);
-        kept = λ e. absurd (clash e);
-      }
+  pub limit_reached : 65535 ≤ files_in s → Stops l at last s
+  limit_reached g rest f =
+      let z : 65535 - files_in s ≡ 0 = omega arith in
+      rw z (ap (totalled (totals_in s)) (no_more (drop at l ++ rest)
+      (omega (arith, length-append (drop at l) rest, length-drop at l))))
 
-  pub run_stops : NextIn l at last Bad → TakenIn l at last s (record { stopped = true; at = at; sums = s })
-  run_stops n =
-      record {
-        stops = λ e rest f. ap (totalled (totals_in s)) (n rest f (65535 - files_in s));
-        goes = λ e. absurd (clash e);
-        inside = omega arith;
-        more = λ e. absurd (clash e);
-        kept = λ e. absurd (clash e);
-      }
+  pub run_stops : NextIn l at last Bad → Stops l at last s
+  run_stops n rest f = ap (totalled (totals_in s)) (n rest f (65535 - files_in s))
 
-  pub run_waits : NextIn l at last More → TakenIn l at last s (record { stopped = false; at = at; sums = s })
+  pub run_waits : NextIn l at last More → WentOn l at last s (record { at = at; sums = s })
   run_waits n =
       record {
-        stops = λ e. absurd (clash (sym e));
-        goes = λ e rest f. refl;
+        goes = λ rest f. refl;
         inside = omega arith;
-        more = λ e. (omega arith, λ l. absurd (omega arith));
-        kept = λ e. k;
+        more = (omega arith, λ l. absurd (omega arith));
+        kept = k;
       }
 
   pub run_takes : (from to : ℕ) (one : Sums) → files_in s < 65535 → NextIn l at last (File from to) → totals_in one ≡ lane_totals (window
@@ -96,48 +81,44 @@ module _ (l : List ℕ) (at : ℕ) (last : Bool) (s : Sums) (h : at < length l) 
 
   pub run_takes_in : (from to : ℕ) (one : Sums) → files_in s < 65535 → NextIn l at last (File from to)
       → totals_in one ≡ lane_totals (window from to l) → Kept 1 20000 one
-      → TakenIn l at last s (record { stopped = false; at = to; sums = merged_of s one })
+      → WentOn l at last s (record { at = to; sums = merged_of s one })
   run_takes_in from to one g n e q =
       record {
-        stops = λ e. absurd (clash (sym e));
-        goes = λ _ rest f. run_takes from to one g n e q rest f;
+        goes = λ rest f. run_takes from to one g n e q rest f;
         inside = n.1;
-        more = λ _. (omega arith, λ _. omega (arith, q.files));
-        kept = λ _. runs_on one g q;
+        more = (omega (arith, q.files), λ _. omega (arith, q.files));
+        kept = runs_on one g q;
       }
 
 -- nothing is taken in yet
-pub taken_none : (l : List ℕ) (last : Bool) (s : Sums) → Running s
-    → TakenIn l 0 last s (record { stopped = false; at = 0; sums = s })
+pub taken_none : (l : List ℕ) (last : Bool) (s : Sums) → Running s → WentOn l 0 last s (record { at = 0; sums = s })
 taken_none l last s k =
     record {
-      stops = λ e. absurd (clash (sym e));
-      goes = λ e rest f. refl;
+      goes = λ rest f. refl;
       inside = omega arith;
-      more = λ e.
-          (omega arith, λ l. absurd (omega arith));
-      kept = λ e. k;
+      more = (omega arith, λ l. absurd (omega arith));
+      kept = k;
     }
 
 -- one after the other
-pub taken_then : (l : List ℕ) (at at' : ℕ) (last : Bool) (s s' : Sums) (r : Taken)
-    → TakenIn l at last s (record { stopped = false; at = at'; sums = s' }) → TakenIn l at' last s' r → TakenIn l at last s r
-taken_then l at at' last s s' r p q =
-    record {
-      stops = λ e rest f. p.goes refl rest f ∙ q.stops e rest f;
-      goes = λ e rest f. p.goes refl rest f ∙ q.goes e rest f;
-      inside = q.inside;
-      more = λ e.
-          let a = p.more refl in
-          let b = q.more e in (
-            omega (arith, a.0, b.0),
-            λ l. elim (dec_lt at at') [
-              | yes g ↦ omega (arith, a.1 g, b.0)
-              | no g ↦ omega (arith, a.0, b.1 (omega arith))
-            ],
-          );
-      kept = q.kept;
-    }
+module _ (l : List ℕ) (at : ℕ) (last : Bool) (s : Sums) (t : Taken) (p : WentOn l at last s t) where
+  pub then_stops : Stops l t.at last t.sums → Stops l at last s
+  then_stops q rest f = p.goes rest f ∙ q rest f
+
+  pub taken_then : (r : Taken) → WentOn l t.at last t.sums r → WentOn l at last s r
+  taken_then r q =
+      record {
+        goes = λ rest f. p.goes rest f ∙ q.goes rest f;
+        inside = q.inside;
+        more = (
+          omega (arith, p.more.0, q.more.0),
+          λ h. elim (dec_lt at t.at) [
+            | yes g ↦ omega (arith, p.more.1 g, q.more.0)
+            | no g ↦ omega (arith, p.more.0, q.more.1 (omega arith))
+          ],
+        );
+        kept = q.kept;
+      }
 
 -- a run begins without files
 pub running_none : (s : Sums) → Kept 0 0 s → Running s

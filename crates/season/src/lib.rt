@@ -11,12 +11,11 @@ use lane_totals::sums::Sums;
 pub use lines::answer;
 pub use parts::take_part;
 
-// Whether the run has ended, since it stopped or the input has; and otherwise how many bytes are left in front of
-// the buffer; and the totals so far.
+// What a turn comes to.
 #[derive(Clone, Copy)]
-pub struct Turn {
-    pub ended: bool,
-    pub stopped: bool,
-    pub filled: usize,
-    pub sums: Sums,
+pub enum Turn {
+    // the input has ended: its totals; or the run stopped: none
+    Ended(Option<Sums>),
+    // how many bytes are left in front of the buffer, and the totals so far
+    Goes { filled: usize, sums: Sums },
 }

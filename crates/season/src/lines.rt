@@ -1,11 +1,10 @@
 // The lines of a run.
-ghost use Rattle.std.specs.Prelude.{false, cond, ◌++◌, ◌≡◌, ◌+◌, ◌≤◌, pos, ◌-ℤ◌, length, take};
-ghost use Rattle.std.proofs.Math.Option.{some, none};
+ghost use Rattle.std.specs.Prelude.{IfSome, ◌++◌, ◌≡◌, ◌+◌, ◌≤◌, pos, ◌-ℤ◌, length, take};
 ghost use Rattle.text.specs.Decimal.{decimal_of, whole_text};
 ghost use Rattle.text.specs.Lines.{line};
 ghost use Rattle.lane_totals.specs.Kept.{kept_as, totals_in};
 ghost use Rattle.season.specs.Printed.{maybe_text, lines_of, printed_of};
-ghost use Rattle.season.specs.Run.{Running};
+ghost use Rattle.season.specs.Run.{Running, outcome_of};
 
 use lane_totals::sums::Sums;
 
@@ -36,7 +35,7 @@ fn height_line(out: &mut [u8], at: usize, segments: u64, n: u64) -> usize
     ensures out_after { take result out.new ≡ take at out.old ++ line (maybe_text (kept_as segments n)) }
 {
     if segments == 0 {
-        return text::put(out, at, b"none\n", 5);
+        return text::put(out, at, b"none\n");
     }
     difference_line(out, at, n, 2000000)
 }
@@ -68,12 +67,12 @@ fn all_lines(sums: Sums, out: &mut [u8]) -> usize
 }
 
 // The text of a run that stopped, or of its totals, from the start of `out` on, and its length.
-pub fn answer(stopped: bool, sums: Sums, out: &mut [u8]) -> usize
-    requires { (256 ≤ length out.old) × (stopped ≡ false → Running sums) }
-    ensures { (result ≤ 256) × (take result out.new ≡ printed_of (cond stopped none (some (totals_in sums)))) }
+pub fn answer(outcome: Option<Sums>, out: &mut [u8]) -> usize
+    requires { (256 ≤ length out.old) × IfSome outcome Running }
+    ensures { (result ≤ 256) × (take result out.new ≡ printed_of (outcome_of outcome)) }
 {
-    if stopped {
-        return text::put(out, 0, b"refused 30\n", 11);
+    match outcome {
+        None => text::put(out, 0, b"refused 30\n"),
+        Some(sums) => all_lines(sums, out),
     }
-    all_lines(sums, out)
 }

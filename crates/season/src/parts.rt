@@ -13,11 +13,7 @@ fn move_front(bytes: &mut [u8], from: usize, end: usize)
     requires { (from ≤ end) × (end ≤ length bytes.old) }
     ensures { take (end - from) bytes.new ≡ window from end bytes.old }
 {
-    let mut i = 0;
-    while i < end - from {
-        bytes[i] = bytes[from + i];
-        i += 1;
-    }
+    bytes.copy_within(from..end, 0);
 }
 
 // The files that stand whole in the first `end` bytes of the buffer are taken in, and what is left of these bytes
@@ -50,22 +46,15 @@ pub fn take_part(
         other_breaks,
         other_coefficients,
     );
-    let stopped = taken.stopped;
-    let at = taken.at;
-    let sums = taken.sums;
-    if stopped {
-        return Turn {
-            ended: true,
-            stopped,
-            filled: 0,
-            sums,
-        };
+    let Some(taken) = taken else {
+        return Turn::Ended(None);
+    };
+    if last {
+        return Turn::Ended(Some(taken.sums));
     }
-    move_front(buffer, at, end);
-    Turn {
-        ended: last,
-        stopped,
-        filled: end - at,
-        sums,
+    move_front(buffer, taken.at, end);
+    Turn::Goes {
+        filled: end - taken.at,
+        sums: taken.sums,
     }
 }

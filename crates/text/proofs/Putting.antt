@@ -10,21 +10,6 @@ use lib.ListN.{length, take, length-append}
 use lib.Seq.{take_at, take-length, length-take-le}
 use Rattle.text.specs.Decimal.{decimal_of, whole_text}
 
--- what is put behind the first bytes of a buffer, as `bytes::copy` leaves it
-pub put_there : (out words v rest : List ℕ) (at n : ℕ) → n ≤ length words → at ≤ length out
-    → (x : List ℕ) → v ≡ take (length (take (n - 0) words)) (take (n - 0) words) ++ x
-    → take (at + n) (take at out ++ (v ++ rest)) ≡ take at out ++ take n words
-put_there out words v rest at n h k x e =
-    let z : n - 0 ≡ n = omega arith in
-    let f : v ≡ take n words ++ x =
-    e ∙ ap (λ (t : List ℕ). t ++ x) (take-length (take (n - 0) words) ∙ ap (λ (i : ℕ). take i words) z) in
-    let g : length (take at out ++ take n words) ≡ at + n =
-    length-append (take at out) (take n words) ∙ omega (arith, length-take-le at out k, length-take-le n words h) in
-    ap (λ (t : List ℕ). take (at + n) (take at out ++ (t ++ rest))) f
-    ∙ ap (λ (t : List ℕ). take (at + n) (take at out ++ t)) (append_assoc (take n words) x rest)
-    ∙ ap (λ (t : List ℕ). take (at + n) t) (sym (append_assoc (take at out) (take n words) (x ++ rest)))
-    ∙ take_at (take at out ++ take n words) (x ++ rest) (at + n) g
-
 -- two texts, one after the other
 pub both_there : (o₀ o₁ o₂ a b : List ℕ) → o₁ ≡ o₀ ++ a → o₂ ≡ o₁ ++ b → o₂ ≡ o₀ ++ (a ++ b)
 both_there o₀ o₁ o₂ a b e f = f ∙ ap (λ (t : List ℕ). t ++ b) e ∙ append_assoc o₀ a b

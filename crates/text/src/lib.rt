@@ -6,23 +6,15 @@ ghost use Rattle.std.specs.Prelude.{◌≡◌, ◌++◌, ◌+◌, ◌≤◌, len
 ghost use Rattle.text.specs.Decimal.{decimal_of, whole_text};
 ghost use Rattle.text.specs.Lines.{newline as Newline};
 
-// The first n bytes of `words`.
-pub fn put(out: &mut [u8], at: usize, words: &[u8], n: usize) -> usize
-    requires { (n ≤ length words.now) × (at + n ≤ length out.old) }
-    ensures value { result ≡ at + n }
-    ensures out_after { take result out.new ≡ take at out.old ++ take n words.now }
+// Some words.
+pub fn put(out: &mut [u8], at: usize, words: &[u8]) -> usize
+    requires { at + length words.now ≤ length out.old }
+    ensures value { result ≡ at + length words.now }
+    ensures out_after { take result out.new ≡ take at out.old ++ words.now }
 {
-    out[at..at + n].copy_from_slice(&words[0..n]);
-    at + n
-}
-
-// The first n of some decimal digits.
-fn put_digits(out: &mut [u8], at: usize, digits: &[u8; 20], n: usize) -> usize
-    requires { (n ≤ length digits.now) × (at + n ≤ length out.old) }
-    ensures value { result ≡ at + n }
-    ensures out_after { take result out.new ≡ take at out.old ++ take n digits.now }
-{
-    put(out, at, digits, n)
+    let next = at + words.len();
+    out[at..next].copy_from_slice(words);
+    next
 }
 
 // A whole number in decimal.
@@ -33,7 +25,7 @@ pub fn number(out: &mut [u8], at: usize, n: u64) -> usize
 {
     let mut digits = [0u8; 20];
     let count = io::decimal(n, &mut digits);
-    put_digits(out, at, &digits, count)
+    put(out, at, &digits[..count])
 }
 
 // a - b in decimal.
@@ -43,7 +35,7 @@ pub fn difference(out: &mut [u8], at: usize, a: u64, b: u64) -> usize
     ensures out_after { take result out.new ≡ take at out.old ++ whole_text (pos a -ℤ pos b) }
 {
     if a < b {
-        let next = put(out, at, b"-", 1);
+        let next = put(out, at, b"-");
         return number(out, next, b - a);
     }
     number(out, at, a - b)
@@ -55,5 +47,5 @@ pub fn newline(out: &mut [u8], at: usize) -> usize
     ensures value { result ≡ at + 1 }
     ensures out_after { take result out.new ≡ take at out.old ++ Newline }
 {
-    put(out, at, b"\n", 1)
+    put(out, at, b"\n")
 }

@@ -2,11 +2,11 @@
 // count, and writes their totals to standard output: document 02, request 13.
 #![tactic(auto)]
 
-ghost use Rattle.std.specs.Prelude.{◌≡◌, false, List, ℕ, ◌≤◌, ◌<◌, length, take};
+ghost use Rattle.std.specs.Prelude.{IfSome, ◌≡◌, List, ℕ, ◌≤◌, length, take};
 ghost use Rattle.heights.specs.Weights.{weight_table};
 ghost use Rattle.lane_totals.specs.Kept.{Lent};
-ghost use Rattle.season.specs.Run.{files_in, Running, Reached};
-ghost use Rattle.totals.specs.Input.{ReadMore, Ended};
+ghost use Rattle.season.specs.Run.{Running, Reached};
+ghost use Rattle.totals.specs.Input.{ReadMore, Onward, Ended};
 
 use lane_totals::sums;
 use lane_totals::sums::Sums;
@@ -32,8 +32,7 @@ fn take_turn(
     requires lent { Lent 7500 (length breaks.old) (length coefficients.old) (length other_breaks.old)
         (length other_coefficients.old) × (weights.now ≡ weight_table) }
     ensures by_index { (seen : List ℕ) → Reached seen (take filled buffer.old) before → ReadMore seen buffer.new result }
-    ensures running { (result.stopped ≡ false → Running result.sums) × (result.ended ≡ false
-        → (result.stopped ≡ false) × (result.filled ≤ 60002) × (files_in before < files_in result.sums)) }
+    ensures running { Onward before result }
 {
     let count = io::read_full(STDIN_FILENO, &mut buffer[filled..]);
     let end = filled + count;
@@ -51,11 +50,10 @@ fn take_turn(
 }
 
 // Writes the answer to what was read. A write that fails ends the output.
-fn tell(turn: Turn, out: &mut [u8])
-    requires { (4096 ≤ length out.old) × (turn.stopped ≡ false → Running turn.sums) × Ended turn }
+fn tell(outcome: Option<Sums>, out: &mut [u8])
+    requires { (4096 ≤ length out.old) × IfSome outcome Running × Ended outcome }
 {
-    let sums = turn.sums;
-    let to = season::answer(turn.stopped, sums, out);
+    let to = season::answer(outcome, out);
     io::write_all(STDOUT_FILENO, &out[0..to]);
 }
 
@@ -86,12 +84,16 @@ fn run(
             other_breaks,
             other_coefficients,
         );
-        if turn.ended {
-            tell(turn, out);
-            return;
+        match turn {
+            Turn::Ended(outcome) => {
+                tell(outcome, out);
+                return;
+            }
+            Turn::Goes { filled: left, sums } => {
+                filled = left;
+                all = sums;
+            }
         }
-        all = turn.sums;
-        filled = turn.filled;
     }
 }
 

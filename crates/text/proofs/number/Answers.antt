@@ -6,6 +6,6 @@ pub returns-clause-out_after : goal.returns-clause-out_after
 returns-clause-out_after c =
     let s = c.args in
     let few = few_digits s.n c.decimal-count.result (omega arith) c.decimal-count.ensures.len in
-    c.put_digits.ensures.out_after
+    c.put.ensures.out_after
     ∙ ap (λ (t : List ℕ). take s.at s.out.now ++ t)
     (c.decimal-count.ensures.digits ∙ decimal_is 20 c.decimal-count.result s.n c.decimal-count.ensures.len few)

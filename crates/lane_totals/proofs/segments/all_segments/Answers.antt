@@ -14,13 +14,13 @@ use Rattle.lane_totals.proofs.segments.all_segments.Goals as goal
 
 pub loop-i-init : goal.loop-i-init
 unfolding first_of lane_over
-loop-i-init c = (omega arith, record { upto = refl; there = c.one_lane-all.ensures.0; kept = c.one_lane-all.ensures.1 })
+loop-i-init c = record { upto = refl; there = c.one_lane-all.ensures.0; kept = c.one_lane-all.ensures.1 }
 
 pub controls_on-c-requires : goal.controls_on-c-requires
 controls_on-c-requires c =
     let a = c.args in
     let b = a.coefficients.now in
-    let h = segment_inside a.n a.m a.at c.loop-i.i a.breaks.now (map number_of b) c.requires.0 c.loop-i-test.true in
+    let h = segment_inside a.n a.m a.at c.loop-i.i a.breaks.now (map number_of b) c.requires.0 (omega arith) in
     (h.0, omega (arith, h.1, length-map b number_of))
 
 pub returns-then-c : goal.returns-then-c
@@ -28,7 +28,7 @@ returns-then-c c =
     let a = c.args in
     let l = c.loop-i in
     let set = set_with a.breaks.now (map number_of a.coefficients.now) a.n a.m a.at in
-    let e : all_fit set ≡ false = every_not (segment_fits set) a.n l.i c.loop-i-test.true l.invariant.1.upto
+    let e : all_fit set ≡ false = every_not (segment_fits set) a.n l.i (omega arith) l.invariant.upto
     (ap not (sym c.controls_on-c.ensures.turned_away ∙ c.if-c.true)) in (
       rw e c.one_away.ensures.0,
       kept_wider 1 0 20000 _ (omega arith) c.one_away.ensures.1,
@@ -40,7 +40,7 @@ steps-one-requires c = (c.requires.1, c.controls_on-c.ensures.small)
 pub merged-all-requires : goal.merged-all-requires
 merged-all-requires c =
     let l = c.loop-i in (
-      kept_small 1 l.i l.all (omega arith) (omega (arith, l.invariant.0, c.requires.0.2)) l.invariant.1.kept,
+      kept_small 1 l.i l.all (omega arith) (omega (arith, c.requires.0.2)) l.invariant.kept,
       kept_small 0 1 c.steps-one.result (omega arith) (omega arith) c.steps-one.ensures.1,
     )
 
@@ -49,21 +49,19 @@ loop-i-preserved c =
     let a = c.args in
     let l = c.loop-i in
     let set = set_with a.breaks.now (map number_of a.coefficients.now) a.n a.m a.at in
-    let fits : any_beyond (controls_on set l.i) ≡ false = sym c.controls_on-c.ensures.turned_away ∙ c.if-c.false in (
-      omega arith,
-      gathered_next set l.all c.steps-one.result c.merged-all.result l.i l.invariant.1 fits
+    let fits : any_beyond (controls_on set l.i) ≡ false = sym c.controls_on-c.ensures.turned_away ∙ c.if-c.false in
+    gathered_next set l.all c.steps-one.result c.merged-all.result l.i l.invariant fits
           (c.steps-one.ensures.0
           ∙ ap (λ (w : List ℤ). step_totals 256 (height_of w)) (c.controls_on-c.ensures.wholes (c.controls_on-c.ensures.turned_away ∙
           fits)))
-          c.steps-one.ensures.1 c.merged-all.ensures,
-    )
+          c.steps-one.ensures.1 c.merged-all.ensures
 
 pub returns : goal.returns
 returns c =
     let a = c.args in
     let l = c.loop-i in
     let set = set_with a.breaks.now (map number_of a.coefficients.now) a.n a.m a.at in
-    let e : l.i ≡ a.n = omega (arith, l.invariant.0, c.loop-i-test.false) in
-    let g : Gathered set l.all a.n = subst (Gathered set l.all) e l.invariant.1 in
+    let e : l.i ≡ a.n = omega arith in
+    let g : Gathered set l.all a.n = subst (Gathered set l.all) e l.invariant in
     let f : all_fit set ≡ true = every_all (segment_fits set) a.n g.upto in
     (rw f g.there, kept_wider 1 a.n 20000 _ c.requires.0.2 g.kept)

@@ -2,10 +2,10 @@ use Rattle.std.proofs.Common.{arith}
 use Rattle.season.specs.Printed.{printed_of}
 use Rattle.season.proofs.lines.answer.Goals as goal
 
-pub returns-then-stopped : goal.returns-then-stopped
+pub returns-in-None : goal.returns-in-None
 unfolding printed_of
-returns-then-stopped c = (omega (arith, c.put.ensures.value), rw c.if-stopped.true c.put.ensures.out_after)
+returns-in-None c = (omega (arith, c.put.ensures.value), rw c.in-None.is c.put.ensures.out_after)
 
-pub returns : goal.returns
+pub returns-in-Some : goal.returns-in-Some
 unfolding printed_of
-returns c = (c.all_lines.ensures.0, rw c.if-stopped.false c.all_lines.ensures.1)
+returns-in-Some c = (c.all_lines.ensures.0, rw c.in-Some.is c.all_lines.ensures.1)
