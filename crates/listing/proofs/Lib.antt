@@ -1,4 +1,3 @@
 -- Laws about the cases.
-pub mod Lines
 pub mod Printing
 pub mod Products

@@ -109,6 +109,14 @@ cells_none g = refl
 pub same_take : {A : Type 0} (n i : ℕ) (l : List A) → length l ≤ i → i ≤ n → take i l ≡ take n l
 same_take n i l h g = take_all i l h ∙ sym (take_all n l (omega arith))
 
+-- no more lies in a list than its length
+pub take_min : {A : Type 0} (k n : ℕ) (l : List A) → k ≡ min n (length l) → take k l ≡ take n l
+take_min k n l e = go (ltb n (length l)) refl
+  where
+    go : (b : Bool) → ltb n (length l) ≡ b → take k l ≡ take n l
+    go true h = let w : n < length l = ltb-true n (length l) h in let m : k ≡ n = omega arith in ap (λ i. take i l) m
+    go false h = let w : length l ≤ n = ltb-false n (length l) h in let m : k ≡ length l = omega arith in same_take n k l (omega arith) (omega arith)
+
 -- a byte, and a text after it
 pub byte_then : (g : List ℕ × ℕ) (a : ℕ) {p q : List ℕ × ℕ} {s t : List ℕ} → q ≡ printed p s → p ≡ put g a → s ≡ t → q ≡ printed g (a ∷ t)
 byte_then g a {s = s} e k h = e ∙ ap (λ o. printed o s) k ∙ sym (printed_more g a s) ∙ ap (λ l. printed g (a ∷ l)) h

@@ -2,11 +2,6 @@
 ghost use Rattle.std.specs.Prelude.{◌≡◌, ◌≤◌};
 ghost use Rattle.listing.specs.Axes.{byte_of, axes_of};
 
-#[derive(Clone, Copy)]
-pub struct Axes {
-    pub listed: [usize; 16],
-}
-
 // Byte j of a whole number of four bytes.
 pub fn byte_of(word: u64, j: usize) -> usize
     ensures { result ≡ byte_of word j }
@@ -20,15 +15,13 @@ pub fn byte_of(word: u64, j: usize) -> usize
 }
 
 // The axes of the four whole numbers from `from` on.
-pub fn axes_of(wholes: &[u64; 16], from: usize) -> Axes
+pub fn axes_of(wholes: &[u64; 16], from: usize) -> [usize; 16]
     requires { from ≤ 12 }
-    ensures { result.listed ≡ axes_of 16 wholes.now from }
+    ensures { result ≡ axes_of 16 wholes.now from }
 {
     let mut listed = [0; 16];
-    let mut i = 0;
-    while i < 16 {
+    for i in 0..16 {
         listed[i] = byte_of(wholes[from + i / 4], i % 4);
-        i += 1;
     }
-    Axes { listed }
+    listed
 }

@@ -6,10 +6,7 @@ ghost use Rattle.std.specs.Prelude.{◌≤◌};
 pub fn rows(d: usize, n: usize) -> usize
     ensures { result ≤ 1940000 }
 {
-    if 16 < d {
-        return 0;
-    }
-    if 20000 < n {
+    if 16 < d || 20000 < n {
         return 0;
     }
     6 * (n * d) + n
@@ -19,10 +16,7 @@ pub fn rows(d: usize, n: usize) -> usize
 pub fn breaks(n: usize) -> usize
     ensures { result ≤ 20001 }
 {
-    if n == 0 {
-        return 0;
-    }
-    if 20000 < n {
+    if n == 0 || 20000 < n {
         return 0;
     }
     n + 1

@@ -5,7 +5,6 @@ ghost use Rattle.listing.specs.Lines.{Unanswered};
 
 use listing::list::Head;
 use listing::output;
-use listing::output::Line;
 use polynomial::audit::Parts;
 use polynomial::interval::Unaudited;
 
@@ -33,10 +32,7 @@ fn layout(d: usize, n: usize, m: usize) -> Parts
 
 // The cells in that order: the curve, which is first in a case, comes last. Whether it could be done.
 fn arrange(cells: &[f64], work: &mut [f64], curve: usize) -> bool {
-    if work.len() < cells.len() {
-        return false;
-    }
-    if cells.len() < curve {
+    if work.len() < cells.len() || cells.len() < curve {
         return false;
     }
     let rest = cells.len() - curve;
@@ -46,13 +42,11 @@ fn arrange(cells: &[f64], work: &mut [f64], curve: usize) -> bool {
 }
 
 // The line of an audit: the bounds and the witnesses, which lie one after the other, or the number.
-fn line(outcome: Result<(), Unaudited>, list: &[f64], out: &mut [u8], at: usize) -> Line
-    ensures { result.good ≡ true }
-{
+fn line(outcome: Result<(), Unaudited>, list: &[f64], out: &mut [u8], at: usize) -> usize {
     let next = output::text(out, at, b"audit");
     match outcome {
         Ok(()) => {
-            let next = output::cells(out, next, list, list.len());
+            let next = output::cells(out, next, list);
             output::end(out, next)
         }
         Err(e) => output::refused(out, next, e.number() as u64),
@@ -70,21 +64,15 @@ fn answer(
     work: &mut [f64],
     out: &mut [u8],
     at: usize,
-) -> Line
+) -> Option<usize>
     requires { (d ≤ 16) × (n ≤ 65536) × (0 < m) × (m ≤ 65536) × (first < n) × (last < n) }
-    ensures { Unanswered out.old at out.new result }
+    ensures { Unanswered out.old out.new result }
 {
     let p = layout(d, n, m);
     let bounds = p.bounds;
     let breaks = p.breaks;
-    if p.coefficients + m * (6 * d) != cells.len() {
-        return output::unanswered(at);
-    }
-    if !arrange(cells, work, breaks) {
-        return output::unanswered(at);
-    }
-    if work.len() < cells.len() {
-        return output::unanswered(at);
+    if p.coefficients + m * (6 * d) != cells.len() || !arrange(cells, work, breaks) || work.len() < cells.len() {
+        return None;
     }
     let r = polynomial::audit::audit(work, p, first, last);
     let outcome = r.outcome;
@@ -92,8 +80,8 @@ fn answer(
 }
 
 // Kind 50, whole numbers d, n, first, last, segments: the bounds and the witnesses after the audit.
-pub fn audit(head: Head, cells: &[f64], work: &mut [f64], out: &mut [u8], at: usize) -> Line
-    ensures { Unanswered out.old at out.new result }
+pub fn audit(head: Head, cells: &[f64], work: &mut [f64], out: &mut [u8], at: usize) -> Option<usize>
+    ensures { Unanswered out.old out.new result }
 {
     let wholes = head.wholes;
     let d = wholes[0] as usize;
@@ -101,23 +89,8 @@ pub fn audit(head: Head, cells: &[f64], work: &mut [f64], out: &mut [u8], at: us
     let first = wholes[2] as usize;
     let last = wholes[3] as usize;
     let m = wholes[4] as usize;
-    if 16 < d {
-        return output::unanswered(at);
-    }
-    if 65536 < n {
-        return output::unanswered(at);
-    }
-    if m < 1 {
-        return output::unanswered(at);
-    }
-    if 65536 < m {
-        return output::unanswered(at);
-    }
-    if n <= first {
-        return output::unanswered(at);
-    }
-    if n <= last {
-        return output::unanswered(at);
+    if 16 < d || 65536 < n || m < 1 || 65536 < m || n <= first || n <= last {
+        return None;
     }
     answer(d, n, m, first, last, cells, work, out, at)
 }

@@ -6,7 +6,6 @@ ghost use Rattle.listing.specs.Lines.{Unanswered};
 use certificate::certify::Refusal;
 use curve::{Curve, Mode};
 use listing::list::Head;
-use listing::output::Line;
 use listing::{axes, output};
 use request::parameters::Spacing;
 
@@ -81,8 +80,7 @@ fn find_parts(wholes: &[u64; 16], count: usize) -> Parts
 }
 
 // The line of a certificate.
-fn line(certificate: Result<Option<f64>, Refusal>, out: &mut [u8], at: usize) -> Line
-    ensures { result.good ≡ true }
+fn line(certificate: Result<Option<f64>, Refusal>, out: &mut [u8], at: usize) -> usize
 {
     let next = output::text(out, at, b"certify");
     match certificate {
@@ -145,23 +143,20 @@ fn answer(
 
 // Kind 90, whole numbers d, k, segments of both sets, n, four of axes, six counts of cells, and the
 // axis with the parameter mode and the depth: the certified figure.
-pub fn certify(head: Head, cells: &[f64], out: &mut [u8], at: usize) -> Line
-    ensures { Unanswered out.old at out.new result }
+pub fn certify(head: Head, cells: &[f64], out: &mut [u8], at: usize) -> Option<usize>
+    ensures { Unanswered out.old out.new result }
 {
     let wholes = head.wholes;
     let p = find_parts(&wholes, cells.len());
-    if !p.good {
-        return output::unanswered(at);
-    }
-    if cells.len() < 2 {
-        return output::unanswered(at);
+    if !p.good || cells.len() < 2 {
+        return None;
     }
     let word = wholes[15];
     let axis = word % 256;
     let mode = word / 256 % 256;
     let depth = word / 65536;
     if 2 < mode {
-        return output::unanswered(at);
+        return None;
     }
     let found = axes::axes_of(&wholes, 5);
     let axes = found.listed;

@@ -4,7 +4,6 @@ ghost use Rattle.listing.specs.Lines.{Unanswered};
 
 use curve::{Curve, Mode};
 use listing::list::Head;
-use listing::output::Line;
 use listing::{axes, output, sizes};
 
 // The slices of a case's cells after `start` and `end`: where the first begins, and where each of the
@@ -32,19 +31,7 @@ fn find_slices(d: usize, k: usize, n: usize, others: usize, queries: usize, coun
         other_breaks: 0,
         other_coefficients: 0,
     };
-    if 16 < d {
-        return bad;
-    }
-    if d < k {
-        return bad;
-    }
-    if 20000 < n {
-        return bad;
-    }
-    if 20000 < others {
-        return bad;
-    }
-    if 65536 < queries {
+    if 16 < d || d < k || 20000 < n || 20000 < others || 65536 < queries {
         return bad;
     }
     let breaks = 3 + n;
@@ -134,8 +121,8 @@ fn queries<'a>(
 
 // Kind 80, whole numbers d, k, segments of both sets, queries and four of axes: values and derivatives
 // at every query.
-pub fn evaluate(head: Head, cells: &[f64], out: &mut [u8], at: usize) -> Line
-    ensures { Unanswered out.old at out.new result }
+pub fn evaluate(head: Head, cells: &[f64], out: &mut [u8], at: usize) -> Option<usize>
+    ensures { Unanswered out.old out.new result }
 {
     let wholes = head.wholes;
     let d = wholes[0] as usize;
@@ -143,11 +130,8 @@ pub fn evaluate(head: Head, cells: &[f64], out: &mut [u8], at: usize) -> Line
     let n = wholes[2] as usize;
     let others = wholes[3] as usize;
     let p = find_slices(d, k, n, others, wholes[4] as usize, cells.len());
-    if !p.good {
-        return output::unanswered(at);
-    }
-    if cells.len() < 2 {
-        return output::unanswered(at);
+    if !p.good || cells.len() < 2 {
+        return None;
     }
     let found = axes::axes_of(&wholes, 5);
     let axes = found.listed;

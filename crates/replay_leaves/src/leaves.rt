@@ -1,105 +1,83 @@
 // Cases of crate `float`.
-ghost use Rattle.std.specs.Prelude.{◌≡◌, true};
+ghost use Rattle.std.specs.Prelude.{◌≡◌};
 ghost use Rattle.listing.specs.Lines.{Unanswered};
 
 use listing::list::Head;
 use listing::output;
-use listing::output::Line;
 
-// Kinds 10, 11, 14 and 15: a number for a number.
-fn number(kind: u8, x: f64) -> f64 {
-    match kind {
-        10 => float::sqrt(x),
-        11 => float::abs(x),
-        14 => float::next_up(x),
-        _ => float::next_down(x),
+// What a leaf gives: a number, or a whole number.
+trait Told {
+    fn tell(self, out: &mut [u8], at: usize) -> usize;
+}
+
+impl Told for f64 {
+    fn tell(self, out: &mut [u8], at: usize) -> usize {
+        output::cell(out, at, self)
     }
 }
 
-// The name of a kind.
-fn name(kind: u8, out: &mut [u8], at: usize) -> usize {
-    match kind {
-        10 => output::text(out, at, b"sqrt"),
-        11 => output::text(out, at, b"abs"),
-        12 => output::text(out, at, b"max"),
-        13 => output::text(out, at, b"min"),
-        14 => output::text(out, at, b"next_up"),
-        15 => output::text(out, at, b"next_down"),
-        16 => output::text(out, at, b"total_cmp"),
-        17 => output::text(out, at, b"powi"),
-        _ => output::text(out, at, b"is_finite"),
+impl Told for u64 {
+    fn tell(self, out: &mut [u8], at: usize) -> usize {
+        output::whole(out, at, self)
     }
 }
 
-// A number for each cell.
-pub fn numbers(kind: u8, cells: &[f64], out: &mut [u8], at: usize) -> Line
-    ensures { result.good ≡ true }
+// What `leaf` gives for each cell.
+fn each<T: Told, F: Fn(f64) -> T>(name: &[u8], leaf: F, cells: &[f64], out: &mut [u8], at: usize) -> usize
+    requires { F.IsAlwaysCallable leaf }
 {
-    let mut next = name(kind, out, at);
-    let mut i = 0;
-    while i < cells.len() {
-        next = output::cell(out, next, number(kind, cells[i]));
-        i += 1;
+    let mut next = output::text(out, at, name);
+    for x in cells {
+        next = leaf(*x).tell(out, next);
     }
     output::end(out, next)
 }
 
-// Kind 16: 0, 1 or 2 where x comes before y, is y or comes after y.
+// What `leaf` gives for each two cells.
+fn each_two<T: Told, F: Fn(f64, f64) -> T>(name: &[u8], leaf: F, cells: &[f64], out: &mut [u8], at: usize) -> usize
+    requires { F.IsAlwaysCallable leaf }
+{
+    let mut next = output::text(out, at, name);
+    for two in cells.chunks_exact(2) {
+        next = leaf(two[0], two[1]).tell(out, next);
+    }
+    output::end(out, next)
+}
+
+// 0, 1 or 2 where x comes before y, is y or comes after y.
 fn compared(x: f64, y: f64) -> u64 {
-    if float::total_le(x, y) {
-        if float::total_le(y, x) { 1 } else { 0 }
-    } else {
-        2
+    if !float::total_le(x, y) {
+        return 2;
     }
+    u64::from(float::total_le(y, x))
 }
 
-// Kinds 12, 13 and 16: what comes of two numbers.
-fn pair(kind: u8, x: f64, y: f64, out: &mut [u8], at: usize) -> usize {
+// Kinds 10 to 16: a number for each cell, or an answer for each two.
+pub fn leaf(kind: u8, cells: &[f64], out: &mut [u8], at: usize) -> Option<usize>
+    ensures { Unanswered out.old out.new result }
+{
     match kind {
-        12 => output::cell(out, at, float::max(x, y)),
-        13 => output::cell(out, at, float::min(x, y)),
-        _ => output::whole(out, at, compared(x, y)),
+        10 => Some(each(b"sqrt", |x| float::sqrt(x), cells, out, at)),
+        11 => Some(each(b"abs", |x| float::abs(x), cells, out, at)),
+        12 => Some(each_two(b"max", |x, y| float::max(x, y), cells, out, at)),
+        13 => Some(each_two(b"min", |x, y| float::min(x, y), cells, out, at)),
+        14 => Some(each(b"next_up", |x| float::next_up(x), cells, out, at)),
+        15 => Some(each(b"next_down", |x| float::next_down(x), cells, out, at)),
+        16 => Some(each_two(b"total_cmp", compared, cells, out, at)),
+        _ => None,
     }
 }
 
-// An answer for each two cells.
-pub fn pairs(kind: u8, cells: &[f64], out: &mut [u8], at: usize) -> Line
-    ensures { result.good ≡ true }
+// Kinds 17 and 18, whole numbers n and the exponent: a power of each cell, or whether it is finite.
+pub fn power(head: Head, cells: &[f64], out: &mut [u8], at: usize) -> Option<usize>
+    ensures { Unanswered out.old out.new result }
 {
-    let mut next = name(kind, out, at);
-    let mut i = 1;
-    while i < cells.len() {
-        next = pair(kind, cells[i - 1], cells[i], out, next);
-        i += 2;
-    }
-    output::end(out, next)
-}
-
-// Kind 17, whole numbers n and the exponent; and kind 18.
-fn other(kind: u8, exponent: u32, x: f64, out: &mut [u8], at: usize) -> usize {
-    if kind == 17 {
-        return output::cell(out, at, float::powi(x, exponent));
-    }
-    if float::is_finite(x) {
-        return output::whole(out, at, 1);
-    }
-    output::whole(out, at, 0)
-}
-
-// A power of each cell, or whether it is finite.
-pub fn others(head: Head, cells: &[f64], out: &mut [u8], at: usize) -> Line
-    ensures { Unanswered out.old at out.new result }
-{
-    let kind = head.kind;
     let exponent = head.wholes[1];
     if 0x7fff_ffff < exponent {
-        return output::unanswered(at);
+        return None;
     }
-    let mut next = name(kind, out, at);
-    let mut i = 0;
-    while i < cells.len() {
-        next = other(kind, exponent as u32, cells[i], out, next);
-        i += 1;
+    if head.kind == 17 {
+        return Some(each(b"powi", |x| float::powi(x, exponent as u32), cells, out, at));
     }
-    output::end(out, next)
+    Some(each(b"is_finite", |x| u64::from(float::is_finite(x)), cells, out, at))
 }

@@ -9,7 +9,6 @@ ghost use Rattle.replay_requests.specs.Lending.{Asks, Ends, Within};
 use building::{Axes, Built, Limits, Tolerance};
 use curve::Mode;
 use listing::list::Head;
-use listing::output::Line;
 use listing::{axes, output};
 use replay_requests::parts::{MARK, Parts};
 use replay_requests::question::Question;
@@ -193,7 +192,7 @@ fn lend(
     errors: &mut [f64],
     out: &mut [u8],
     at: usize,
-) -> Line
+) -> Option<usize>
     requires { Asks q (length cells.now) × Ends p
         × Within p (length work.old) (length breaks.old) (length coefficients.old)
         (length other_breaks.old) (length other_coefficients.old) (length errors.old) }
@@ -247,17 +246,17 @@ pub fn answer(
     errors: &mut [f64],
     out: &mut [u8],
     at: usize,
-) -> Line
-    ensures { Unanswered out.old at out.new result }
+) -> Option<usize>
+    ensures { Unanswered out.old out.new result }
 {
     let kind = head.kind;
     let wholes = head.wholes;
     if kind != 70 {
-        return output::unanswered(at);
+        return None;
     }
     let q = question::asked(&wholes, head.count, cells.len());
     if !q.good {
-        return output::unanswered(at);
+        return None;
     }
     let p = parts::parts_asked(&wholes, q.d, q.n, q.segments);
     if !parts::fit(
@@ -269,7 +268,7 @@ pub fn answer(
         other_coefficients.len(),
         errors.len(),
     ) {
-        return output::unanswered(at);
+        return None;
     }
     let found = axes::axes_of(&wholes, 9);
     let listed = found.listed;

@@ -67,10 +67,10 @@ pub fn cells(q: &[f64], dq: &[f64], ddq: &[f64], dddq: &[f64], out: &mut [u8], a
     ensures { (out.new, result) ≡ printed (out.old, at) (outputs_text (outputs q.now dq.now
         ddq.now dddq.now)) }
 {
-    let next = output::cells(out, at, q, q.len());
-    let next = output::cells(out, next, dq, dq.len());
-    let next = output::cells(out, next, ddq, ddq.len());
-    output::cells(out, next, dddq, dddq.len())
+    let next = output::cells(out, at, q);
+    let next = output::cells(out, next, dq);
+    let next = output::cells(out, next, ddq);
+    output::cells(out, next, dddq)
 }
 
 // One query.

@@ -7,7 +7,6 @@ use crate::asked::Slices;
 use crate::{asked, calls, turns};
 use curve::Curve;
 use listing::list::Head;
-use listing::output::Line;
 use listing::{axes, output};
 
 // How many cells are lent of each of the four slices.
@@ -200,21 +199,18 @@ fn answer(
     dddq: &mut [f64],
     out: &mut [u8],
     at: usize,
-) -> Line
-    ensures { Unanswered out.old at out.new result }
+) -> Option<usize>
+    ensures { Unanswered out.old out.new result }
 {
     let kind = head.kind;
     let wholes = head.wholes;
     let p = asked::counted_slices(&wholes, cells.len());
-    if !p.good {
-        return output::unanswered(at);
-    }
-    if cells.len() < 2 {
-        return output::unanswered(at);
+    if !p.good || cells.len() < 2 {
+        return None;
     }
     let mode = wholes[13];
     if 1 < mode {
-        return output::unanswered(at);
+        return None;
     }
     let lengths = Lengths {
         q: length_of(wholes[14], 0, q.len()),
@@ -243,8 +239,8 @@ fn answer(
 
 // Kinds 81 to 83, whole numbers d, k, segments of both sets, four of axes, four counts of cells, order,
 // mode, the lengths of the four slices and the queries: the answer, and all cells of the slices.
-pub fn query(head: Head, cells: &[f64], out: &mut [u8], at: usize) -> Line
-    ensures { Unanswered out.old at out.new result }
+pub fn query(head: Head, cells: &[f64], out: &mut [u8], at: usize) -> Option<usize>
+    ensures { Unanswered out.old out.new result }
 {
     let mut q = [0.0; 256];
     let mut dq = [0.0; 256];

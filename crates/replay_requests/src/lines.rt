@@ -4,7 +4,6 @@ ghost use Rattle.std.specs.Prelude.{◌≡◌, true};
 use crate::parts::{MARK, Parts, Room};
 use building::{Answer, Built, Report};
 use curve::Curve;
-use listing::output::Line;
 use listing::{output, sizes};
 
 // How many axes are not selected.
@@ -116,13 +115,7 @@ fn is_zero(buffer: &[f64], from: usize, to: usize) -> bool {
 
 // Whether only the first `used` cells of a part that ends at `end` were written, and none around it.
 fn is_kept(buffer: &[f64], end: usize, used: usize) -> bool {
-    if buffer.len() < end {
-        return false;
-    }
-    if end < used {
-        return false;
-    }
-    if !is_marked(buffer, 0, 8) {
+    if buffer.len() < end || end < used || !is_marked(buffer, 0, 8) {
         return false;
     }
     is_marked(buffer, used + 8, end + 8)
@@ -130,13 +123,7 @@ fn is_kept(buffer: &[f64], end: usize, used: usize) -> bool {
 
 // Whether all cells of a part that ends at `end` are cleared, and none was written around it.
 fn is_clear(buffer: &[f64], end: usize) -> bool {
-    if buffer.len() < end {
-        return false;
-    }
-    if !is_marked(buffer, 0, 8) {
-        return false;
-    }
-    if !is_zero(buffer, 8, end) {
+    if buffer.len() < end || !is_marked(buffer, 0, 8) || !is_zero(buffer, 8, end) {
         return false;
     }
     is_marked(buffer, end, end + 8)
@@ -152,13 +139,7 @@ fn are_kept(
     other_coefficients: &[f64],
     errors: &[f64],
 ) -> bool {
-    if !is_kept(breaks, p.breaks, used.breaks) {
-        return false;
-    }
-    if !is_kept(coefficients, p.coefficients, used.coefficients) {
-        return false;
-    }
-    if !is_kept(other_breaks, p.other_breaks, used.other_breaks) {
+    if !is_kept(breaks, p.breaks, used.breaks) || !is_kept(coefficients, p.coefficients, used.coefficients) || !is_kept(other_breaks, p.other_breaks, used.other_breaks) {
         return false;
     }
     if !is_kept(
@@ -190,8 +171,7 @@ fn is_of(curve: Curve, report: Report) -> bool {
 }
 
 // The end of the line: a word where a cell is not as it should be.
-fn end(good: bool, out: &mut [u8], at: usize) -> Line
-    ensures { result.good ≡ true }
+fn end(good: bool, out: &mut [u8], at: usize) -> usize
 {
     if good {
         return output::end(out, at);
@@ -213,8 +193,7 @@ fn accepted(
     errors: &[f64],
     out: &mut [u8],
     at: usize,
-) -> Line
-    ensures { result.good ≡ true }
+) -> usize
 {
     let used = used_of(curve);
     let next = report(told, curve, out, at);
@@ -258,8 +237,7 @@ fn refused(
     errors: &[f64],
     out: &mut [u8],
     at: usize,
-) -> Line
-    ensures { result.good ≡ true }
+) -> usize
 {
     let none = Room {
         work: 0,
@@ -307,8 +285,7 @@ pub fn line(
     errors: &[f64],
     out: &mut [u8],
     at: usize,
-) -> Line
-    ensures { result.good ≡ true }
+) -> usize
 {
     let answer = built.answer;
     let next = output::text(out, at, b"build");

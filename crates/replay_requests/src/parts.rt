@@ -142,19 +142,7 @@ pub fn fit(
 ) -> bool
     ensures { result ≡ true → Within p work breaks coefficients other_breaks other_coefficients errors }
 {
-    if !holds(p.work, work) {
-        return false;
-    }
-    if !holds(p.breaks, breaks) {
-        return false;
-    }
-    if !holds(p.coefficients, coefficients) {
-        return false;
-    }
-    if !holds(p.other_breaks, other_breaks) {
-        return false;
-    }
-    if !holds(p.other_coefficients, other_coefficients) {
+    if !holds(p.work, work) || !holds(p.breaks, breaks) || !holds(p.coefficients, coefficients) || !holds(p.other_breaks, other_breaks) || !holds(p.other_coefficients, other_coefficients) {
         return false;
     }
     holds(p.errors, errors)

@@ -91,10 +91,7 @@ pub fn asked(wholes: &[u64; 16], numbers: usize, count: usize) -> Question
 // Whether the tolerance's mode is 0 or 1, with one tolerance in mode 0, and that of the parameters 0, 1
 // or 2, with none unless they are listed, in mode 1.
 fn modes_fit(tolerance: u64, tolerances: usize, parameter: u64, parameters: usize) -> bool {
-    if 1 < tolerance {
-        return false;
-    }
-    if 2 < parameter {
+    if 1 < tolerance || 2 < parameter {
         return false;
     }
     if tolerance == 0 {

@@ -12,7 +12,6 @@ ghost use Rattle.replay_returns.specs.Returned.{marked_slices, returned_text};
 use curve::Curve;
 use listing::list::Head;
 use listing::output;
-use listing::output::Line;
 use replay_queries::asked::Slices;
 use replay_queries::queries::Lengths;
 use replay_queries::{asked, calls, queries};
@@ -148,16 +147,13 @@ fn answer(
     d: &mut [f64],
     out: &mut [u8],
     at: usize,
-) -> Line
-    ensures { Unanswered out.old at out.new result }
+) -> Option<usize>
+    ensures { Unanswered out.old out.new result }
 {
     let wholes = head.wholes;
     let p = asked::counted_slices(&wholes, cells.len());
-    if !p.good {
-        return output::unanswered(at);
-    }
-    if cells.len() < 2 {
-        return output::unanswered(at);
+    if !p.good || cells.len() < 2 {
+        return None;
     }
     let lengths = Lengths {
         q: queries::length_of(wholes[12], 0, a.len()),
@@ -173,8 +169,8 @@ fn answer(
 
 // Kind 84, whole numbers d, k, segments of both sets, four of axes, four counts of cells and the lengths of
 // the four lent slices: the answer, and all cells of those slices.
-pub fn returned(head: Head, cells: &[f64], out: &mut [u8], at: usize) -> Line
-    ensures { Unanswered out.old at out.new result }
+pub fn returned(head: Head, cells: &[f64], out: &mut [u8], at: usize) -> Option<usize>
+    ensures { Unanswered out.old out.new result }
 {
     let mut a = [0.0; 256];
     let mut b = [0.0; 256];

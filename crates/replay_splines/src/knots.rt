@@ -4,7 +4,6 @@ ghost use Rattle.listing.specs.Lines.{Unanswered};
 
 use listing::list::Head;
 use listing::output;
-use listing::output::Line;
 use seed::Waypoints;
 
 // d cells for each of n waypoints.
@@ -16,23 +15,17 @@ fn rows(d: usize, n: usize) -> usize
 }
 
 // Kind 60, whole numbers d and n: the number of seeded knots, and the knots.
-pub fn seeded(head: Head, cells: &[f64], work: &mut [f64], out: &mut [u8], at: usize) -> Line
-    ensures { Unanswered out.old at out.new result }
+pub fn seeded(head: Head, cells: &[f64], work: &mut [f64], out: &mut [u8], at: usize) -> Option<usize>
+    ensures { Unanswered out.old out.new result }
 {
     let d = head.wholes[0] as usize;
     let n = head.wholes[1] as usize;
-    if 16 < d {
-        return output::unanswered(at);
-    }
-    if 65536 < n {
-        return output::unanswered(at);
+    if 16 < d || 65536 < n {
+        return None;
     }
     let knots = n + rows(d, n);
-    if cells.len() != knots {
-        return output::unanswered(at);
-    }
-    if work.len() < knots + 3 * n {
-        return output::unanswered(at);
+    if cells.len() != knots || work.len() < knots + 3 * n {
+        return None;
     }
     window::copy(work, cells);
     let count = seed::seed(
@@ -47,8 +40,8 @@ pub fn seeded(head: Head, cells: &[f64], work: &mut [f64], out: &mut [u8], at: u
     );
     let next = output::text(out, at, b"seed");
     let next = output::whole(out, next, count as u64);
-    let next = output::cells(out, next, &work[knots..], count);
-    output::end(out, next)
+    let next = output::first_cells(out, next, &work[knots..], count);
+    Some(output::end(out, next))
 }
 
 // How many regions the locations x have, on a spline with the knots t and m controls.
@@ -77,41 +70,34 @@ fn ends(t: &[f64], m: usize, x: &[f64], out: &mut [u8], at: usize) -> usize {
 }
 
 // Kind 61, whole numbers knots and count: the number of regions, and the ends of each.
-pub fn regions(head: Head, cells: &[f64], out: &mut [u8], at: usize) -> Line
-    ensures { Unanswered out.old at out.new result }
+pub fn regions(head: Head, cells: &[f64], out: &mut [u8], at: usize) -> Option<usize>
+    ensures { Unanswered out.old out.new result }
 {
     let knots = head.wholes[0] as usize;
     let count = head.wholes[1] as usize;
-    if knots < 6 {
-        return output::unanswered(at);
+    if knots < 6 || cells.len() < knots || cells.len() - knots != count {
+        return None;
     }
-    if cells.len() < knots {
-        return output::unanswered(at);
-    }
-    if cells.len() - knots != count {
-        return output::unanswered(at);
-    }
-    let t = &cells[..knots];
-    let x = &cells[knots..];
+    let (t, x) = cells.split_at(knots);
     let next = output::text(out, at, b"regions");
     let next = output::whole(out, next, count_regions(t, knots - 6, x) as u64);
     let next = ends(t, knots - 6, x, out, next);
-    output::end(out, next)
+    Some(output::end(out, next))
 }
 
 // Kind 62: the number of cells once sorted and without repeats, and these.
-pub fn sort_dedup(cells: &[f64], work: &mut [f64], out: &mut [u8], at: usize) -> Line
-    ensures { Unanswered out.old at out.new result }
+pub fn sort_dedup(cells: &[f64], work: &mut [f64], out: &mut [u8], at: usize) -> Option<usize>
+    ensures { Unanswered out.old out.new result }
 {
     let n = cells.len();
     if work.len() < n {
-        return output::unanswered(at);
+        return None;
     }
     window::copy(work, cells);
     sorting::sort(&mut work[..n]);
     let count = sorting::dedup(&mut work[..n]);
     let next = output::text(out, at, b"sort_dedup");
     let next = output::whole(out, next, count as u64);
-    let next = output::cells(out, next, work, count);
-    output::end(out, next)
+    let next = output::first_cells(out, next, work, count);
+    Some(output::end(out, next))
 }

@@ -5,99 +5,82 @@ ghost use Rattle.listing.specs.Lines.{Unanswered};
 use bspline::Spline;
 use listing::list::Head;
 use listing::output;
-use listing::output::Line;
 
 // Kinds 20 and 21, whole number n: x, and a list of n.
-pub fn point(head: Head, cells: &[f64], out: &mut [u8], at: usize) -> Line
-    ensures { Unanswered out.old at out.new result }
+pub fn point(head: Head, cells: &[f64], out: &mut [u8], at: usize) -> Option<usize>
+    ensures { Unanswered out.old out.new result }
 {
-    let kind = head.kind;
-    let n = head.wholes[0];
-    if cells.len() == 0 {
-        return output::unanswered(at);
+    let (x, list) = cells.split_first()?;
+    if head.wholes[0] != list.len() as u64 {
+        return None;
     }
-    if n != (cells.len() - 1) as u64 {
-        return output::unanswered(at);
-    }
-    let x = cells[0];
-    if kind == 20 {
-        let found = bspline::search::partition_point_le(&cells[1..], x);
-        let next = output::text(out, at, b"partition_point_le");
-        let next = output::whole(out, next, found as u64);
-        return output::end(out, next);
-    }
-    let found = bspline::search::partition_point_lt(&cells[1..], x);
-    let next = output::text(out, at, b"partition_point_lt");
-    let next = output::whole(out, next, found as u64);
-    output::end(out, next)
+    let next = match head.kind {
+        20 => {
+            let found = bspline::search::partition_point_le(list, *x);
+            let next = output::text(out, at, b"partition_point_le");
+            output::whole(out, next, found as u64)
+        }
+        _ => {
+            let found = bspline::search::partition_point_lt(list, *x);
+            let next = output::text(out, at, b"partition_point_lt");
+            output::whole(out, next, found as u64)
+        }
+    };
+    Some(output::end(out, next))
 }
 
 // The six values on a span.
-fn values(t: &[f64], span: usize, x: f64, out: &mut [u8], at: usize) -> Line
-    ensures { Unanswered out.old at out.new result }
+fn values(t: &[f64], span: usize, x: f64, out: &mut [u8], at: usize) -> Option<usize>
+    ensures { Unanswered out.old out.new result }
 {
-    if span < 5 {
-        return output::unanswered(at);
-    }
-    if t.len() <= span {
-        return output::unanswered(at);
-    }
-    if t.len() - span <= 5 {
-        return output::unanswered(at);
+    if span < 5 || t.len() <= span || t.len() - span <= 5 {
+        return None;
     }
     let six = bspline::basis::values(t, span, x);
     let next = output::text(out, at, b"values");
     let next = output::whole(out, next, (span - 5) as u64);
-    let next = output::six(out, next, &six);
-    output::end(out, next)
+    let next = output::cells(out, next, &six);
+    Some(output::end(out, next))
 }
 
 // The 36 coefficients on a span.
-fn powers(t: &[f64], span: u64, x: f64, out: &mut [u8], at: usize) -> Line
-    ensures { Unanswered out.old at out.new result }
+fn powers(t: &[f64], span: u64, x: f64, out: &mut [u8], at: usize) -> Option<usize>
+    ensures { Unanswered out.old out.new result }
 {
-    if span < 5 {
-        return output::unanswered(at);
-    }
-    if t.len() as u64 <= span {
-        return output::unanswered(at);
+    if span < 5 || t.len() as u64 <= span {
+        return None;
     }
     let place = span as usize;
     if t.len() - place <= 5 {
-        return output::unanswered(at);
+        return None;
     }
     let rows = bspline::basis::powers(t, place, x);
     let next = output::text(out, at, b"powers");
-    let next = output::rows(out, next, &rows);
-    output::end(out, next)
+    let next = output::cells(out, next, &rows);
+    Some(output::end(out, next))
 }
 
 // Kinds 22, 23 and 24, whole numbers knots and, for 24, span: the knots, then x.
-pub fn basis(head: Head, cells: &[f64], out: &mut [u8], at: usize) -> Line
-    ensures { Unanswered out.old at out.new result }
+pub fn basis(head: Head, cells: &[f64], out: &mut [u8], at: usize) -> Option<usize>
+    ensures { Unanswered out.old out.new result }
 {
-    let kind = head.kind;
-    let n = head.wholes[0];
-    let given = head.wholes[1];
     if cells.len() < 13 {
-        return output::unanswered(at);
+        return None;
     }
-    let knots = cells.len() - 1;
-    if n != knots as u64 {
-        return output::unanswered(at);
+    let (x, t) = cells.split_last()?;
+    if head.wholes[0] != t.len() as u64 {
+        return None;
     }
-    let x = cells[knots];
-    let t = &cells[..knots];
-    if kind == 24 {
-        return powers(t, given, x, out, at);
+    if head.kind == 24 {
+        return powers(t, head.wholes[1], *x, out, at);
     }
-    let span = bspline::search::span(t, knots - 6, x);
-    if kind == 23 {
-        return values(t, span, x, out, at);
+    let span = bspline::search::span(t, t.len() - 6, *x);
+    if head.kind == 23 {
+        return values(t, span, *x, out, at);
     }
     let next = output::text(out, at, b"span");
     let next = output::whole(out, next, span as u64);
-    output::end(out, next)
+    Some(output::end(out, next))
 }
 
 // A product of a number of controls and one of cells for each.
@@ -110,23 +93,17 @@ fn product(a: usize, b: usize) -> usize
 
 // The insertion of x into the spline of `count` controls that lies in `work`, its knots at 0 and
 // its controls after one free cell.
-fn inserted(work: &mut [f64], count: usize, d: usize, x: f64, out: &mut [u8], at: usize) -> Line
-    ensures { Unanswered out.old at out.new result }
+fn inserted(work: &mut [f64], count: usize, d: usize, x: f64, out: &mut [u8], at: usize) -> Option<usize>
+    ensures { Unanswered out.old out.new result }
 {
-    if count < 6 {
-        return output::unanswered(at);
-    }
-    if 4000 < count {
-        return output::unanswered(at);
-    }
-    if 16 < d {
-        return output::unanswered(at);
+    if count < 6 || 4000 < count || 16 < d {
+        return None;
     }
     let controls = count + 7;
     let more = count + 1;
     let last = controls + product(more, d);
     if work.len() < last {
-        return output::unanswered(at);
+        return None;
     }
     let spline = Spline {
         knots: 0,
@@ -136,22 +113,16 @@ fn inserted(work: &mut [f64], count: usize, d: usize, x: f64, out: &mut [u8], at
     };
     bspline::insertion::insert(work, spline, x);
     let next = output::text(out, at, b"insert");
-    let next = output::cells(out, next, work, last);
-    output::end(out, next)
+    let next = output::cells(out, next, &work[..last]);
+    Some(output::end(out, next))
 }
 
 // The polynomial of the spline of `count` controls that lies at the front of `work`.
-fn segments(work: &mut [f64], count: usize, d: usize, out: &mut [u8], at: usize) -> Line
-    ensures { Unanswered out.old at out.new result }
+fn segments(work: &mut [f64], count: usize, d: usize, out: &mut [u8], at: usize) -> Option<usize>
+    ensures { Unanswered out.old out.new result }
 {
-    if count < 6 {
-        return output::unanswered(at);
-    }
-    if 4000 < count {
-        return output::unanswered(at);
-    }
-    if 16 < d {
-        return output::unanswered(at);
+    if count < 6 || 4000 < count || 16 < d {
+        return None;
     }
     let controls = count + 6;
     let breaks = controls + product(count, d);
@@ -160,7 +131,7 @@ fn segments(work: &mut [f64], count: usize, d: usize, out: &mut [u8], at: usize)
     let spans = count - 5;
     let last = coefficients + product(spans, wide);
     if work.len() < last {
-        return output::unanswered(at);
+        return None;
     }
     let spline = Spline {
         knots: 0,
@@ -170,30 +141,24 @@ fn segments(work: &mut [f64], count: usize, d: usize, out: &mut [u8], at: usize)
     };
     let n = bspline::segments::polynomial(work, spline, breaks, coefficients);
     if spans < n {
-        return output::unanswered(at);
+        return None;
     }
     let next = output::text(out, at, b"polynomial");
     let next = output::whole(out, next, n as u64);
-    let next = output::cells(out, next, &work[breaks..], n + 1);
-    let next = output::cells(out, next, &work[coefficients..], product(n, wide));
-    output::end(out, next)
+    let next = output::first_cells(out, next, &work[breaks..], n + 1);
+    let next = output::first_cells(out, next, &work[coefficients..], product(n, wide));
+    Some(output::end(out, next))
 }
 
 // Kinds 25 and 26, whole numbers d and knots: for 25 x first; the knots, then the controls.
-pub fn spline(head: Head, cells: &[f64], work: &mut [f64], out: &mut [u8], at: usize) -> Line
-    ensures { Unanswered out.old at out.new result }
+pub fn spline(head: Head, cells: &[f64], work: &mut [f64], out: &mut [u8], at: usize) -> Option<usize>
+    ensures { Unanswered out.old out.new result }
 {
     let kind = head.kind;
     let d = head.wholes[0];
     let knots = head.wholes[1];
-    if 16 < d {
-        return output::unanswered(at);
-    }
-    if knots < 12 {
-        return output::unanswered(at);
-    }
-    if cells.len() as u64 <= knots {
-        return output::unanswered(at);
+    if 16 < d || knots < 12 || cells.len() as u64 <= knots {
+        return None;
     }
     if kind == 26 {
         window::copy(work, cells);
@@ -201,7 +166,7 @@ pub fn spline(head: Head, cells: &[f64], work: &mut [f64], out: &mut [u8], at: u
     }
     let first = knots as usize + 1;
     if work.len() < first {
-        return output::unanswered(at);
+        return None;
     }
     window::copy(work, &cells[1..first]);
     window::copy(&mut work[first..], &cells[first..]);

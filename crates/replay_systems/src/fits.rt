@@ -1,5 +1,5 @@
 // Cases of crate `fit`.
-ghost use Rattle.std.specs.Prelude.{◌≡◌, ◌+◌, ◌-◌, ◌*◌, ◌≤◌, ◌<◌, true};
+ghost use Rattle.std.specs.Prelude.{◌≡◌, ◌+◌, ◌-◌, ◌*◌, ◌≤◌, ◌<◌};
 ghost use Rattle.normal.specs.System.{size_of};
 ghost use Rattle.fit.specs.Region.{WindowLaid};
 ghost use Rattle.listing.specs.Lines.{Unanswered};
@@ -8,7 +8,6 @@ use fit::Counts;
 use fitting_rows::Place;
 use listing::list::Head;
 use listing::output;
-use listing::output::Line;
 use normal::Unsolved;
 
 // The arrays of a case with d axes, n samples and m controls, in the case's order, and the system of the
@@ -34,8 +33,7 @@ fn layout(d: usize, n: usize, m: usize, a: usize, z: usize) -> Place
 }
 
 // The line of a fit: its counts and all controls, or the number.
-fn line(fitted: Result<Counts, Unsolved>, controls: &[f64], out: &mut [u8], at: usize) -> Line
-    ensures { result.good ≡ true }
+fn line(fitted: Result<Counts, Unsolved>, controls: &[f64], out: &mut [u8], at: usize) -> usize
 {
     let next = output::text(out, at, b"fit");
     match fitted {
@@ -43,7 +41,7 @@ fn line(fitted: Result<Counts, Unsolved>, controls: &[f64], out: &mut [u8], at: 
             let next = output::whole(out, next, counts.first as u64);
             let next = output::whole(out, next, counts.last as u64);
             let next = output::whole(out, next, counts.rows as u64);
-            let next = output::cells(out, next, controls, controls.len());
+            let next = output::cells(out, next, controls);
             output::end(out, next)
         }
         Err(e) => output::refused(out, next, e.number() as u64),
@@ -61,36 +59,30 @@ fn answer(
     work: &mut [f64],
     out: &mut [u8],
     at: usize,
-) -> Line
+) -> Option<usize>
     requires { (d ≤ 16) × (2 ≤ n) × (n ≤ 65536) × (6 ≤ m) × (m ≤ 65536) × (a ≤ z) × (z ≤ m) }
-    ensures { Unanswered out.old at out.new result }
+    ensures { Unanswered out.old out.new result }
 {
     let p = layout(d, n, m, a, z);
     let k = z - a;
     let end = p.system + (6 * k + k * d + k);
-    if work.len() < end {
-        return output::unanswered(at);
+    let (strength, rest) = cells.split_first()?;
+    if work.len() < end || p.system != rest.len() {
+        return None;
     }
-    if cells.len() < 1 {
-        return output::unanswered(at);
-    }
-    if p.system != cells.len() - 1 {
-        return output::unanswered(at);
-    }
-    let strength = cells[0];
-    window::copy(work, &cells[1..]);
-    let fitted = fit::fit(&mut work[0..end], p, a, z, strength);
+    window::copy(work, rest);
+    let fitted = fit::fit(&mut work[0..end], p, a, z, *strength);
     let c = p.controls;
     let e = c + m * d;
     if work.len() < e {
-        return output::unanswered(at);
+        return None;
     }
-    line(fitted, &work[c..e], out, at)
+    Some(line(fitted, &work[c..e], out, at))
 }
 
 // Kind 40, whole numbers d, n, a, z, knots: the controls after the fit of the window [a, z).
-pub fn fit(head: Head, cells: &[f64], work: &mut [f64], out: &mut [u8], at: usize) -> Line
-    ensures { Unanswered out.old at out.new result }
+pub fn fit(head: Head, cells: &[f64], work: &mut [f64], out: &mut [u8], at: usize) -> Option<usize>
+    ensures { Unanswered out.old out.new result }
 {
     let wholes = head.wholes;
     let d = wholes[0] as usize;
@@ -98,27 +90,12 @@ pub fn fit(head: Head, cells: &[f64], work: &mut [f64], out: &mut [u8], at: usiz
     let a = wholes[2] as usize;
     let z = wholes[3] as usize;
     let knots = wholes[4] as usize;
-    if 16 < d {
-        return output::unanswered(at);
-    }
-    if n < 2 {
-        return output::unanswered(at);
-    }
-    if 65536 < n {
-        return output::unanswered(at);
-    }
-    if knots < 12 {
-        return output::unanswered(at);
-    }
-    if 65536 < knots {
-        return output::unanswered(at);
+    if 16 < d || n < 2 || 65536 < n || knots < 12 || 65536 < knots {
+        return None;
     }
     let m = knots - 6;
-    if z < a {
-        return output::unanswered(at);
-    }
-    if m < z {
-        return output::unanswered(at);
+    if z < a || m < z {
+        return None;
     }
     answer(d, n, m, a, z, cells, work, out, at)
 }

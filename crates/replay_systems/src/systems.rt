@@ -1,64 +1,34 @@
 // Cases of crate `normal`.
-ghost use Rattle.std.specs.Prelude.{◌≡◌, ◌+◌, ◌*◌, ◌≤◌, length, true};
+ghost use Rattle.std.specs.Prelude.{◌≡◌, ◌+◌, ◌*◌, ◌<◌, ◌≤◌, length, IfSome};
 ghost use Rattle.normal.specs.System.{size_of};
 ghost use Rattle.replay_systems.specs.Windows.{Lies};
 ghost use Rattle.listing.specs.Lines.{Unanswered};
 
 use listing::list::Head;
 use listing::output;
-use listing::output::Line;
 use normal::Unsolved;
 
-// The whole number below `most` that a cell holds; `most` where it holds none.
-fn index_of(x: f64, most: usize) -> usize
-    ensures { result ≤ most }
+// The whole number below `most` that a cell holds, if any.
+fn index_of(x: f64, most: usize) -> Option<usize>
+    ensures { IfSome result (λ i. i < most) }
 {
     let mut v = 0.0;
-    let mut i = 0;
-    while i < most {
+    for i in 0..most {
         if v == x {
-            return i;
+            return Some(i);
         }
         v += 1.0;
-        i += 1;
     }
-    most
+    None
 }
 
-#[derive(Clone, Copy)]
-struct Basis {
-    values: [f64; 6],
-}
-
-// The six cells from `from` on.
-fn basis_at(cells: &[f64], from: usize) -> Basis
-    requires { from + 6 ≤ length cells.now }
+// The d cells from `from` on, and zeros after them.
+fn cells_at<const N: usize>(cells: &[f64], from: usize, d: usize) -> [f64; N]
+    requires { (d ≤ N) × (from + d ≤ length cells.now) }
 {
-    let mut values = [0.0; 6];
-    let mut i = 0;
-    while i < 6 {
-        values[i] = cells[from + i];
-        i += 1;
-    }
-    Basis { values }
-}
-
-#[derive(Clone, Copy)]
-struct Target {
-    values: [f64; 16],
-}
-
-// The d cells from `from` on.
-fn target_at(cells: &[f64], from: usize, d: usize) -> Target
-    requires { (d ≤ 16) × (from + d ≤ length cells.now) }
-{
-    let mut values = [0.0; 16];
-    let mut i = 0;
-    while i < d {
-        values[i] = cells[from + i];
-        i += 1;
-    }
-    Target { values }
+    let mut values = [0.0; N];
+    values[..d].copy_from_slice(&cells[from..from + d]);
+    values
 }
 
 // The window of n active controls from a on, of controls of d axes.
@@ -70,48 +40,43 @@ struct Window {
     controls: usize,
 }
 
-// Adds the row that lies from `from` on; whether it reads.
-fn add_row(cells: &[f64], from: usize, w: Window, sys: &mut [f64]) -> bool
+// Adds the row that lies from `from` on, where it reads.
+fn add_row(cells: &[f64], from: usize, w: Window, sys: &mut [f64]) -> Option<()>
     requires { Lies w × (w.controls * w.d ≤ length cells.now) × (from + (8 + w.d) ≤ length cells.now)
         × (length sys.old ≡ size_of w.n w.d) }
 {
     let d = w.d;
-    let start = index_of(cells[from], w.controls);
+    let start = index_of(cells[from], w.controls)?;
     if w.controls < start + 6 {
-        return false;
+        return None;
     }
-    let basis = basis_at(cells, from + 1).values;
-    let target = target_at(cells, from + 8, d).values;
+    let basis = cells_at(cells, from + 1, 6);
+    let target = cells_at(cells, from + 8, d);
     let end = w.controls * d;
     let row = normal::fitting_row(&cells[0..end], d, start, basis, cells[from + 7], target);
     normal::add(sys, w.a, w.n, d, row);
-    true
+    Some(())
 }
 
-// Adds as many rows as lie after the controls; whether all read.
-fn add_rows(cells: &[f64], rows: usize, w: Window, sys: &mut [f64]) -> bool
+// Adds as many rows as lie after the controls, where all read.
+fn add_rows(cells: &[f64], rows: usize, w: Window, sys: &mut [f64]) -> Option<()>
     requires { Lies w × (w.controls * w.d + rows * (8 + w.d) ≤ length cells.now) × (length sys.old ≡ size_of w.n w.d) }
 {
     let mut from = w.controls * w.d;
-    let mut i = 0;
-    while i < rows {
-        if !add_row(cells, from, w, sys) {
-            return false;
-        }
+    for _ in 0..rows {
+        add_row(cells, from, w, sys)?;
         from += 8 + w.d;
-        i += 1;
     }
-    true
+    Some(())
 }
 
 // The line of a system: the refusal's number, or the solution.
-fn line(answer: Result<(), Unsolved>, solution: &[f64], out: &mut [u8], at: usize) -> Line
-    ensures { result.good ≡ true }
+fn line(answer: Result<(), Unsolved>, solution: &[f64], out: &mut [u8], at: usize) -> usize
 {
     let next = output::text(out, at, b"normal");
     match answer {
         Ok(()) => {
-            let next = output::cells(out, next, solution, solution.len());
+            let next = output::cells(out, next, solution);
             output::end(out, next)
         }
         Err(e) => output::refused(out, next, e.number() as u64),
@@ -126,9 +91,9 @@ fn system(
     work: &mut [f64],
     out: &mut [u8],
     at: usize,
-) -> Line
+) -> Option<usize>
     requires { Lies w × (w.controls * w.d + rows * (8 + w.d) ≤ length cells.now) × (size_of w.n w.d ≤ length work.old) }
-    ensures { Unanswered out.old at out.new result }
+    ensures { Unanswered out.old out.new result }
 {
     let n = w.n;
     let d = w.d;
@@ -136,11 +101,9 @@ fn system(
     let scales = right + n * d;
     let size = scales + n;
     window::clear(&mut work[0..size]);
-    if !add_rows(cells, rows, w, &mut work[0..size]) {
-        return output::unanswered(at);
-    }
+    add_rows(cells, rows, w, &mut work[0..size])?;
     let answer = normal::solve(&mut work[0..size], n, d);
-    line(answer, &work[right..scales], out, at)
+    Some(line(answer, &work[right..scales], out, at))
 }
 
 // The system of a case whose counts fit its lengths.
@@ -154,37 +117,22 @@ fn checked(
     work: &mut [f64],
     out: &mut [u8],
     at: usize,
-) -> Line
-    ensures { Unanswered out.old at out.new result }
+) -> Option<usize>
+    ensures { Unanswered out.old out.new result }
 {
-    if 16 < d {
-        return output::unanswered(at);
-    }
-    if 65536 < controls {
-        return output::unanswered(at);
-    }
-    if 65536 < rows {
-        return output::unanswered(at);
-    }
-    if controls < z {
-        return output::unanswered(at);
-    }
-    if z < a {
-        return output::unanswered(at);
-    }
-    if cells.len() != controls * d + rows * (8 + d) {
-        return output::unanswered(at);
+    if 16 < d || 65536 < controls || 65536 < rows || controls < z || z < a || cells.len() != controls * d + rows * (8 + d) {
+        return None;
     }
     let n = z - a;
     if work.len() < 6 * n + n * d + n {
-        return output::unanswered(at);
+        return None;
     }
     system(cells, rows, Window { a, n, d, controls }, work, out, at)
 }
 
 // Kind 30, whole numbers d, a, z, controls, rows: the system of the controls from a up to z.
-pub fn normal(head: Head, cells: &[f64], work: &mut [f64], out: &mut [u8], at: usize) -> Line
-    ensures { Unanswered out.old at out.new result }
+pub fn normal(head: Head, cells: &[f64], work: &mut [f64], out: &mut [u8], at: usize) -> Option<usize>
+    ensures { Unanswered out.old out.new result }
 {
     let d = head.wholes[0] as usize;
     let a = head.wholes[1] as usize;

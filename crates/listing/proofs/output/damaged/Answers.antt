@@ -8,4 +8,4 @@ unfolding damaged_text
 returns c =
     let a = c.args in
     let e = three_texts (a.out.now, a.at) damaged_words (whole_text a.place) end_text c.whole-next.ensures c.text-next.ensures in
-    c.close.ensures ∙ ap (λ g. g.0) e
+    ap (λ g. g.0) (c.end-next.ensures ∙ e)

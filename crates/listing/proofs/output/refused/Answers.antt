@@ -7,5 +7,4 @@ pub returns : goal.returns
 unfolding refused_text
 returns c =
     let a = c.args in
-    let e = three_texts (a.out.now, a.at) refused_word (whole_text a.number) end_text c.whole-next.ensures c.text-next.ensures in
-    (c.end.ensures.0 ∙ e, c.end.ensures.1)
+    c.end.ensures ∙ three_texts (a.out.now, a.at) refused_word (whole_text a.number) end_text c.whole-next.ensures c.text-next.ensures

@@ -10,6 +10,6 @@ returns c =
     byte_then
     (a.out.now, a.at)
     32
-    c.decimal.ensures
+    c.text.ensures
     c.byte-next.ensures
     (d.ensures.digits ∙ fewest_digits 20 d.result a.n d.ensures.len few)
