@@ -4,87 +4,8 @@
 // lines.
 #![tactic(auto)]
 
-use listing::list::Status;
-use listing::turn::Turn;
-use listing::{list, output, turn};
-
-// Reads one case, which starts at the byte `place`, and answers it.
-fn step(
-    bytes: &mut [u8],
-    cells: &mut [f64],
-    work: &mut [f64],
-    breaks: &mut [f64],
-    coefficients: &mut [f64],
-    other_breaks: &mut [f64],
-    other_coefficients: &mut [f64],
-    errors: &mut [f64],
-    out: &mut [u8],
-    at: usize,
-    place: u64,
-) -> Turn {
-    let head = list::next_case(bytes, cells);
-    let status = head.status;
-    let n = head.cells;
-    if let Status::Case = status {
-        let line = replay_lending::answer(
-            head,
-            &cells[0..n],
-            work,
-            breaks,
-            coefficients,
-            other_breaks,
-            other_coefficients,
-            errors,
-            out,
-            at,
-        );
-        return turn::answered(out, line, place, head);
-    }
-    turn::stopped(out, at, place, status)
-}
-
-// Reads and answers cases until the list ends, at most a million of them.
-fn run(
-    bytes: &mut [u8],
-    cells: &mut [f64],
-    work: &mut [f64],
-    breaks: &mut [f64],
-    coefficients: &mut [f64],
-    other_breaks: &mut [f64],
-    other_coefficients: &mut [f64],
-    errors: &mut [f64],
-    out: &mut [u8],
-) {
-    if !list::opens(bytes) {
-        output::damaged(out, 0, 0);
-        return;
-    }
-    let mut at = 0;
-    let mut place: u64 = 8;
-    let mut left: usize = 1_000_000;
-    while 0 < left {
-        let turn = step(
-            bytes,
-            cells,
-            work,
-            breaks,
-            coefficients,
-            other_breaks,
-            other_coefficients,
-            errors,
-            out,
-            at,
-            place,
-        );
-        at = turn.at;
-        place = turn.place;
-        if !turn.more {
-            return;
-        }
-        left -= 1;
-    }
-    output::damaged(out, at, place);
-}
+use listing::turn;
+use replay_requests::parts::Lent;
 
 // 400 segments and waypoints of 16 axes fit.
 fn main() {
@@ -97,15 +18,15 @@ fn main() {
     let mut errors = [0.0; 64];
     let mut bytes = io::buffer();
     let mut out = io::buffer();
-    run(
-        &mut bytes,
-        &mut cells,
-        &mut work,
-        &mut breaks,
-        &mut coefficients,
-        &mut other_breaks,
-        &mut other_coefficients,
-        &mut errors,
-        &mut out,
-    );
+    turn::run(&mut bytes, &mut cells, &mut out, |head, cells, out, at| {
+        let buffers = Lent {
+            work: &mut work[..],
+            breaks: &mut breaks[..],
+            coefficients: &mut coefficients[..],
+            other_breaks: &mut other_breaks[..],
+            other_coefficients: &mut other_coefficients[..],
+            errors: &mut errors[..],
+        };
+        replay_lending::answer(head, cells, buffers, out, at)
+    });
 }

@@ -1,5 +1,5 @@
 // Cases of crate `polynomial`.
-ghost use Rattle.std.specs.Prelude.{◌≡◌, ◌+◌, ◌*◌, ◌≤◌, ◌<◌, true};
+ghost use Rattle.std.specs.Prelude.{◌≡◌, ◌+◌, ◌*◌, ◌≤◌, ◌<◌, length};
 ghost use Rattle.polynomial.specs.Placed.{PartsLaid};
 ghost use Rattle.listing.specs.Lines.{Unanswered};
 
@@ -30,15 +30,13 @@ fn layout(d: usize, n: usize, m: usize) -> Parts
     }
 }
 
-// The cells in that order: the curve, which is first in a case, comes last. Whether it could be done.
-fn arrange(cells: &[f64], work: &mut [f64], curve: usize) -> bool {
-    if work.len() < cells.len() || cells.len() < curve {
-        return false;
-    }
-    let rest = cells.len() - curve;
-    window::copy(work, &cells[rest..]);
-    window::copy(&mut work[curve..], &cells[..rest]);
-    true
+// The cells in that order: the curve, which is first in a case, comes last.
+fn arrange(cells: &[f64], work: &mut [f64], curve: usize)
+    requires { (curve ≤ length cells.now) × (length cells.now ≤ length work.old) }
+{
+    let (first, last) = cells.split_at(cells.len() - curve);
+    window::copy(work, last);
+    window::copy(&mut work[curve..], first);
 }
 
 // The line of an audit: the bounds and the witnesses, which lie one after the other, or the number.
@@ -71,12 +69,13 @@ fn answer(
     let p = layout(d, n, m);
     let bounds = p.bounds;
     let breaks = p.breaks;
-    if p.coefficients + m * (6 * d) != cells.len() || !arrange(cells, work, breaks) || work.len() < cells.len() {
+    if p.coefficients + m * (6 * d) != cells.len() || work.len() < cells.len() {
         return None;
     }
+    arrange(cells, work, breaks);
     let r = polynomial::audit::audit(work, p, first, last);
     let outcome = r.outcome;
-    line(outcome, &work[bounds..breaks], out, at)
+    Some(line(outcome, &work[bounds..breaks], out, at))
 }
 
 // Kind 50, whole numbers d, n, first, last, segments: the bounds and the witnesses after the audit.

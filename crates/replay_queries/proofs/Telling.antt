@@ -5,8 +5,6 @@ use Prim.Native.Nat.{ℕ, ◌+◌}
 use native.Mathlib.Numerals.{add-one}
 use borrow.Author.Tests.{eq-eqb, ne_eqb}
 use lib.Ieee.{Float}
-use lib.ListN.{length, take}
-use lib.Seq.{take-length}
 use Rattle.query.specs.Row.{Outputs, outputs}
 use Rattle.query.specs.Query.{Outcome, outcome}
 use Rattle.listing.specs.Output.{printed, refused_word, whole_text, cells_text}
@@ -16,11 +14,6 @@ use Rattle.replay_queries.specs.Told.{marked_outputs, refusal_text, place_text, 
 -- one text after another
 pub then_text : (g o : List ℕ × ℕ) (a b : List ℕ) {p : List ℕ × ℕ} → p ≡ printed o b → o ≡ printed g a → p ≡ printed g (a ++ b)
 then_text g o a b e k = e ∙ ap (λ (o : List ℕ × ℕ). printed o b) k ∙ sym (printed_append g a b)
-
--- all cells of a slice
-whole_slice : (o : List ℕ × ℕ) {p : List ℕ × ℕ} (l : List Float) → p ≡ printed o (cells_text (take (length l) l)) → p ≡ printed o
-    (cells_text l)
-whole_slice o l e = e ∙ ap (λ (t : List Float). printed o (cells_text t)) (take-length l)
 
 pub no_refusal : (g : List ℕ × ℕ) (number : ℕ) → number ≡ 0 → g ≡ printed g (refusal_text number)
 unfolding refusal_text
@@ -42,14 +35,14 @@ a_place g number place h e = rw (eq-eqb number 22 h) e
 
 -- the four slices, one after the other
 pub four_slices : (g a b c : List ℕ × ℕ) (q dq ddq dddq : List Float) {d : List ℕ × ℕ}
-    → a ≡ printed g (cells_text (take (length q) q)) → b ≡ printed a (cells_text (take (length dq) dq))
-    → c ≡ printed b (cells_text (take (length ddq) ddq)) → d ≡ printed c (cells_text (take (length dddq) dddq))
+    → a ≡ printed g (cells_text q) → b ≡ printed a (cells_text dq)
+    → c ≡ printed b (cells_text ddq) → d ≡ printed c (cells_text dddq)
     → d ≡ printed g (outputs_text (outputs q dq ddq dddq))
 unfolding outputs_text
 four_slices g a b c q dq ddq dddq e f h k =
-    let last = then_text b c (cells_text ddq) (cells_text dddq) (whole_slice c dddq k) (whole_slice b ddq h) in
-    let two = then_text a b (cells_text dq) (cells_text ddq ++ cells_text dddq) last (whole_slice a dq f) in
-    then_text g a (cells_text q) (cells_text dq ++ (cells_text ddq ++ cells_text dddq)) two (whole_slice g q e)
+    let last = then_text b c (cells_text ddq) (cells_text dddq) k h in
+    let two = then_text a b (cells_text dq) (cells_text ddq ++ cells_text dddq) last f in
+    then_text g a (cells_text q) (cells_text dq ++ (cells_text ddq ++ cells_text dddq)) two e
 
 -- what a function f of four marked slices gives, which hold `marked`
 module _ (f : Outputs → Outcome) (before marked : Outputs) (m : before ≡ marked) (g o : List ℕ × ℕ) (number place : ℕ) (after : Outputs)

@@ -8,6 +8,7 @@ ghost use Rattle.listing.specs.Output.{printed};
 ghost use Rattle.replay_queries.specs.Told.{marks, marked_outputs, refusal_text, place_text, outputs_text, told_text, told_of_all_text};
 
 use curve::Curve;
+use listing::curves::Slices;
 use listing::output;
 use query::{Lent, Refusal};
 
@@ -74,12 +75,9 @@ pub fn cells(q: &[f64], dq: &[f64], ddq: &[f64], dddq: &[f64], out: &mut [u8], a
 }
 
 // One query.
-pub fn single<'a>(
+pub fn single(
     curve: Curve,
-    breaks: &'a [f64],
-    coefficients: &'a [f64],
-    other_breaks: &'a [f64],
-    other_coefficients: &'a [f64],
+    p: Slices<'_>,
     x: f64,
     order: usize,
     q: &mut [f64],
@@ -89,17 +87,17 @@ pub fn single<'a>(
     out: &mut [u8],
     at: usize,
 ) -> usize
-    ensures { (out.new, result) ≡ printed (out.old, at) (told_text (evaluate_of curve (slices breaks.now
-        coefficients.now other_breaks.now other_coefficients.now) x order
+    ensures { (out.new, result) ≡ printed (out.old, at) (told_text (evaluate_of curve (slices p.entry.breaks.now p.entry.coefficients.now
+        p.entry.other_breaks.now p.entry.other_coefficients.now) x order
         (marked_outputs (length q.old) (length dq.old) (length ddq.old) (length dddq.old)))) }
 {
     mark_all(q, dq, ddq, dddq);
     let lent = Lent {
         curve,
-        breaks,
-        coefficients,
-        other_breaks,
-        other_coefficients,
+        breaks: p.breaks,
+        coefficients: p.coefficients,
+        other_breaks: p.other_breaks,
+        other_coefficients: p.other_coefficients,
     };
     let answer = query::evaluate(
         &lent,
@@ -114,14 +112,10 @@ pub fn single<'a>(
     cells(q, dq, ddq, dddq, out, next)
 }
 
-// Many in one call.
-pub fn all<'a>(
+// All of those after the curve's slices, in one call.
+pub fn all(
     curve: Curve,
-    breaks: &'a [f64],
-    coefficients: &'a [f64],
-    other_breaks: &'a [f64],
-    other_coefficients: &'a [f64],
-    xs: &[f64],
+    p: Slices<'_>,
     order: usize,
     q: &mut [f64],
     dq: &mut [f64],
@@ -131,21 +125,22 @@ pub fn all<'a>(
     at: usize,
 ) -> usize
     ensures { (out.new, result) ≡ printed (out.old, at) (told_of_all_text (evaluate_all_of curve
-        (slices breaks.now coefficients.now other_breaks.now other_coefficients.now)
-        xs.now order (marked_outputs (length q.old) (length dq.old) (length ddq.old)
+        (slices p.entry.breaks.now p.entry.coefficients.now
+        p.entry.other_breaks.now p.entry.other_coefficients.now)
+        p.entry.rest.now order (marked_outputs (length q.old) (length dq.old) (length ddq.old)
         (length dddq.old)))) }
 {
     mark_all(q, dq, ddq, dddq);
     let lent = Lent {
         curve,
-        breaks,
-        coefficients,
-        other_breaks,
-        other_coefficients,
+        breaks: p.breaks,
+        coefficients: p.coefficients,
+        other_breaks: p.other_breaks,
+        other_coefficients: p.other_coefficients,
     };
     let answers = query::evaluate_all(
         &lent,
-        xs,
+        p.rest,
         order,
         q,
         dq,

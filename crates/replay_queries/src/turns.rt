@@ -11,6 +11,7 @@ ghost use Rattle.replay_queries.specs.Told.{marked_outputs, told_text, turns_tex
 use crate::calls;
 use curve::Curve;
 use listing::axes;
+use listing::curves::Slices;
 use query::Lent;
 
 // Where the next byte goes, and the segments that are tried next.
@@ -22,12 +23,9 @@ struct Kept {
 }
 
 // One of them, asked of a reader that keeps these segments, and printed as a single query is.
-fn next<'a>(
+fn next(
     curve: Curve,
-    breaks: &'a [f64],
-    coefficients: &'a [f64],
-    other_breaks: &'a [f64],
-    other_coefficients: &'a [f64],
+    p: Slices<'_>,
     kept: Kept,
     x: f64,
     order: usize,
@@ -38,16 +36,17 @@ fn next<'a>(
     out: &mut [u8],
 ) -> Kept
     ensures { (out.new, result.at) ≡ printed (out.old, kept.at) (told_text (evaluate_of curve
-        (slices breaks.now coefficients.now other_breaks.now other_coefficients.now) x order
+        (slices p.entry.breaks.now p.entry.coefficients.now
+        p.entry.other_breaks.now p.entry.other_coefficients.now) x order
         (marked_outputs (length q.old) (length dq.old) (length ddq.old) (length dddq.old)))) }
 {
     calls::mark_all(q, dq, ddq, dddq);
     let lent = Lent {
         curve,
-        breaks,
-        coefficients,
-        other_breaks,
-        other_coefficients,
+        breaks: p.breaks,
+        coefficients: p.coefficients,
+        other_breaks: p.other_breaks,
+        other_coefficients: p.other_coefficients,
     };
     let found = reader::ask_from(
         lent,
@@ -72,14 +71,10 @@ fn next<'a>(
     }
 }
 
-// All of them; query i asks the order of byte i mod 4.
-pub fn in_turn<'a>(
+// All of those after the curve's slices; query i asks the order of byte i mod 4.
+pub fn in_turn(
     curve: Curve,
-    breaks: &'a [f64],
-    coefficients: &'a [f64],
-    other_breaks: &'a [f64],
-    other_coefficients: &'a [f64],
-    xs: &[f64],
+    p: Slices<'_>,
     orders: u64,
     q: &mut [f64],
     dq: &mut [f64],
@@ -88,9 +83,10 @@ pub fn in_turn<'a>(
     out: &mut [u8],
     at: usize,
 ) -> usize
-    ensures { (out.new, result) ≡ printed (out.old, at) (turns_text (length xs.now) (λ i. evaluate_of curve
-        (slices breaks.now coefficients.now other_breaks.now other_coefficients.now)
-        (get_or xs.now i nan) (byte_of orders (i % 4))
+    ensures { (out.new, result) ≡ printed (out.old, at) (turns_text (length p.entry.rest.now) (λ i. evaluate_of curve
+        (slices p.entry.breaks.now p.entry.coefficients.now
+        p.entry.other_breaks.now p.entry.other_coefficients.now)
+        (get_or p.entry.rest.now i nan) (byte_of orders (i % 4))
         (marked_outputs (length q.old) (length dq.old) (length ddq.old) (length dddq.old)))) }
 {
     let mut kept = Kept {
@@ -98,15 +94,12 @@ pub fn in_turn<'a>(
         span: 0,
         other_span: 0,
     };
-    for i in 0..xs.len() {
+    for i in 0..p.rest.len() {
         kept = next(
             curve,
-            breaks,
-            coefficients,
-            other_breaks,
-            other_coefficients,
+            p,
             kept,
-            xs[i],
+            p.rest[i],
             axes::byte_of(orders, i % 4),
             q,
             dq,

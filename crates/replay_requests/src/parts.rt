@@ -8,26 +8,15 @@ use listing::{axes, sizes};
 
 pub const MARK: f64 = -6.0221407623e-123;
 
-// How many cells each slice has, or has in use.
+// One for each slice that `build` is lent: its room, where its part of a buffer ends, or the buffer.
 #[derive(Clone, Copy)]
-pub struct Room {
-    pub work: usize,
-    pub breaks: usize,
-    pub coefficients: usize,
-    pub other_breaks: usize,
-    pub other_coefficients: usize,
-    pub errors: usize,
-}
-
-// Where the part of each buffer ends; it begins at 8.
-#[derive(Clone, Copy)]
-pub struct Parts {
-    pub work: usize,
-    pub breaks: usize,
-    pub coefficients: usize,
-    pub other_breaks: usize,
-    pub other_coefficients: usize,
-    pub errors: usize,
+pub struct Lent<T> {
+    pub work: T,
+    pub breaks: T,
+    pub coefficients: T,
+    pub other_breaks: T,
+    pub other_coefficients: T,
+    pub errors: T,
 }
 
 // e times (16d + 32)
@@ -38,47 +27,28 @@ fn work_room(d: usize, e: usize) -> usize
     e * (16 * d + 32)
 }
 
-fn larger(a: usize, b: usize) -> usize
-    requires { (a ≤ 20000) × (b ≤ 20000) }
-    ensures { result ≤ 20000 }
-{
-    if a < b { b } else { a }
-}
-
-// Document 01's room. A request above the domain is refused whatever the room: it gets that of no axes,
-// no waypoints and no segments.
-fn room_of(d: usize, n: usize, segments: usize) -> Room
+// How many cells document 01 asks of each slice. A request above the domain is refused whatever the room:
+// it gets that of no axes, no waypoints and no segments.
+fn room_of(d: usize, n: usize, segments: usize) -> Lent<usize>
     ensures { Room01 result }
 {
-    if 16 < d {
-        return room_of_none();
+    if 16 < d || 20000 < n || 20000 < segments {
+        return Lent {
+            work: 512,
+            breaks: 1,
+            coefficients: 0,
+            other_breaks: 0,
+            other_coefficients: 0,
+            errors: 0,
+        };
     }
-    if 20000 < n {
-        return room_of_none();
-    }
-    if 20000 < segments {
-        return room_of_none();
-    }
-    Room {
-        work: work_room(d, larger(n, segments) + 16),
+    Lent {
+        work: work_room(d, n.max(segments) + 16),
         breaks: segments + 1,
         coefficients: sizes::rows(d, segments),
         other_breaks: n,
         other_coefficients: sizes::rows(d, n),
         errors: d,
-    }
-}
-
-fn room_of_none() -> Room
-    ensures { Room01 result }
-{
-    Room {
-        work: 512,
-        breaks: 1,
-        coefficients: 0,
-        other_breaks: 0,
-        other_coefficients: 0,
-        errors: 0,
     }
 }
 
@@ -91,19 +61,16 @@ fn part_end(n: usize, word: u64, j: usize) -> usize
     if more < 128 {
         return n + more + 8;
     }
-    if 255 < more {
-        return n + 8;
-    }
-    let fewer = 256 - more;
-    if n < fewer { 8 } else { n - fewer + 8 }
+    n.saturating_sub(256 - more) + 8
 }
 
-// The parts of that room, and as many cells more or less as the signed bytes of two whole numbers say.
-fn parts_of(room: Room, low: u64, high: u64) -> Parts
+// Where the part of each buffer ends, for that room and as many cells more or less as the signed bytes of
+// two whole numbers say; it begins at 8.
+fn parts_of(room: Lent<usize>, low: u64, high: u64) -> Lent<usize>
     requires { Room01 room }
     ensures { Ends result }
 {
-    Parts {
+    Lent {
         work: part_end(room.work, low, 0),
         breaks: part_end(room.breaks, low, 1),
         coefficients: part_end(room.coefficients, low, 2),
@@ -114,7 +81,7 @@ fn parts_of(room: Room, low: u64, high: u64) -> Parts
 }
 
 // The parts that a case asks for.
-pub fn parts_asked(wholes: &[u64; 16], d: usize, n: usize, segments: usize) -> Parts
+pub fn parts_asked(wholes: &[u64; 16], d: usize, n: usize, segments: usize) -> Lent<usize>
     ensures { Ends result }
 {
     parts_of(room_of(d, n, segments), wholes[13], wholes[14])
@@ -124,26 +91,17 @@ pub fn parts_asked(wholes: &[u64; 16], d: usize, n: usize, segments: usize) -> P
 fn holds(end: usize, length: usize) -> bool
     ensures { result ≡ leb (end + 8) length }
 {
-    if length < 8 {
-        return false;
-    }
-    end <= length - 8
+    8 <= length && end <= length - 8
 }
 
 // Whether buffers of these lengths have the parts.
-pub fn fit(
-    p: Parts,
-    work: usize,
-    breaks: usize,
-    coefficients: usize,
-    other_breaks: usize,
-    other_coefficients: usize,
-    errors: usize,
-) -> bool
-    ensures { result ≡ true → Within p work breaks coefficients other_breaks other_coefficients errors }
+pub fn fit(p: Lent<usize>, lengths: Lent<usize>) -> bool
+    ensures { result ≡ true → Within p lengths }
 {
-    if !holds(p.work, work) || !holds(p.breaks, breaks) || !holds(p.coefficients, coefficients) || !holds(p.other_breaks, other_breaks) || !holds(p.other_coefficients, other_coefficients) {
-        return false;
-    }
-    holds(p.errors, errors)
+    holds(p.work, lengths.work)
+        && holds(p.breaks, lengths.breaks)
+        && holds(p.coefficients, lengths.coefficients)
+        && holds(p.other_breaks, lengths.other_breaks)
+        && holds(p.other_coefficients, lengths.other_coefficients)
+        && holds(p.errors, lengths.errors)
 }

@@ -1,106 +1,91 @@
-// A request of the list: its whole numbers, and where the parts of its cells end.
-ghost use Rattle.replay_requests.specs.Lending.{Asks};
+// A request of the list: its whole numbers, and the parts of its cells.
+ghost use Rattle.std.specs.Prelude.{◌≡◌, ◌++◌, ◌≤◌, IfSome};
 
-// `k` is the number of listed axes, 17 for all axes. The cells are the tolerances, the points and the
-// parameters: `tolerances` and `points` are where the first two end. `spacing` is the parameters' mode:
-// 0 even, 1 listed, 2 by chords. Where the numbers do not fit the count of cells, `good` says so.
+use building::{Axes, Limits, Tolerance};
+use listing::curves;
+use request::parameters::Spacing;
+
+// `listed` is the number of listed axes. The cells are the tolerances, the points and the parameters.
 #[derive(Clone, Copy)]
-pub struct Question {
-    pub good: bool,
+pub struct Question<'a> {
     pub d: usize,
     pub n: usize,
-    pub k: usize,
-    pub uniform: bool,
-    pub spacing: u64,
-    pub refinements: usize,
-    pub segments: usize,
-    pub tolerances: usize,
-    pub points: usize,
+    pub axes: Axes,
+    pub listed: usize,
+    pub tolerance: Tolerance,
+    pub spacing: Spacing,
+    pub limits: Limits,
+    pub tolerances: &'a [f64],
+    pub points: &'a [f64],
+    pub parameters: &'a [f64],
 }
 
-// d for each of n; more than any count of cells where one of them is.
-fn product(d: u64, n: u64) -> u64 {
-    if 65536 < d {
-        return 0x1_0000_0000;
-    }
-    if 65536 < n {
-        return 0x1_0000_0000;
-    }
-    d * n
-}
-
-// How many cells hold points: the sixteenth number, or d for each of n waypoints.
-fn point_cells(wholes: &[u64; 16], numbers: usize) -> u64 {
+// How many cells hold points: the sixteenth number, or d for each of n waypoints, where no count of cells
+// is above 65536.
+fn point_cells(wholes: &[u64; 16], numbers: usize) -> Option<u64> {
     if numbers == 16 {
-        return wholes[15];
+        return Some(wholes[15]);
     }
-    product(wholes[0], wholes[1])
+    if 65536 < wholes[0] || 65536 < wholes[1] {
+        return None;
+    }
+    Some(wholes[0] * wholes[1])
 }
 
-// The request of the first `numbers` whole numbers, with `count` cells.
-pub fn asked(wholes: &[u64; 16], numbers: usize, count: usize) -> Question
-    ensures { Asks result count }
+// All axes in mode 17, which is the number of listed axes else.
+fn axes_of(k: u64) -> Option<(Axes, usize)>
+    ensures { IfSome result (λ r. r.1 ≤ 16) }
 {
-    let bad = Question {
-        good: false,
-        d: 0,
-        n: 0,
-        k: 0,
-        uniform: false,
-        spacing: 0,
-        refinements: 0,
-        segments: 0,
-        tolerances: 0,
-        points: 0,
-    };
-    if numbers != 13 {
-        if numbers != 16 {
-            return bad;
-        }
+    match k {
+        17 => Some((Axes::All, 0)),
+        0..=16 => Some((Axes::Listed, k as usize)),
+        _ => None,
     }
-    let k = wholes[2] as usize;
-    if 17 < k {
-        return bad;
+}
+
+// One tolerance in mode 0, a list of them in mode 1.
+fn tolerance_of(mode: u64, tolerances: &[f64]) -> Option<Tolerance> {
+    match mode {
+        0 if tolerances.len() == 1 => Some(Tolerance::Uniform(tolerances[0])),
+        1 => Some(Tolerance::PerAxis),
+        _ => None,
     }
-    let tolerances = wholes[4] as usize;
-    if count < tolerances {
-        return bad;
+}
+
+// The request of the first `numbers` whole numbers; None where they do not fit the count of cells. There
+// are parameters where these are listed alone.
+pub fn asked<'a>(wholes: &[u64; 16], numbers: usize, cells: &'a [f64]) -> Option<Question<'a>>
+    ensures listed { IfSome result (λ q. q.listed ≤ 16) }
+    ensures cells { IfSome result (λ q. cells.now ≡ q.tolerances.now ++ (q.points.now ++ q.parameters.now)) }
+{
+    if numbers != 13 && numbers != 16 {
+        return None;
     }
-    let parameters = wholes[6] as usize;
-    if count - tolerances < parameters {
-        return bad;
+    let (axes, listed) = axes_of(wholes[2])?;
+    let (tolerances, rest) = cells.split_at_checked(wholes[4] as usize)?;
+    let count = rest.len().checked_sub(wholes[6] as usize)?;
+    let (points, parameters) = rest.split_at(count);
+    if points.len() as u64 != point_cells(wholes, numbers)? {
+        return None;
     }
-    let points = count - parameters;
-    if (points - tolerances) as u64 != point_cells(wholes, numbers) {
-        return bad;
+    let tolerance = tolerance_of(wholes[3], tolerances)?;
+    let spacing = curves::spacing_of(wholes[5])?;
+    if !matches!(spacing, Spacing::Listed) && !parameters.is_empty() {
+        return None;
     }
-    Question {
-        good: modes_fit(wholes[3], tolerances, wholes[5], parameters),
+    Some(Question {
         d: wholes[0] as usize,
         n: wholes[1] as usize,
-        k,
-        uniform: wholes[3] == 0,
-        spacing: wholes[5],
-        refinements: wholes[7] as usize,
-        segments: wholes[8] as usize,
+        axes,
+        listed,
+        tolerance,
+        spacing,
+        limits: Limits {
+            refinements: wholes[7] as usize,
+            segments: wholes[8] as usize,
+        },
         tolerances,
         points,
-    }
-}
-
-// Whether the tolerance's mode is 0 or 1, with one tolerance in mode 0, and that of the parameters 0, 1
-// or 2, with none unless they are listed, in mode 1.
-fn modes_fit(tolerance: u64, tolerances: usize, parameter: u64, parameters: usize) -> bool {
-    if 1 < tolerance || 2 < parameter {
-        return false;
-    }
-    if tolerance == 0 {
-        if tolerances != 1 {
-            return false;
-        }
-    }
-    if parameter == 1 {
-        return true;
-    }
-    parameters == 0
+        parameters,
+    })
 }

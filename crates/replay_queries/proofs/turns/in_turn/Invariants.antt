@@ -9,6 +9,7 @@ use Rattle.replay_queries.specs.Told.{marked_outputs, turns_text}
 use Rattle.replay_queries.proofs.turns.in_turn.Given as goal
 
 abbrev pub invariant-loop-i : goal.invariant-loop-i
-invariant-loop-i l = (l.out, l.kept.at) ≡ printed (l.fn.out, l.fn.at) (turns_text l.i (λ j. evaluate_of l.fn.curve
-    (slices l.breaks l.coefficients l.other_breaks l.other_coefficients) (get_or l.xs j nan) (byte_of l.orders (j % 4))
+invariant-loop-i l =
+    (l.out, l.kept.at) ≡ printed (l.fn.out, l.fn.at) (turns_text l.i (λ j. evaluate_of l.curve
+    (slices l.p.breaks.now l.p.coefficients.now l.p.other_breaks.now l.p.other_coefficients.now) (get_or l.p.rest.now j nan) (byte_of l.orders (j % 4))
     (marked_outputs (length l.fn.q) (length l.fn.dq) (length l.fn.ddq) (length l.fn.dddq))))
