@@ -51,33 +51,6 @@ fn line(outcome: Result<(), Unaudited>, list: &[f64], out: &mut [u8], at: usize)
     }
 }
 
-// The audit of a case whose numbers are within their limits.
-fn answer(
-    d: usize,
-    n: usize,
-    m: usize,
-    first: usize,
-    last: usize,
-    cells: &[f64],
-    work: &mut [f64],
-    out: &mut [u8],
-    at: usize,
-) -> Option<usize>
-    requires { (d ≤ 16) × (n ≤ 65536) × (0 < m) × (m ≤ 65536) × (first < n) × (last < n) }
-    ensures { Unanswered out.old out.new result }
-{
-    let p = layout(d, n, m);
-    let bounds = p.bounds;
-    let breaks = p.breaks;
-    if p.coefficients + m * (6 * d) != cells.len() || work.len() < cells.len() {
-        return None;
-    }
-    arrange(cells, work, breaks);
-    let r = polynomial::audit::audit(work, p, first, last);
-    let outcome = r.outcome;
-    Some(line(outcome, &work[bounds..breaks], out, at))
-}
-
 // Kind 50, whole numbers d, n, first, last, segments: the bounds and the witnesses after the audit.
 pub fn audit(head: Head, cells: &[f64], work: &mut [f64], out: &mut [u8], at: usize) -> Option<usize>
     ensures { Unanswered out.old out.new result }
@@ -91,5 +64,11 @@ pub fn audit(head: Head, cells: &[f64], work: &mut [f64], out: &mut [u8], at: us
     if 16 < d || 65536 < n || m < 1 || 65536 < m || n <= first || n <= last {
         return None;
     }
-    answer(d, n, m, first, last, cells, work, out, at)
+    let p = layout(d, n, m);
+    if p.coefficients + m * (6 * d) != cells.len() || work.len() < cells.len() {
+        return None;
+    }
+    arrange(cells, work, p.breaks);
+    let r = polynomial::audit::audit(work, p, first, last);
+    Some(line(r.outcome, &work[p.bounds..p.breaks], out, at))
 }

@@ -1,18 +1,9 @@
 // Cases of crates `sorting` and `seed`.
-ghost use Rattle.std.specs.Prelude.{◌≡◌, ◌*◌, ◌≤◌};
 ghost use Rattle.listing.specs.Lines.{Unanswered};
 
 use listing::list::Head;
 use listing::output;
 use seed::Waypoints;
-
-// d cells for each of n waypoints.
-fn rows(d: usize, n: usize) -> usize
-    requires { (d ≤ 16) × (n ≤ 65536) }
-    ensures { (result ≡ n * d) × (result ≤ 1048576) }
-{
-    n * d
-}
 
 // Kind 60, whole numbers d and n: the number of seeded knots, and the knots.
 pub fn seeded(head: Head, cells: &[f64], work: &mut [f64], out: &mut [u8], at: usize) -> Option<usize>
@@ -23,7 +14,7 @@ pub fn seeded(head: Head, cells: &[f64], work: &mut [f64], out: &mut [u8], at: u
     if 16 < d || 65536 < n {
         return None;
     }
-    let knots = n + rows(d, n);
+    let knots = n + n * d;
     if cells.len() != knots || work.len() < knots + 3 * n {
         return None;
     }

@@ -1,5 +1,4 @@
 // Cases of crate `bspline`.
-ghost use Rattle.std.specs.Prelude.{◌≡◌, ◌*◌, ◌≤◌};
 ghost use Rattle.listing.specs.Lines.{Unanswered};
 
 use bspline::Spline;
@@ -83,14 +82,6 @@ pub fn basis(head: Head, cells: &[f64], out: &mut [u8], at: usize) -> Option<usi
     Some(output::end(out, next))
 }
 
-// A product of a number of controls and one of cells for each.
-fn product(a: usize, b: usize) -> usize
-    requires { (a ≤ 4096) × (b ≤ 96) }
-    ensures { (result ≡ a * b) × (result ≤ 393216) }
-{
-    a * b
-}
-
 // The insertion of x into the spline of `count` controls that lies in `work`, its knots at 0 and
 // its controls after one free cell.
 fn inserted(work: &mut [f64], count: usize, d: usize, x: f64, out: &mut [u8], at: usize) -> Option<usize>
@@ -101,7 +92,7 @@ fn inserted(work: &mut [f64], count: usize, d: usize, x: f64, out: &mut [u8], at
     }
     let controls = count + 7;
     let more = count + 1;
-    let last = controls + product(more, d);
+    let last = controls + more * d;
     if work.len() < last {
         return None;
     }
@@ -125,11 +116,11 @@ fn segments(work: &mut [f64], count: usize, d: usize, out: &mut [u8], at: usize)
         return None;
     }
     let controls = count + 6;
-    let breaks = controls + product(count, d);
+    let breaks = controls + count * d;
     let coefficients = breaks + count - 4;
     let wide = 6 * d;
     let spans = count - 5;
-    let last = coefficients + product(spans, wide);
+    let last = coefficients + spans * wide;
     if work.len() < last {
         return None;
     }
@@ -146,7 +137,7 @@ fn segments(work: &mut [f64], count: usize, d: usize, out: &mut [u8], at: usize)
     let next = output::text(out, at, b"polynomial");
     let next = output::whole(out, next, n as u64);
     let next = output::first_cells(out, next, &work[breaks..], n + 1);
-    let next = output::first_cells(out, next, &work[coefficients..], product(n, wide));
+    let next = output::first_cells(out, next, &work[coefficients..], n * wide);
     Some(output::end(out, next))
 }
 

@@ -15,7 +15,8 @@ use normal::Unsolved;
 fn layout(d: usize, n: usize, m: usize, a: usize, z: usize) -> Place
     requires { (d ≤ 16) × (2 ≤ n) × (n ≤ 65536) × (6 ≤ m) × (m ≤ 65536) × (a ≤ z) × (z ≤ m) }
     ensures { WindowLaid result a z (result.system + size_of (z - a) d) × (result.axes ≡ d) × (result.controls ≤ 4000000)
-        × (m * d ≤ 4000000) × (result.system ≤ 8000000) × (size_of (z - a) d ≤ 8000000) }
+        × (m * d ≤ 4000000) × (result.controls ≤ result.parameters) × (result.parameters ≤ result.system) × (result.system ≤ 8000000)
+        × (size_of (z - a) d ≤ 8000000) }
 {
     let controls = m + 6;
     let parameters = controls + m * d;
@@ -48,38 +49,6 @@ fn line(fitted: Result<Counts, Unsolved>, controls: &[f64], out: &mut [u8], at: 
     }
 }
 
-// The fit of a case whose numbers are within their limits.
-fn answer(
-    d: usize,
-    n: usize,
-    m: usize,
-    a: usize,
-    z: usize,
-    cells: &[f64],
-    work: &mut [f64],
-    out: &mut [u8],
-    at: usize,
-) -> Option<usize>
-    requires { (d ≤ 16) × (2 ≤ n) × (n ≤ 65536) × (6 ≤ m) × (m ≤ 65536) × (a ≤ z) × (z ≤ m) }
-    ensures { Unanswered out.old out.new result }
-{
-    let p = layout(d, n, m, a, z);
-    let k = z - a;
-    let end = p.system + (6 * k + k * d + k);
-    let (strength, rest) = cells.split_first()?;
-    if work.len() < end || p.system != rest.len() {
-        return None;
-    }
-    window::copy(work, rest);
-    let fitted = fit::fit(&mut work[0..end], p, a, z, *strength);
-    let c = p.controls;
-    let e = c + m * d;
-    if work.len() < e {
-        return None;
-    }
-    Some(line(fitted, &work[c..e], out, at))
-}
-
 // Kind 40, whole numbers d, n, a, z, knots: the controls after the fit of the window [a, z).
 pub fn fit(head: Head, cells: &[f64], work: &mut [f64], out: &mut [u8], at: usize) -> Option<usize>
     ensures { Unanswered out.old out.new result }
@@ -97,5 +66,14 @@ pub fn fit(head: Head, cells: &[f64], work: &mut [f64], out: &mut [u8], at: usiz
     if z < a || m < z {
         return None;
     }
-    answer(d, n, m, a, z, cells, work, out, at)
+    let p = layout(d, n, m, a, z);
+    let k = z - a;
+    let end = p.system + (6 * k + k * d + k);
+    let (strength, rest) = cells.split_first()?;
+    if work.len() < end || p.system != rest.len() {
+        return None;
+    }
+    window::copy(work, rest);
+    let fitted = fit::fit(&mut work[..end], p, a, z, *strength);
+    Some(line(fitted, &work[p.controls..p.parameters], out, at))
 }

@@ -1,7 +1,6 @@
 // Cases of crate `normal`.
 ghost use Rattle.std.specs.Prelude.{◌≡◌, ◌+◌, ◌*◌, ◌<◌, ◌≤◌, length, IfSome};
 ghost use Rattle.normal.specs.System.{size_of};
-ghost use Rattle.replay_systems.specs.Windows.{Lies};
 ghost use Rattle.listing.specs.Lines.{Unanswered};
 
 use listing::list::Head;
@@ -22,12 +21,12 @@ fn index_of(x: f64, most: usize) -> Option<usize>
     None
 }
 
-// The d cells from `from` on, and zeros after them.
-fn cells_at<const N: usize>(cells: &[f64], from: usize, d: usize) -> [f64; N]
-    requires { (d ≤ N) × (from + d ≤ length cells.now) }
+// The cells, and zeros after them.
+fn padded<const N: usize>(cells: &[f64]) -> [f64; N]
+    requires { length cells.now ≤ N }
 {
     let mut values = [0.0; N];
-    values[..d].copy_from_slice(&cells[from..from + d]);
+    values[..cells.len()].copy_from_slice(cells);
     values
 }
 
@@ -38,41 +37,38 @@ struct Window {
     n: usize,
     d: usize,
     controls: usize,
+    ghost few_axes: { d ≤ 16 },
+    ghost inside: { a + n ≤ controls },
+    ghost few_controls: { controls ≤ 65536 },
 }
 
-// Adds the row that lies from `from` on, where it reads.
-fn add_row(cells: &[f64], from: usize, w: Window, sys: &mut [f64]) -> Option<()>
-    requires { Lies w × (w.controls * w.d ≤ length cells.now) × (from + (8 + w.d) ≤ length cells.now)
-        × (length sys.old ≡ size_of w.n w.d) }
+// Adds a row, where it reads.
+fn add_row(controls: &[f64], row: &[f64], w: Window, sys: &mut [f64]) -> Option<()>
+    requires { (length controls.now ≡ w.controls * w.d) × (length row.now ≡ 8 + w.d) × (length sys.old ≡ size_of w.n w.d) }
 {
-    let d = w.d;
-    let start = index_of(cells[from], w.controls)?;
+    let start = index_of(row[0], w.controls)?;
     if w.controls < start + 6 {
         return None;
     }
-    let basis = cells_at(cells, from + 1, 6);
-    let target = cells_at(cells, from + 8, d);
-    let end = w.controls * d;
-    let row = normal::fitting_row(&cells[0..end], d, start, basis, cells[from + 7], target);
-    normal::add(sys, w.a, w.n, d, row);
+    let basis = padded(&row[1..7]);
+    let target = padded(&row[8..]);
+    let row = normal::fitting_row(controls, w.d, start, basis, row[7], target);
+    normal::add(sys, w.a, w.n, w.d, row);
     Some(())
 }
 
-// Adds as many rows as lie after the controls, where all read.
-fn add_rows(cells: &[f64], rows: usize, w: Window, sys: &mut [f64]) -> Option<()>
-    requires { Lies w × (w.controls * w.d + rows * (8 + w.d) ≤ length cells.now) × (length sys.old ≡ size_of w.n w.d) }
+// Adds all rows, where they read.
+fn add_rows(controls: &[f64], rows: &[f64], w: Window, sys: &mut [f64]) -> Option<()>
+    requires { (length controls.now ≡ w.controls * w.d) × (length sys.old ≡ size_of w.n w.d) }
 {
-    let mut from = w.controls * w.d;
-    for _ in 0..rows {
-        add_row(cells, from, w, sys)?;
-        from += 8 + w.d;
+    for row in rows.chunks_exact(8 + w.d) {
+        add_row(controls, row, w, sys)?;
     }
     Some(())
 }
 
 // The line of a system: the refusal's number, or the solution.
-fn line(answer: Result<(), Unsolved>, solution: &[f64], out: &mut [u8], at: usize) -> usize
-{
+fn line(answer: Result<(), Unsolved>, solution: &[f64], out: &mut [u8], at: usize) -> usize {
     let next = output::text(out, at, b"normal");
     match answer {
         Ok(()) => {
@@ -84,50 +80,17 @@ fn line(answer: Result<(), Unsolved>, solution: &[f64], out: &mut [u8], at: usiz
 }
 
 // Makes the system of the window, adds the rows and solves it.
-fn system(
-    cells: &[f64],
-    rows: usize,
-    w: Window,
-    work: &mut [f64],
-    out: &mut [u8],
-    at: usize,
-) -> Option<usize>
-    requires { Lies w × (w.controls * w.d + rows * (8 + w.d) ≤ length cells.now) × (size_of w.n w.d ≤ length work.old) }
+fn system(controls: &[f64], rows: &[f64], w: Window, work: &mut [f64], out: &mut [u8], at: usize) -> Option<usize>
+    requires { (length controls.now ≡ w.controls * w.d) × (size_of w.n w.d ≤ length work.old) }
     ensures { Unanswered out.old out.new result }
 {
-    let n = w.n;
-    let d = w.d;
-    let right = 6 * n;
-    let scales = right + n * d;
-    let size = scales + n;
-    window::clear(&mut work[0..size]);
-    add_rows(cells, rows, w, &mut work[0..size])?;
-    let answer = normal::solve(&mut work[0..size], n, d);
+    let right = 6 * w.n;
+    let scales = right + w.n * w.d;
+    let size = scales + w.n;
+    window::clear(&mut work[..size]);
+    add_rows(controls, rows, w, &mut work[..size])?;
+    let answer = normal::solve(&mut work[..size], w.n, w.d);
     Some(line(answer, &work[right..scales], out, at))
-}
-
-// The system of a case whose counts fit its lengths.
-fn checked(
-    d: usize,
-    a: usize,
-    z: usize,
-    controls: usize,
-    rows: usize,
-    cells: &[f64],
-    work: &mut [f64],
-    out: &mut [u8],
-    at: usize,
-) -> Option<usize>
-    ensures { Unanswered out.old out.new result }
-{
-    if 16 < d || 65536 < controls || 65536 < rows || controls < z || z < a || cells.len() != controls * d + rows * (8 + d) {
-        return None;
-    }
-    let n = z - a;
-    if work.len() < 6 * n + n * d + n {
-        return None;
-    }
-    system(cells, rows, Window { a, n, d, controls }, work, out, at)
 }
 
 // Kind 30, whole numbers d, a, z, controls, rows: the system of the controls from a up to z.
@@ -139,5 +102,14 @@ pub fn normal(head: Head, cells: &[f64], work: &mut [f64], out: &mut [u8], at: u
     let z = head.wholes[2] as usize;
     let controls = head.wholes[3] as usize;
     let rows = head.wholes[4] as usize;
-    checked(d, a, z, controls, rows, cells, work, out, at)
+    if 16 < d || 65536 < controls || 65536 < rows || controls < z || z < a {
+        return None;
+    }
+    let n = z - a;
+    if cells.len() != controls * d + rows * (8 + d) || work.len() < 6 * n + n * d + n {
+        return None;
+    }
+    let w = Window { a, n, d, controls };
+    let (controls, rows) = cells.split_at(controls * d);
+    system(controls, rows, w, work, out, at)
 }
