@@ -39,6 +39,7 @@ fn weight(s: &[f64], n: usize, i: usize) -> f64
 }
 
 // The d cells of point i, and 0 up to 16.
+#[tactic(auto, using(arith::proofs::Loops::each_turn, arith::proofs::Loops::each_done), unfolding(crate::specs::Samples::point_of))]
 pub fn point(y: &[f64], d: usize, i: usize) -> [f64; 16]
     requires { (d ≤ 16) × (i * d + d ≤ length y.now) }
     ensures { result ≡ point_of y.now d i }
