@@ -1,22 +1,22 @@
 -- The answer to a call, and what the lent slice holds after it: document 02, request 9.
-use Rattle.std.specs.Prelude.{◌≡◌, cond, not, List, ℕ, ◌+◌, ◌-◌, ◌*◌, ◌≤◌, ◌<◌, ltb, ℤ, pos, length, get_or}
+use Rattle.std.specs.Prelude.{◌≡◌, cond, not, List, ℕ, ◌+◌, ◌-◌, ◌*◌, ◌≤◌, ◌<◌, ltb, ℤ, pos, length, get_or, Result, Ok, Err}
 use Rattle.window.specs.Rows.{join, list_of, written}
 use Rattle.curve.specs.declared.Curve.{Curve}
 use Rattle.curve.specs.Form.{Slices, well_formed}
 use Rattle.curve.specs.Places.{axis_place}
-use Rattle.heights.specs.declared.entry.Answer.{Answer}
-use Rattle.heights.specs.declared.entry.Answer.TheVariants.{Written, Malformed, NoSuchAxis, TooShort, HeightTooLarge}
+use Rattle.heights.specs.declared.entry.Refusal.{Refusal}
+use Rattle.heights.specs.declared.entry.Refusal.TheVariants.{Malformed, NoSuchAxis, TooShort, HeightTooLarge}
 use Rattle.heights.specs.Controls.{AxisSet, controls_on, wholes_of, all_fit}
 use Rattle.heights.specs.Height.{height_of}
 use Rattle.heights.specs.Exact.{WithinHalf}
 
 -- the answer's number in the papers; 0 says that the heights stand in the slice
-abbrev pub number_of : Answer → ℕ
-number_of Written = 0
-number_of Malformed = 24
-number_of NoSuchAxis = 3
-number_of TooShort = 19
-number_of HeightTooLarge = 28
+abbrev pub number_of : Result (Unit {0}) Refusal → ℕ
+number_of (Ok _) = 0
+number_of (Err Malformed) = 24
+number_of (Err NoSuchAxis) = 3
+number_of (Err TooShort) = 19
+number_of (Err HeightTooLarge) = 28
 
 -- the answer's number, and the cells of the lent slice after it
 pub record Outcome : Type 0 where

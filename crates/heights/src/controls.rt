@@ -1,44 +1,25 @@
 // The whole controls of a segment.
-ghost use Rattle.std.specs.Prelude.{◌||◌, ◌≡◌, ◌+◌, ◌*◌, ◌<◌, ◌≤◌, length};
+ghost use Rattle.std.specs.Prelude.{◌≡◌, ◌+◌, ◌*◌, ◌<◌, ◌≤◌, length};
 ghost use Rattle.heights.specs.Controls.{segment_form, controls_in};
 ghost use Rattle.heights.specs.Lifted.{ControlsFrom};
 
 use crate::rounding;
 use polynomial::piece;
 
-// Whether a control is turned away by 28; and otherwise the six whole controls, each as the number by which
-// it lies above -2,000,000.
-#[derive(Clone, Copy)]
-pub struct Controls {
-    pub beyond: bool,
-    pub cells: [u64; 6],
-}
-
-// Whether one holds.
-fn either(a: bool, b: bool) -> bool
-    ensures { result ≡ (a || b) }
-{
-    if a { true } else { b }
-}
-
-// The whole controls of these Bernstein controls.
-fn wholes(b: [f64; 6]) -> Controls
+// The whole controls of these Bernstein controls, each as the number by which it lies above -2,000,000;
+// none where one is turned away by 28.
+fn wholes(b: [f64; 6]) -> Option<[u64; 6]>
     ensures { ControlsFrom b result }
 {
     let mut cells = [0u64; 6];
-    let mut beyond = false;
-    let mut k = 0;
-    while k < 6 {
-        let r = rounding::nearest_whole(b[k] * 100.0);
-        beyond = either(beyond, r.beyond);
-        cells[k] = r.lifted;
-        k += 1;
+    for k in 0..6 {
+        cells[k] = rounding::nearest_whole(b[k] * 100.0)?;
     }
-    Controls { beyond, cells }
+    Some(cells)
 }
 
 // The whole controls of the segment from a to b with the powers p.
-pub fn of_segment(p: &[f64], a: f64, b: f64) -> Controls
+pub fn of_segment(p: &[f64], a: f64, b: f64) -> Option<[u64; 6]>
     requires { length p.now ≡ 6 }
     ensures { ControlsFrom (segment_form a b p.now) result }
 {
@@ -53,7 +34,7 @@ pub(crate) fn on_segment(
     m: usize,
     place: usize,
     i: usize,
-) -> Controls
+) -> Option<[u64; 6]>
     requires { (i + 1 < length breaks.now) × (6 * (i * m + place) + 6 ≤ length coefficients.now) }
     ensures { ControlsFrom (controls_in breaks.now coefficients.now m place i) result }
 {

@@ -10,11 +10,9 @@ ghost use Rattle.heights.specs.Heights.{number_of, outcome, axis_set, all_height
 use crate::{controls, steps, weights};
 use curve::{Curve, form, place};
 
-// The answer.
-#[derive(Clone, Copy)]
-pub enum Answer {
-    // the heights are written
-    Written,
+// Why no height is written.
+#[derive(Clone, Copy, Debug, PartialEq, Eq)]
+pub enum Refusal {
     // 24: the curve is not well formed
     Malformed,
     // 3: the axis is not below d
@@ -25,16 +23,16 @@ pub enum Answer {
     HeightTooLarge,
 }
 
-// Its number in the papers, 0 where the heights are written.
-pub fn number(answer: Answer) -> u64
+// An answer's number in the papers, 0 where the heights are written.
+pub fn number(answer: Result<(), Refusal>) -> u64
     ensures { result ≡ number_of answer }
 {
     match answer {
-        Answer::Written => 0,
-        Answer::Malformed => 24,
-        Answer::NoSuchAxis => 3,
-        Answer::TooShort => 19,
-        Answer::HeightTooLarge => 28,
+        Ok(()) => 0,
+        Err(Refusal::Malformed) => 24,
+        Err(Refusal::NoSuchAxis) => 3,
+        Err(Refusal::TooShort) => 19,
+        Err(Refusal::HeightTooLarge) => 28,
     }
 }
 
@@ -43,13 +41,10 @@ fn all_fit(breaks: &[f64], coefficients: &[f64], n: usize, m: usize, at: usize) 
     requires { Sized n m at breaks.now coefficients.now }
     ensures { result ≡ all_fit (set_with breaks.now coefficients.now n m at) }
 {
-    let mut i = 0;
-    while i < n {
-        let c = controls::on_segment(breaks, coefficients, m, at, i);
-        if c.beyond {
+    for i in 0..n {
+        if controls::on_segment(breaks, coefficients, m, at, i).is_none() {
             return false;
         }
-        i += 1;
     }
     true
 }
@@ -69,14 +64,11 @@ fn put_segments(
     ensures { out.new ≡ written 0 (all_heights (set_with breaks.now coefficients.now n m at))
         out.old }
 {
-    let mut i = 0;
-    while i < n {
-        let c = controls::on_segment(breaks, coefficients, m, at, i);
-        let cells = c.cells;
+    for i in 0..n {
+        let cells = controls::on_segment(breaks, coefficients, m, at, i).unwrap();
         let from = 257 * i;
         let to = from + 257;
         steps::put_steps(weights, &cells, &mut out[from..to]);
-        i += 1;
     }
 }
 
@@ -88,21 +80,20 @@ fn in_set(
     m: usize,
     at: usize,
     out: &mut [i32],
-) -> Answer
+) -> Result<(), Refusal>
     requires { Sized n m at breaks.now coefficients.now }
     ensures { outcome (number_of result) out.new ≡ heights_in (set_with breaks.now coefficients.now n m at)
         out.old }
 {
     if out.len() < 257 * n {
-        return Answer::TooShort;
+        return Err(Refusal::TooShort);
     }
     if !all_fit(breaks, coefficients, n, m, at) {
-        return Answer::HeightTooLarge;
+        return Err(Refusal::HeightTooLarge);
     }
-    let table = weights::weight_table();
-    let cells = table.cells;
-    put_segments(&cells, breaks, coefficients, n, m, at, out);
-    Answer::Written
+    let weights = weights::weight_table();
+    put_segments(&weights, breaks, coefficients, n, m, at, out);
+    Ok(())
 }
 
 // The heights of an axis, 257 to each segment of its set, to the first cells of `out`, in hundredths. The
@@ -116,7 +107,7 @@ pub fn heights(
     other_coefficients: &[f64],
     axis: usize,
     out: &mut [i32],
-) -> Answer
+) -> Result<(), Refusal>
     ensures out_after { outcome (number_of result) out.new ≡ heights_of curve (slices breaks.now coefficients.now
         other_breaks.now other_coefficients.now) axis out.old }
     ensures each_within_half { EachWithinHalf (axis_set curve (slices breaks.now coefficients.now other_breaks.now
@@ -129,24 +120,25 @@ pub fn heights(
         other_breaks,
         other_coefficients,
     ) {
-        return Answer::Malformed;
+        return Err(Refusal::Malformed);
     }
     let d = curve.d;
     if d <= axis {
-        return Answer::NoSuchAxis;
+        return Err(Refusal::NoSuchAxis);
     }
     let k = curve.k;
     let axes = curve.axes;
     let at = place::axis_place(&axes, k, axis);
     if at < k {
-        return in_set(breaks, coefficients, curve.segments, k, at, out);
+        in_set(breaks, coefficients, curve.segments, k, at, out)
+    } else {
+        in_set(
+            other_breaks,
+            other_coefficients,
+            curve.other_segments,
+            d - k,
+            at - k,
+            out,
+        )
     }
-    in_set(
-        other_breaks,
-        other_coefficients,
-        curve.other_segments,
-        d - k,
-        at - k,
-        out,
-    )
 }

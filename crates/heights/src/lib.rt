@@ -7,8 +7,8 @@ mod controls; // controls.rt: the whole controls of a segment
 mod steps; // steps.rt: the heights of a segment, step after step
 mod entry; // entry.rt: the heights of an axis in a lent slice
 
-pub use entry::{Answer, heights, number};
+pub use entry::{Refusal, heights, number};
 // a segment at a time, for the totals of request 13
-pub use controls::{Controls, of_segment};
+pub use controls::of_segment;
 pub use steps::height;
-pub use weights::{Weights, weight_table};
+pub use weights::weight_table;

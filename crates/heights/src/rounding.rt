@@ -3,14 +3,6 @@ ghost use Rattle.std.specs.Prelude.{◌≡◌, ◌≤◌};
 ghost use Rattle.heights.specs.Lifted.{RoundedFrom};
 ghost use Rattle.heights.specs.Places.{whole_place};
 
-// Whether a number is not finite or beyond ±2,000,000; and otherwise its whole number, as the number by
-// which it lies above -2,000,000.
-#[derive(Clone, Copy)]
-pub struct Rounded {
-    pub beyond: bool,
-    pub lifted: u64,
-}
-
 // The nearest whole number to the number with the bits `place`, whose sign is clear and which is not above
 // 2,000,000. Where its exponent's field is 1022 or more, its digits stand for digits · 2^(exponent - 1075).
 fn nearest_place(place: u64) -> u64
@@ -26,33 +18,23 @@ fn nearest_place(place: u64) -> u64
     ((digits >> half) + 1) / 2
 }
 
-// x to the nearest whole number.
-pub(crate) fn nearest_whole(x: f64) -> Rounded
+// x to the nearest whole number, as the number by which it lies above -2,000,000; none where x is not
+// finite or beyond ±2,000,000.
+pub(crate) fn nearest_whole(x: f64) -> Option<u64>
     ensures { RoundedFrom x result }
 {
     if x != x {
-        return Rounded {
-            beyond: true,
-            lifted: 0,
-        };
+        return None;
     }
     let bits = f64::to_bits(x);
     let place = bits % 0x8000_0000_0000_0000;
     if 0x413E_8480_0000_0000 < place {
-        return Rounded {
-            beyond: true,
-            lifted: 0,
-        };
+        return None;
     }
     let size = nearest_place(place);
     if bits < 0x8000_0000_0000_0000 {
-        return Rounded {
-            beyond: false,
-            lifted: 2000000 + size,
-        };
-    }
-    Rounded {
-        beyond: false,
-        lifted: 2000000 - size,
+        Some(2000000 + size)
+    } else {
+        Some(2000000 - size)
     }
 }

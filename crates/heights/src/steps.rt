@@ -21,10 +21,8 @@ pub fn height(weights: &[u64], controls: &[u64], j: usize) -> u64
     ensures { (lowered result ≡ height_of (map lowered controls.now) j) × (result ≤ 4000000) }
 {
     let mut sum = 0x80_0000_0000u64;
-    let mut k = 0;
-    while k < 6 {
+    for k in 0..6 {
         sum += controls[k] * weights[6 * j + k];
-        k += 1;
     }
     (sum - one_below(sum)) / 0x100_0000_0000
 }
@@ -42,9 +40,7 @@ pub(crate) fn put_steps(weights: &[u64], controls: &[u64], out: &mut [i32])
     requires { (length out.old ≡ 257) × (weights.now ≡ weight_table) × Lifted controls.now }
     ensures { out.new ≡ list_of 257 (height_of (map lowered controls.now)) }
 {
-    let mut j = 0;
-    while j < 257 {
+    for j in 0..257 {
         out[j] = lower(height(weights, controls, j));
-        j += 1;
     }
 }

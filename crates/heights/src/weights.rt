@@ -1548,16 +1548,10 @@ const WEIGHTS: [u64; 1542] = [
     1099511627776,
 ];
 
-// The table.
-#[derive(Clone, Copy)]
-pub struct Weights {
-    pub cells: [u64; 1542],
-}
-
 // The table by value: whoever reads it lends its cells. Each row totals 2^40.
-pub fn weight_table() -> Weights
-    ensures cells_value { result.cells ≡ weight_table }
-    ensures by_index { (j : ℕ) → j ≤ 256 → row_total result.cells j ≡ 2 ^ 40 }
+pub fn weight_table() -> [u64; 1542]
+    ensures cells_value { result ≡ weight_table }
+    ensures by_index { (j : ℕ) → j ≤ 256 → row_total result j ≡ 2 ^ 40 }
 {
-    Weights { cells: WEIGHTS }
+    WEIGHTS
 }

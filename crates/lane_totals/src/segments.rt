@@ -14,7 +14,6 @@ ghost use Rattle.lane_totals.specs.Kept.{totals_in, Kept};
 use crate::sums;
 use crate::sums::Sums;
 use encoding::number;
-use heights::Controls;
 
 // The heights of a segment at steps 0 to 255.
 fn steps(weights: &[u64], controls: &[u64]) -> Sums
@@ -53,7 +52,7 @@ fn powers_at(coefficients: &[u64], from: usize) -> [f64; 6]
 }
 
 // The whole controls, on segment i, of the axis at a place of the m axes of a set.
-fn controls_on(breaks: &[f64], coefficients: &[u64], m: usize, place: usize, i: usize) -> Controls
+fn controls_on(breaks: &[f64], coefficients: &[u64], m: usize, place: usize, i: usize) -> Option<[u64; 6]>
     requires { (i + 1 < length breaks.now) × (6 * (i * m + place) + 6 ≤ length coefficients.now) }
     ensures { ControlsFrom (controls_in breaks.now (map number_of coefficients.now) m place i) result }
 {
@@ -76,11 +75,9 @@ fn all_segments(
 {
     let mut all = sums::one_lane();
     for i in 0..n {
-        let c = controls_on(breaks, coefficients, m, at, i);
-        if c.beyond {
+        let Some(cells) = controls_on(breaks, coefficients, m, at, i) else {
             return sums::one_away();
-        }
-        let cells = c.cells;
+        };
         let one = steps(weights, &cells);
         all = sums::merged(all, one);
     }

@@ -101,8 +101,7 @@ fn run(
 fn main() {
     let mut buffer = io::large_buffer();
     let mut out = io::buffer();
-    let table = heights::weight_table();
-    let weights = table.cells;
+    let weights = heights::weight_table();
     let mut breaks = [0.0; 7500];
     let mut coefficients = [0u64; 7500];
     let mut other_breaks = [0.0; 7500];

@@ -8,7 +8,7 @@ run-requires c κs = (
   (search rules, search rules),
   (
     (search rules, search rules, search rules, search rules),
-    c.weight_table-table.ensures.0,
+    c.weight_table-weights.ensures.0,
   ),
 )
 

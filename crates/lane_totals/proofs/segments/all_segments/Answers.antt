@@ -16,26 +16,25 @@ pub loop-i-init : goal.loop-i-init
 unfolding first_of lane_over
 loop-i-init c = record { upto = refl; there = c.one_lane-all.ensures.0; kept = c.one_lane-all.ensures.1 }
 
-pub controls_on-c-requires : goal.controls_on-c-requires
-controls_on-c-requires c =
+pub controls_on-requires : goal.controls_on-requires
+controls_on-requires c =
     let a = c.args in
     let b = a.coefficients.now in
     let h = segment_inside a.n a.m a.at c.loop-i.i a.breaks.now (map number_of b) c.requires.0 (omega arith) in
     (h.0, omega (arith, h.1, length-map b number_of))
 
-pub returns-then-c : goal.returns-then-c
-returns-then-c c =
+pub returns-in_default : goal.returns-in_default
+returns-in_default c =
     let a = c.args in
     let l = c.loop-i in
     let set = set_with a.breaks.now (map number_of a.coefficients.now) a.n a.m a.at in
-    let e : all_fit set ≡ false = every_not (segment_fits set) a.n l.i (omega arith) l.invariant.upto
-    (ap not (sym c.controls_on-c.ensures.turned_away ∙ c.if-c.true)) in (
+    let e : all_fit set ≡ false = every_not (segment_fits set) a.n l.i (omega arith) l.invariant.upto (ap not c.in_default.ensures) in (
       rw e c.one_away.ensures.0,
       kept_wider 1 0 20000 _ (omega arith) c.one_away.ensures.1,
     )
 
 pub steps-one-requires : goal.steps-one-requires
-steps-one-requires c = (c.requires.1, c.controls_on-c.ensures.small)
+steps-one-requires c = (c.requires.1, c.in-Some.ensures.2)
 
 pub merged-all-requires : goal.merged-all-requires
 merged-all-requires c =
@@ -49,11 +48,9 @@ loop-i-preserved c =
     let a = c.args in
     let l = c.loop-i in
     let set = set_with a.breaks.now (map number_of a.coefficients.now) a.n a.m a.at in
-    let fits : any_beyond (controls_on set l.i) ≡ false = sym c.controls_on-c.ensures.turned_away ∙ c.if-c.false in
-    gathered_next set l.all c.steps-one.result c.merged-all.result l.i l.invariant fits
-          (c.steps-one.ensures.0
-          ∙ ap (λ (w : List ℤ). step_totals 256 (height_of w)) (c.controls_on-c.ensures.wholes (c.controls_on-c.ensures.turned_away ∙
-          fits)))
+    let h = c.in-Some.ensures in
+    gathered_next set l.all c.steps-one.result c.merged-all.result l.i l.invariant h.0
+          (c.steps-one.ensures.0 ∙ ap (λ (w : List ℤ). step_totals 256 (height_of w)) h.1)
           c.steps-one.ensures.1 c.merged-all.ensures
 
 pub returns : goal.returns
