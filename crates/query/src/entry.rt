@@ -184,18 +184,7 @@ pub fn evaluate_near<'a>(
     if range::in_range(lent.curve, x).is_none() {
         return Err(Refusal::OutsideAt(0));
     }
-    Ok(write_all(
-        lent,
-        span,
-        other_span,
-        &[x],
-        false,
-        order,
-        q,
-        dq,
-        ddq,
-        dddq,
-    ))
+    Ok(write_all(lent, span, other_span, &[x], false, order, q, dq, ddq, dddq))
 }
 
 // The query at x of a curve that is known to be well formed, as that of an accepted build is
@@ -215,17 +204,7 @@ pub fn evaluate_formed<'a>(
         ≡ evaluate_of lent.now.curve (slices_of lent.now) x order (outputs q.old dq.old ddq.old
         dddq.old) }
 {
-    evaluate_near(
-        lent,
-        0,
-        0,
-        x,
-        order,
-        q,
-        dq,
-        ddq,
-        dddq,
-    )?;
+    evaluate_near(lent, 0, 0, x, order, q, dq, ddq, dddq)?;
     Ok(())
 }
 
@@ -247,15 +226,7 @@ pub fn evaluate<'a>(
     if !lent.well_formed() {
         return Err(Refusal::Malformed);
     }
-    evaluate_formed(
-        lent,
-        x,
-        order,
-        q,
-        dq,
-        ddq,
-        dddq,
-    )
+    evaluate_formed(lent, x, order, q, dq, ddq, dddq)
 }
 
 // The queries at all of `xs` of a curve that is known to be well formed; the `requires` is that of
@@ -290,18 +261,7 @@ pub fn evaluate_all_formed<'a>(
     if let Some(place) = first_refused(curve, xs, inside) {
         return Err(Refusal::OutsideAt(place));
     }
-    write_all(
-        lent,
-        0,
-        0,
-        xs,
-        inside,
-        order,
-        q,
-        dq,
-        ddq,
-        dddq,
-    );
+    write_all(lent, 0, 0, xs, inside, order, q, dq, ddq, dddq);
     Ok(()) // all are answered
 }
 
@@ -323,13 +283,5 @@ pub fn evaluate_all<'a>(
     if !lent.well_formed() {
         return Err(Refusal::Malformed);
     }
-    evaluate_all_formed(
-        lent,
-        xs,
-        order,
-        q,
-        dq,
-        ddq,
-        dddq,
-    )
+    evaluate_all_formed(lent, xs, order, q, dq, ddq, dddq)
 }

@@ -10,8 +10,8 @@ mod range; // range.rt: parameters outside start to end
 mod row; // row.rt: the axes of one query, written
 mod entry; // entry.rt: one query, and many in one call
 
-pub use lent::Lent;
 pub use entry::{
     Refusal, Spans, evaluate, evaluate_all, evaluate_all_formed, evaluate_formed, evaluate_near,
     number,
 };
+pub use lent::Lent;

@@ -1,4 +1,4 @@
-use Rattle.std.proofs.Common.{◌≡◌, sym, ◌∙◌}
+use Rattle.std.proofs.Common.{sym, ◌∙◌}
 use Rattle.query.specs.Query.{evaluate_all_of}
 use Rattle.query.proofs.Answered.{malformed}
 use Rattle.query.proofs.entry.evaluate_all.Goals as goal

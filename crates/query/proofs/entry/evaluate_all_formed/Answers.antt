@@ -1,5 +1,5 @@
 -- By cases on the checks, in their order.
-use Rattle.std.proofs.Common.{◌≡◌, ◌*◌, ◌<◌, ◌≤◌, length, is_none, sym, ◌∙◌, arith}
+use Rattle.std.proofs.Common.{◌*◌, ◌<◌, length, is_none, sym, ◌∙◌, arith}
 use native.Mathlib.Nat.{div-lt_iff_lt-mul}
 use Rattle.arith.proofs.Firsts.{first_before}
 use Rattle.window.specs.Cells.{at}

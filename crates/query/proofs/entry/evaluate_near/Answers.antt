@@ -1,13 +1,11 @@
 -- By cases on the checks, in their order. The queries at one parameter are the query at it.
-use Rattle.std.proofs.Common.{◌≡◌, ◌+◌, ◌*◌, Bool, true, false, Option, is_none, not, refl, sym, ap, ◌∙◌, arith}
-use Rattle.curve.specs.declared.Curve.{Curve}
-use Rattle.curve.specs.Form.{Slices, slices, well_formed}
+use Rattle.std.proofs.Common.{◌*◌, Option, is_none, not, refl, sym, ap, ◌∙◌, arith}
 use Rattle.query.specs.declared.range.Ranged.{Ranged}
 use Rattle.query.specs.Row.{outputs}
 use Rattle.query.specs.Query.{evaluate_of}
 use Rattle.query.proofs.Rooms.{rooms}
 use Rattle.query.proofs.Filled.{as_long, room_for}
-use Rattle.query.proofs.Answered.{Passed, above_three, too_short, outside, done}
+use Rattle.query.proofs.Answered.{above_three, too_short, outside, done}
 use Rattle.query.proofs.entry.evaluate_near.Goals as goal
 
 pub returns-then-order-gt3-clause-dddq_after : goal.returns-then-order-gt3-clause-dddq_after

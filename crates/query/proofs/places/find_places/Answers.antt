@@ -1,5 +1,5 @@
 -- By cases on whether axis a is listed.
-use Rattle.std.proofs.Common.{◌≡◌, ℕ, ◌≤◌, ◌<◌, ◌+◌, refl, sym, ap, ◌∙◌, arith}
+use Rattle.std.proofs.Common.{ℕ, ◌≤◌, ◌<◌, ◌+◌, refl, sym, ap, ◌∙◌, arith}
 use lib.ListN.{length-set}
 use Rattle.curve.specs.Places.{position_of, others_below}
 use Rattle.curve.proofs.Placing.{listed_place, listed_next, other_place, other_next, place_next}

@@ -1,4 +1,4 @@
-use Rattle.std.proofs.Common.{◌≡◌, ◌*◌, ◌≤◌, length, sym, ◌∙◌, arith}
+use Rattle.std.proofs.Common.{◌≡◌, length, sym, ◌∙◌, arith}
 use Rattle.std.specs.Float.Ieee.{le}
 use native.Mathlib.Nat.{mul-le-mul_right}
 use Rattle.arith.proofs.Truth.{and_parts}

@@ -5,7 +5,6 @@ use Rattle.query.specs.declared.segment.Local.{Local}
 use Rattle.query.specs.declared.segment.Derivatives.{Derivatives}
 use Rattle.query.specs.Segment.{axis_at}
 use Rattle.query.specs.Row.{outputs, filled, standing}
-use Rattle.query.proofs.Filled.{SameLengths}
 use Rattle.query.proofs.row.put_axes.Given as goal
 
 -- axis b

@@ -1,8 +1,7 @@
 -- By cases on the order.
-use Rattle.std.proofs.Common.{◌≡◌, cond, [], ◌∷◌, leb, arith}
-use lib.ListN.{set}
+use Rattle.std.proofs.Common.{arith}
 use borrow.Author.Tests.{le-leb, lt-leb}
-use Rattle.query.specs.Row.{outputs, filled}
+use Rattle.query.specs.Row.{outputs}
 use Rattle.query.proofs.Filled.{cells_filled}
 use Rattle.query.proofs.row.put_axis.Goals as goal
 

@@ -1,4 +1,4 @@
-use Rattle.std.proofs.Common.{◌≡◌, ℕ, ◌+◌, ◌-◌, ◌*◌, ◌<◌, ◌≤◌, length, arith}
+use Rattle.std.proofs.Common.{ℕ, ◌+◌, ◌-◌, ◌*◌, ◌<◌, ◌≤◌, length, arith}
 use native.Mathlib.Nat.{mul-le-mul_right, mul-pos}
 use Rattle.query.proofs.Searching.{at_least, above_first, passing_next}
 use Rattle.query.proofs.search.passed.Goals as goal

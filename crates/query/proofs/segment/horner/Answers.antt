@@ -1,4 +1,4 @@
-use Rattle.std.proofs.Common.{◌≡◌, sym, ◌∙◌, arith}
+use Rattle.std.proofs.Common.{sym, ◌∙◌, arith}
 use lib.Ieee.{of_bits, round}
 use Rattle.arith.proofs.Loops.{back_done, back_turn}
 use Rattle.bspline.specs.Choose.{factorials}
