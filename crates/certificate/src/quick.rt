@@ -19,7 +19,7 @@ use estimate::sizes;
 use pairs::spread::Spread;
 use pairs::{ends, spread};
 
-// u^1 .. u^5
+// u^1 .. u^5. Names and no array: an array would hold u^1 at 0, and no loop goes over them.
 #[derive(Clone, Copy)]
 pub struct Powers {
     pub one: Spread,
@@ -133,7 +133,7 @@ fn largest(x: f64, s: Spread) -> f64
     ends::higher(x, ends::higher(s.below, s.above))
 }
 
-// Six spreads: the powers of curve minus line.
+// Six spreads: the powers of curve minus line. Names, as in `Powers`, whose fields they meet by name.
 #[derive(Clone, Copy)]
 pub struct Row {
     pub zero: Spread,

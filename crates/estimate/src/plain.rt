@@ -42,7 +42,14 @@ fn curve_powers(p: [f64; 6], u: f64, w: f64) -> [f64; 6]
     let three = 0.0 + 1.0 * p3 * 1.0 + 4.0 * p4 * u1 + 10.0 * p5 * u2;
     let four = 0.0 + 1.0 * p4 * 1.0 + 5.0 * p5 * u1;
     let five = 0.0 + 1.0 * p5 * 1.0;
-    [zero * 1.0, one * w1, two * w2, three * w3, four * w4, five * w5]
+    [
+        zero * 1.0,
+        one * w1,
+        two * w2,
+        three * w3,
+        four * w4,
+        five * w5,
+    ]
 }
 
 // The powers of curve minus line.
@@ -68,11 +75,7 @@ fn bernstein(q: [f64; 6]) -> [f64; 6]
     let one = b + q[1] * 1.0 / 5.0;
     let two = b + q[1] * 2.0 / 5.0 + q[2] * 1.0 / 10.0;
     let three = b + q[1] * 3.0 / 5.0 + q[2] * 3.0 / 10.0 + q[3] * 1.0 / 10.0;
-    let four = b
-        + q[1] * 4.0 / 5.0
-        + q[2] * 6.0 / 10.0
-        + q[3] * 4.0 / 10.0
-        + q[4] * 1.0 / 5.0;
+    let four = b + q[1] * 4.0 / 5.0 + q[2] * 6.0 / 10.0 + q[3] * 4.0 / 10.0 + q[4] * 1.0 / 5.0;
     let five = b
         + q[1] * 5.0 / 5.0
         + q[2] * 10.0 / 10.0

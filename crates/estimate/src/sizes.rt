@@ -64,8 +64,7 @@ fn placed(x: Intersection) -> bool
 fn long(x: Intersection) -> bool
     ensures { result ≡ true → Long (intersection_of x) }
 {
-    at_most(8.673617379884035e-19, x.end - x.start)
-        & at_most(8.673617379884035e-19, x.to - x.from)
+    at_most(8.673617379884035e-19, x.end - x.start) & at_most(8.673617379884035e-19, x.to - x.from)
 }
 
 // All of these.

@@ -58,15 +58,7 @@ pub extern "C" fn pamitoye_evaluate<'a>(
         other_breaks,
         other_coefficients,
     };
-    let answered = query::evaluate(
-        &lent,
-        x,
-        order,
-        q,
-        dq,
-        ddq,
-        dddq,
-    );
+    let answered = query::evaluate(&lent, x, order, q, dq, ddq, dddq);
     query::number(answered)
 }
 
@@ -112,15 +104,7 @@ pub extern "C" fn pamitoye_evaluate_all<'a>(
         other_breaks,
         other_coefficients,
     };
-    let answered = query::evaluate_all(
-        &lent,
-        xs,
-        order,
-        q,
-        dq,
-        ddq,
-        dddq,
-    );
+    let answered = query::evaluate_all(&lent, xs, order, q, dq, ddq, dddq);
     put_place(answered, refused_at)
 }
 
@@ -164,15 +148,7 @@ pub extern "C" fn pamitoye_evaluate_formed<'a>(
         other_breaks,
         other_coefficients,
     };
-    let answered = query::evaluate_formed(
-        &lent,
-        x,
-        order,
-        q,
-        dq,
-        ddq,
-        dddq,
-    );
+    let answered = query::evaluate_formed(&lent, x, order, q, dq, ddq, dddq);
     query::number(answered)
 }
 
@@ -223,17 +199,7 @@ pub extern "C" fn pamitoye_evaluate_near<'a>(
         other_breaks,
         other_coefficients,
     };
-    let found = query::evaluate_near(
-        &lent,
-        *span,
-        *other_span,
-        x,
-        order,
-        q,
-        dq,
-        ddq,
-        dddq,
-    );
+    let found = query::evaluate_near(&lent, *span, *other_span, x, order, q, dq, ddq, dddq);
     if let Ok(spans) = found {
         *span = spans.span;
         *other_span = spans.other_span;
@@ -285,14 +251,6 @@ pub extern "C" fn pamitoye_evaluate_all_formed<'a>(
         other_breaks,
         other_coefficients,
     };
-    let answered = query::evaluate_all_formed(
-        &lent,
-        xs,
-        order,
-        q,
-        dq,
-        ddq,
-        dddq,
-    );
+    let answered = query::evaluate_all_formed(&lent, xs, order, q, dq, ddq, dddq);
     put_place(answered, refused_at)
 }

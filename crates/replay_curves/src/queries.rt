@@ -20,15 +20,7 @@ fn query(curve: Curve, p: Slices<'_>, x: f64, out: &mut [u8], at: usize) -> usiz
         other_breaks: p.other_breaks,
         other_coefficients: p.other_coefficients,
     };
-    let answer = query::evaluate(
-        &lent,
-        x,
-        3,
-        &mut q,
-        &mut dq,
-        &mut ddq,
-        &mut dddq,
-    );
+    let answer = query::evaluate(&lent, x, 3, &mut q, &mut dq, &mut ddq, &mut dddq);
     if let Err(refusal) = answer {
         let next = output::text(out, at, b" refused");
         return output::whole(out, next, refusal.number());

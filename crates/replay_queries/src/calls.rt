@@ -99,15 +99,7 @@ pub fn single(
         other_breaks: p.other_breaks,
         other_coefficients: p.other_coefficients,
     };
-    let answer = query::evaluate(
-        &lent,
-        x,
-        order,
-        q,
-        dq,
-        ddq,
-        dddq,
-    );
+    let answer = query::evaluate(&lent, x, order, q, dq, ddq, dddq);
     let next = refusal(query::number(answer), out, at);
     cells(q, dq, ddq, dddq, out, next)
 }
@@ -138,15 +130,7 @@ pub fn all(
         other_breaks: p.other_breaks,
         other_coefficients: p.other_coefficients,
     };
-    let answers = query::evaluate_all(
-        &lent,
-        p.rest,
-        order,
-        q,
-        dq,
-        ddq,
-        dddq,
-    );
+    let answers = query::evaluate_all(&lent, p.rest, order, q, dq, ddq, dddq);
     let next = refusal(query::number(answers), out, at);
     let next = place(query::number(answers), refused_at(answers), out, next);
     cells(q, dq, ddq, dddq, out, next)

@@ -48,17 +48,7 @@ fn next(
         other_breaks: p.other_breaks,
         other_coefficients: p.other_coefficients,
     };
-    let found = reader::ask_from(
-        lent,
-        kept.span,
-        kept.other_span,
-        x,
-        order,
-        q,
-        dq,
-        ddq,
-        dddq,
-    );
+    let found = reader::ask_from(lent, kept.span, kept.other_span, x, order, q, dq, ddq, dddq);
     let at = calls::refusal(query::number(found), out, kept.at);
     let at = calls::cells(q, dq, ddq, dddq, out, at);
     match found {
