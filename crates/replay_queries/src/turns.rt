@@ -1,5 +1,4 @@
-// Queries in turn, asked of a curve reader: each of one that keeps the segments of the last answer. A function with a reader in
-// a local is not covered, so each question goes through `reader::ask_from`.
+// Queries in turn, asked of a curve reader by `reader::ask_from`: each of one that keeps the segments of the last answer.
 ghost use Rattle.std.specs.Prelude.{◌≡◌, ◌%◌, length, get_or};
 ghost use Rattle.std.specs.Float.{nan};
 ghost use Rattle.listing.specs.Axes.{byte_of};
