@@ -12,17 +12,6 @@ ghost use Rattle.selected_axes.specs.First.{inner_knots};
 
 use refinement::plan::Plan;
 
-// Every cell becomes x.
-fn fill(cells: &mut [f64], x: f64)
-    ensures { cells.new ≡ replicate (length cells.old) x }
-{
-    let mut i = 0;
-    while i < cells.len() {
-        cells[i] = x;
-        i += 1;
-    }
-}
-
 // Six knots at 0 before the inner ones, and six at 1 behind them.
 fn put_ends(work: &mut [f64], p: Plan)
     requires { Roomy p (length work.old) }
@@ -35,7 +24,7 @@ fn put_ends(work: &mut [f64], p: Plan)
     let behind = t + p.count;
     let end = behind + 6;
     window::clear(&mut work[t..inner]);
-    fill(&mut work[behind..end], 1.0);
+    work[behind..end].fill(1.0);
 }
 
 // Greville's abscissa of control i.
@@ -44,10 +33,8 @@ fn greville(t: &[f64], i: usize) -> f64
     ensures { result ≡ greville_of t.now i }
 {
     let mut sum = -0.0;
-    let mut j = 0;
-    while j < 5 {
-        sum = sum + t[i + 1 + j];
-        j += 1;
+    for j in 0..5 {
+        sum += t[i + 1 + j];
     }
     sum / 5.0
 }
@@ -58,10 +45,8 @@ fn put_control(work: &mut [f64], to: usize, last: usize, d: usize, u: f64)
     ensures { work.new
         ≡ written to (list_of d (λ a. mul binary64 u (at work.old (last + a)))) work.old }
 {
-    let mut a = 0;
-    while a < d {
+    for a in 0..d {
         work[to + a] = u * work[last + a];
-        a += 1;
     }
 }
 
@@ -73,11 +58,9 @@ fn put_controls(work: &mut [f64], t: usize, m: usize, last: usize, d: usize, to:
         (at work.old (last + a)))) work.old }
 {
     let t_end = t + (m + 6);
-    let mut i = 0;
-    while i < m {
+    for i in 0..m {
         let u = greville(&work[t..t_end], i);
         put_control(work, to + i * d, last, d, u);
-        i += 1;
     }
 }
 

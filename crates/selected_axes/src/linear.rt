@@ -15,12 +15,10 @@ fn strays(s: &[f64], y: &[f64], n: usize, d: usize, i: usize) -> bool
     let u = s[i];
     let from = i * d;
     let last = (n - 1) * d;
-    let mut a = 0;
-    while a < d {
+    for a in 0..d {
         if !(float::abs(y[from + a] - u * y[last + a]) <= 0.95) {
             return true;
         }
-        a += 1;
     }
     false
 }
@@ -30,12 +28,10 @@ fn any_strays(s: &[f64], y: &[f64], n: usize, d: usize) -> bool
     requires { (n ≤ length s.now) × (n * d ≤ length y.now) }
     ensures { result ≡ curved (task_over n d s.now y.now) }
 {
-    let mut i = 0;
-    while i < n {
+    for i in 0..n {
         if strays(s, y, n, d, i) {
             return true;
         }
-        i += 1;
     }
     false
 }

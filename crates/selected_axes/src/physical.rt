@@ -15,10 +15,8 @@ fn scale_control(work: &mut [f64], to: usize, first: usize, d: usize, eps: &[f64
         ≡ written to (list_of d (λ a. scaled (at work.old (to + a)) (at eps.now a)
         (at work.old (first + a)))) work.old }
 {
-    let mut a = 0;
-    while a < d {
+    for a in 0..d {
         work[to + a] = work[to + a] * eps[a] + work[first + a];
-        a += 1;
     }
 }
 
@@ -29,10 +27,8 @@ fn scale_controls(work: &mut [f64], to: usize, m: usize, first: usize, d: usize,
         ≡ written to (table m d (λ i a. scaled (at work.old (to + i * d + a)) (at eps.now a)
         (at work.old (first + a)))) work.old }
 {
-    let mut i = 0;
-    while i < m {
+    for i in 0..m {
         scale_control(work, to + i * d, first, d, eps);
-        i += 1;
     }
 }
 
@@ -53,10 +49,8 @@ fn error(bounds: &[f64], n: usize, d: usize, a: usize) -> f64
     ensures { result ≡ error_of (n + 1) d bounds.now a }
 {
     let mut w = 0.0;
-    let mut i = 0;
-    while i < n {
+    for i in 0..n {
         w = float::max(w, bounds[i * d + a]);
-        i += 1;
     }
     w
 }
@@ -67,10 +61,8 @@ pub(crate) fn errors(bounds: &[f64], n: usize, d: usize) -> [f64; 16]
     ensures { take d result ≡ list_of d (error_of (n + 1) d bounds.now) }
 {
     let mut e = [0.0; 16];
-    let mut a = 0;
-    while a < d {
+    for a in 0..d {
         e[a] = error(bounds, n, d, a);
-        a += 1;
     }
     e
 }
@@ -80,12 +72,10 @@ pub(crate) fn is_excessive(eps: &[f64; 16], errors: &[f64; 16], d: usize) -> boo
     requires { d ≤ 16 }
     ensures { result ≡ excessive (take d eps.now) d (take d errors.now) }
 {
-    let mut a = 0;
-    while a < d {
+    for a in 0..d {
         if eps[a] < errors[a] {
             return true;
         }
-        a += 1;
     }
     false
 }
