@@ -2,10 +2,8 @@
 use mathlib.Core.Path.{◌≡◌, refl, sym, ap, ◌∙◌}
 use mathlib.Core.Bool.{Bool, true, false, cond, ◌||◌}
 use mathlib.Core.List.{List}
-use Prim.Native.Nat.{ℕ, ◌≤◌, ◌<◌}
+use Prim.Native.Nat.{ℕ, ◌<◌}
 use native.Mathlib.Omega.{arith}
-use native.Mathlib.Decide.{ℕ_discrete}
-use borrow.Author.Tests.{eqb-true, ne_eqb}
 use lib.Dec.{eqb}
 use lib.Ieee.{Float}
 use Rattle.curve.specs.declared.Curve.{Curve}
@@ -45,18 +43,6 @@ module _ (l : Lane) (m : Limits) (w : List Float) (s : Results) where
   unfolding build_in answer_of
   answer_on h = let p = sized (lengths_of w s) l m h in rw (p.narrow, p.counted, p.roomy) refl
 
-pub first_known : (n : ℕ) → First n → (1 ≤ n) × (n ≡ 14 → ⊥) × (20 < n → n ≡ 26)
-first_known n h = elim (ℕ_discrete n 18) [
-  | yes e ↦ (omega arith, λ z. omega arith, λ z. omega arith)
-  | no e ↦
-      elim (ℕ_discrete n 20) [
-        | yes f ↦ (omega arith, λ z. omega arith, λ z. omega arith)
-        | no f ↦
-            let g : n ≡ 19 = eqb-true n 19 (sym (rw (ne_eqb n 18 e, ne_eqb n 20 f) refl) ∙ h) in
-            (omega arith, λ z. omega arith, λ z. omega arith)
-      ]
-]
-
 -- a request that 18, 20 or 19 turned away: nothing was touched
 pub turned_away : (x : Answer Result) (n : ℕ) (mode : Mode) (d : ℕ) (o : Answer Report) (c : Curve) (w : List Float) (s : Results)
     → x ≡ refused n → First n
@@ -70,22 +56,6 @@ turned_away x n mode d o c w s e u h = (
       sym (rw u refl)
           ∙ ap (λ (z : Answer Result). work_after z w) (sym e),
       ap (λ (z : Answer Result). results_after z s) (sym e),
-    ),
-  ),
-)
-
--- a request that went on
-pub went_on : (x y : Answer Result) (mode : Mode) (d : ℕ) (o : Answer Report) (c : Curve) (w w' : List Float) (s s' : Results) → x ≡ y
-    → o ≡ reported y → c ≡ curve_after mode d y → w' ≡ work_after y w → s' ≡ results_after y s
-    → (o ≡ reported x) × ((c ≡ curve_after mode d x) × ((w' ≡ work_after x w) × (s' ≡ results_after x s)))
-went_on x y mode d o c w w' s s' e a b f g = (
-  a ∙ ap reported (sym e),
-  (
-    b ∙ ap (curve_after mode d) (sym e),
-    (
-      f ∙ ap (λ (z : Answer Result). work_after z w) (sym e),
-      g
-          ∙ ap (λ (z : Answer Result). results_after z s) (sym e),
     ),
   ),
 )

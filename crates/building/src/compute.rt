@@ -9,9 +9,9 @@ ghost use Rattle.gathering.specs.Rows.{Below};
 ghost use Rattle.work_slice.specs.Rows.{units_from, task_from, other_from};
 ghost use Rattle.building.specs.Computed.{smoothed_at, with_other, computed_of, computed_in};
 
-use checks::Limits;
+use checks::Request;
+use checks::choices::AxisList;
 use refinement::plan::Plan;
-use request::parameters::Spacing;
 use running_report::Report;
 use selected_axes::course::{Ending, Smoothed};
 
@@ -45,41 +45,23 @@ pub(crate) fn ended(ending: Ending) -> Computed
 }
 
 // The other axes, once the selected axes are done, behind what the plan takes.
-fn with_others(
-    work: &mut [f64],
-    p: Plan,
-    points: &[f64],
-    d: usize,
-    rest: &[usize; 16],
-    j: usize,
-    spacing: Spacing,
-    parameters: &[f64],
-    done: Smoothed,
-) -> Computed
+fn with_others(work: &mut [f64], p: Plan, r: &Request, rest: &AxisList, done: Smoothed) -> Computed
     requires roomy { Roomy (sized p done.count) (length work.old) × (p.samples + 16 ≤ p.room)
-        × (cells_of p + (10 * p.room + 8 * (p.room * j)) ≤ length work.old) × (done.ending ≡ Done) }
-    requires d_bound { (d ≤ 16) × (j ≤ 16) × (p.samples ≤ 20000) × (p.samples * d ≤ length points.now) × Below rest.now j d }
-    requires samples_in_bounds { spacing ≡ Listed → p.samples ≤ length parameters.now }
-    ensures work_after { computed_in p j result work.new
+        × (cells_of p + (10 * p.room + 8 * (p.room * rest.now.count)) ≤ length work.old) × (done.ending ≡ Done) }
+    requires d_bound { (r.now.d ≤ 16) × (rest.now.count ≤ 16) × (p.samples ≤ 20000)
+        × (p.samples * r.now.d ≤ length r.now.points.now) × Below rest.now.axes rest.now.count r.now.d }
+    requires samples_in_bounds { r.now.spacing ≡ Listed → p.samples ≤ length r.now.parameters.now }
+    ensures work_after { computed_in p rest.now.count result work.new
         ≡ with_other (smoothed_at p done work.old)
-        (other_from p.samples j (parameter_list spacing parameters.now points.now d p.samples)
-        points.now d rest.now) }
+        (other_from p.samples rest.now.count
+        (parameter_list r.now.spacing r.now.parameters.now r.now.points.now r.now.d p.samples)
+        r.now.points.now r.now.d rest.now.axes) }
     ensures count_value { result.ending ≡ Done → (result.count ≡ done.count) × (result.other_segments < p.samples) }
 {
     let n = p.samples;
     let e = p.room;
     let cells = 14 * e + 10 * (e * p.axes);
-    let o = work_slice::interpolate_others(
-        &mut work[cells..],
-        e,
-        n,
-        points,
-        d,
-        rest,
-        j,
-        spacing,
-        parameters,
-    );
+    let o = work_slice::interpolate_others(&mut work[cells..], e, n, r, rest);
     let errors = done.errors;
     match o {
         Ok(other_segments) => Computed {
@@ -97,48 +79,47 @@ fn with_others(
 pub(crate) fn compute(
     work: &mut [f64],
     p: Plan,
-    points: &[f64],
-    d: usize,
-    axes: &[usize; 16],
+    r: &Request,
+    chosen: &AxisList,
     eps: &[f64; 16],
-    rest: &[usize; 16],
-    j: usize,
-    spacing: Spacing,
-    parameters: &[f64],
-    limits: Limits,
+    rest: &AxisList,
 ) -> Computed
-    requires roomy { Roomy p (length work.old) × (p.samples + 16 ≤ p.room) × (cells_of p + (10 * p.room + 8 * (p.room * j)) ≤ length
-        work.old) × (limits.segments + 16 ≤ p.room) × (limits.refinements ≤ 200) }
-    requires d_bound { (d ≤ 16) × (j ≤ 16) × (p.samples ≤ 20000) × (p.samples * d ≤ length points.now) × Below rest.now j d × Below
-        axes.now p.axes d }
-    requires samples_in_bounds { spacing ≡ Listed → p.samples ≤ length parameters.now }
-    ensures work_after { computed_in p j result work.new
-        ≡ computed_of (parameter_list spacing parameters.now points.now d p.samples) (limits_of limits)
-        (task_from p.samples p.axes (parameter_list spacing parameters.now points.now d p.samples)
-        (units_from p.samples p.axes points.now d axes.now eps.now))
-        (units_from p.samples p.axes points.now d axes.now eps.now)
-        (other_from p.samples j (parameter_list spacing parameters.now points.now d p.samples)
-        points.now d rest.now) }
-    ensures roomy_2 { result.ending ≡ Done → Roomy (sized p result.count) (length work.new) × (result.count ≤ limits.segments + 5)
-        × (result.other_segments < p.samples) }
+    requires roomy { Roomy p (length work.old) × (p.samples + 16 ≤ p.room)
+        × (cells_of p + (10 * p.room + 8 * (p.room * rest.now.count)) ≤ length work.old)
+        × (r.now.limits.segments + 16 ≤ p.room) × (r.now.limits.refinements ≤ 200) }
+    requires d_bound { (r.now.d ≤ 16) × (rest.now.count ≤ 16) × (p.samples ≤ 20000)
+        × (p.samples * r.now.d ≤ length r.now.points.now) × Below rest.now.axes rest.now.count r.now.d
+        × Below chosen.now.axes p.axes r.now.d }
+    requires samples_in_bounds { r.now.spacing ≡ Listed → p.samples ≤ length r.now.parameters.now }
+    ensures work_after { computed_in p rest.now.count result work.new
+        ≡ computed_of (parameter_list r.now.spacing r.now.parameters.now r.now.points.now r.now.d p.samples)
+        (limits_of r.now.limits)
+        (task_from p.samples p.axes
+        (parameter_list r.now.spacing r.now.parameters.now r.now.points.now r.now.d p.samples)
+        (units_from p.samples p.axes r.now.points.now r.now.d chosen.now.axes eps.now))
+        (units_from p.samples p.axes r.now.points.now r.now.d chosen.now.axes eps.now)
+        (other_from p.samples rest.now.count
+        (parameter_list r.now.spacing r.now.parameters.now r.now.points.now r.now.d p.samples)
+        r.now.points.now r.now.d rest.now.axes) }
+    ensures roomy_2 { result.ending ≡ Done → Roomy (sized p result.count) (length work.new)
+        × (result.count ≤ r.now.limits.segments + 5) × (result.other_segments < p.samples) }
 {
-    let number = work_slice::prepare(work, p, points, d, axes, eps, spacing, parameters);
-    if 0 < number {
-        return ended(Ending::Refused(number));
+    if let Err(refusal) = work_slice::prepare(work, p, r, &chosen.axes, eps) {
+        return ended(Ending::Refused(refusal.number()));
     }
     let s = selected_axes::course::smooth(
         work,
         p,
-        points,
-        d,
-        axes,
+        r.points,
+        r.d,
+        &chosen.axes,
         eps,
-        limits.refinements,
-        limits.segments,
+        r.limits.refinements,
+        r.limits.segments,
     );
     let ending = s.ending;
     match ending {
-        Ending::Done => with_others(work, p, points, d, rest, j, spacing, parameters, s),
+        Ending::Done => with_others(work, p, r, rest, s),
         Ending::Refused(n) => ended(Ending::Refused(n)),
         Ending::Exhausted(x) => ended(Ending::Exhausted(x)),
     }

@@ -14,11 +14,10 @@ ghost use Rattle.building.specs.Answered.{answer_to, Domain, Fitting, Ran, Writa
 
 use crate::compute::Computed;
 use crate::{Answer, Report, answers, compute};
-use checks::{Axes, Limits, Tolerance, choices, refusals};
+use checks::{Request, Room, choices, refusals};
 use curve::form::no_curve;
 use curve::{Curve, Mode};
 use refinement::plan::Plan;
-use request::parameters::Spacing;
 use selected_axes::course::Ending;
 
 // E of document 01: room for the waypoints and for the segments.
@@ -26,10 +25,7 @@ fn room_of(n: usize, segments: usize) -> usize
     requires { (n ≤ 20000) × (segments ≤ 20000) }
     ensures { result ≡ max n segments + 16 }
 {
-    if n < segments {
-        return segments + 16;
-    }
-    n + 16
+    n.max(segments) + 16
 }
 
 // The selected axes, k of them, how many other axes there are, and what was computed.
@@ -55,96 +51,40 @@ fn stopped(number: usize) -> Run
 }
 
 // What is computed once the checks 1 to 5 and 26 let the request through.
-fn gather(
-    points: &[f64],
-    d: usize,
-    n: usize,
-    axes: Axes,
-    axis_list: &[usize],
-    tolerance: Tolerance,
-    tolerance_list: &[f64],
-    spacing: Spacing,
-    parameters: &[f64],
-    limits: Limits,
-    work: &mut [f64],
-) -> Run
-    requires domain { Domain d n (limits_of limits) (length points.now) (length work.old) }
-    requires points_value { refusal_before (lane_of d n axes axis_list.now tolerance tolerance_list.now spacing parameters.now
-        points.now) ≡ 0 }
-    ensures { Ran (lane_of d n axes axis_list.now tolerance tolerance_list.now spacing
-        parameters.now points.now) (limits_of limits) result work.new }
+fn gather(r: &Request, work: &mut [f64]) -> Run
+    requires domain { Domain r.now.d r.now.n (limits_of r.now.limits) (length r.now.points.now) (length work.old) }
+    requires points_value { refusal_before (lane_of r.now) ≡ 0 }
+    ensures { Ran (lane_of r.now) (limits_of r.now.limits) result work.new }
 {
-    let chosen = choices::chosen(axes, axis_list, d);
+    let chosen = choices::chosen(r.axes, r.d);
     let k = chosen.count;
-    let picked = chosen.axes;
-    let eps = choices::tolerances_of(tolerance, tolerance_list, k);
-    let cells = eps.cells;
-    let rest = choices::others(&picked, k, d);
-    let j = rest.count;
-    let others = rest.axes;
-    let room = room_of(n, limits.segments);
+    let eps = choices::tolerances_of(r.tolerance, k);
+    let rest = choices::others(&chosen, r.d);
+    let room = room_of(r.n, r.limits.segments);
     let p = Plan {
         axes: k,
-        samples: n,
+        samples: r.n,
         room,
         count: 6,
     };
-    let computed = compute::compute(
-        work, p, points, d, &picked, &cells, &others, j, spacing, parameters, limits,
-    );
+    let computed = compute::compute(work, p, r, &chosen, &eps, &rest);
     Run {
-        axes: picked,
+        axes: chosen.axes,
         k,
-        j,
+        j: rest.count,
         computed,
     }
 }
 
 // The checks from 1 on, and all that is computed, in the work slice alone.
-fn checked(
-    points: &[f64],
-    d: usize,
-    n: usize,
-    axes: Axes,
-    axis_list: &[usize],
-    tolerance: Tolerance,
-    tolerance_list: &[f64],
-    spacing: Spacing,
-    parameters: &[f64],
-    limits: Limits,
-    work: &mut [f64],
-) -> Run
-    requires { Domain d n (limits_of limits) (length points.now) (length work.old) }
-    ensures { Ran (lane_of d n axes axis_list.now tolerance tolerance_list.now spacing
-        parameters.now points.now) (limits_of limits) result work.new }
+fn checked(r: &Request, work: &mut [f64]) -> Run
+    requires { Domain r.now.d r.now.n (limits_of r.now.limits) (length r.now.points.now) (length work.old) }
+    ensures { Ran (lane_of r.now) (limits_of r.now.limits) result work.new }
 {
-    let number = refusals::refusal_before(
-        points,
-        d,
-        n,
-        axes,
-        axis_list,
-        tolerance,
-        tolerance_list,
-        spacing,
-        parameters,
-    );
-    if 0 < number {
-        return stopped(number);
+    if let Err(refusal) = refusals::refusal_before(r) {
+        return stopped(refusal.number());
     }
-    gather(
-        points,
-        d,
-        n,
-        axes,
-        axis_list,
-        tolerance,
-        tolerance_list,
-        spacing,
-        parameters,
-        limits,
-        work,
-    )
+    gather(r, work)
 }
 
 // The answer to a request, and the curve. The curve holds an array, so that it stands beside the enum.
@@ -198,39 +138,22 @@ fn write_results(
     work_slice::put_errors(&from, p.axes, errors);
 }
 
-// The segments of j other axes: none where there is none of them.
-fn others_of(j: usize, segments: usize) -> usize
-    ensures { result ≡ cond (eqb j 0) 0 segments }
-{
-    if j == 0 {
-        return 0;
-    }
-    segments
-}
-
 // The report and the curve of an accepted request.
-fn accept(
-    r: Run,
-    points: &[f64],
-    d: usize,
-    n: usize,
-    spacing: Spacing,
-    parameters: &[f64],
-    mode: Mode,
-) -> Built
-    requires { (2 ≤ n) × (n ≤ 20000) × (5 ≤ r.computed.count) × (n * d ≤ length points.now)
-        × (spacing ≡ Listed → n ≤ length parameters.now) }
-    ensures answer_value { outcome_of result.answer ≡ done (report_in r) }
-    ensures curve_value { result.curve ≡ curve_in r d (at (parameter_list spacing parameters.now points.now d n) 0)
-        (at (parameter_list spacing parameters.now points.now d n) (n - 1)) mode }
+fn accept(run: Run, r: &Request, mode: Mode) -> Built
+    requires { (2 ≤ r.now.n) × (r.now.n ≤ 20000) × (5 ≤ run.computed.count) × (r.now.n * r.now.d ≤ length r.now.points.now)
+        × (r.now.spacing ≡ Listed → r.now.n ≤ length r.now.parameters.now) }
+    ensures answer_value { outcome_of result.answer ≡ done (report_in run) }
+    ensures curve_value { result.curve ≡ curve_in run r.now.d
+        (at (parameter_list r.now.spacing r.now.parameters.now r.now.points.now r.now.d r.now.n) 0)
+        (at (parameter_list r.now.spacing r.now.parameters.now r.now.points.now r.now.d r.now.n) (r.now.n - 1)) mode }
 {
-    let c = r.computed;
+    let c = run.computed;
     let work = c.report;
     let segments = c.count - 5;
-    let others = others_of(r.j, c.other_segments);
-    let axes = r.axes;
-    let start = request::parameters::first(spacing, parameters, n);
-    let end = request::parameters::last(spacing, parameters, points, d, n);
+    let others = if run.j == 0 { 0 } else { c.other_segments };
+    let axes = run.axes;
+    let start = request::parameters::first(r.spacing, r.parameters, r.n);
+    let end = request::parameters::last(r.spacing, r.parameters, r.points, r.d, r.n);
     let answer = Answer::Accepted(Report {
         segments,
         interpolated_segments: others,
@@ -239,8 +162,8 @@ fn accept(
         checked_intervals: work.intervals,
     });
     let curve = Curve {
-        d,
-        k: r.k,
+        d: r.d,
+        k: run.k,
         axes,
         start,
         end,
@@ -253,16 +176,7 @@ fn accept(
 
 // From the check 1 on; what the work slice holds is left there.
 fn finish(
-    points: &[f64],
-    d: usize,
-    n: usize,
-    axes: Axes,
-    axis_list: &[usize],
-    tolerance: Tolerance,
-    tolerance_list: &[f64],
-    spacing: Spacing,
-    parameters: &[f64],
-    limits: Limits,
+    r: &Request,
     mode: Mode,
     work: &mut [f64],
     breaks: &mut [f64],
@@ -271,48 +185,32 @@ fn finish(
     other_coefficients: &mut [f64],
     errors: &mut [f64],
 ) -> Built
-    requires { Domain d n (limits_of limits) (length points.now) (length work.old) × Fitting d n (limits_of limits) (results
+    requires { Domain r.now.d r.now.n (limits_of r.now.limits) (length r.now.points.now) (length work.old)
+        × Fitting r.now.d r.now.n (limits_of r.now.limits) (results
         breaks.old coefficients.old other_breaks.old other_coefficients.old errors.old) }
-    ensures answer_value { outcome_of result.answer
-        ≡ reported (checked_of (lane_of d n axes axis_list.now tolerance tolerance_list.now spacing
-        parameters.now points.now) (limits_of limits)) }
-    ensures curve_value { result.curve
-        ≡ curve_after mode d (checked_of (lane_of d n axes axis_list.now tolerance tolerance_list.now spacing
-        parameters.now points.now) (limits_of limits)) }
+    ensures answer_value { outcome_of result.answer ≡ reported (checked_of (lane_of r.now) (limits_of r.now.limits)) }
+    ensures curve_value { result.curve ≡ curve_after mode r.now.d (checked_of (lane_of r.now) (limits_of r.now.limits)) }
     ensures errors_after { results breaks.new coefficients.new other_breaks.new
         other_coefficients.new errors.new
-        ≡ results_after (checked_of (lane_of d n axes axis_list.now tolerance tolerance_list.now spacing
-        parameters.now points.now) (limits_of limits))
+        ≡ results_after (checked_of (lane_of r.now) (limits_of r.now.limits))
         (results breaks.old coefficients.old other_breaks.old other_coefficients.old
         errors.old) }
 {
-    let r = checked(
-        points,
-        d,
-        n,
-        axes,
-        axis_list,
-        tolerance,
-        tolerance_list,
-        spacing,
-        parameters,
-        limits,
-        work,
-    );
-    let c = r.computed;
+    let run = checked(r, work);
+    let c = run.computed;
     let ending = c.ending;
     match ending {
         Ending::Done => {
-            let room = room_of(n, limits.segments);
+            let room = room_of(r.n, r.limits.segments);
             let p = Plan {
-                axes: r.k,
-                samples: n,
+                axes: run.k,
+                samples: r.n,
                 room,
                 count: c.count,
             };
             write_results(
                 p,
-                r.j,
+                run.j,
                 c,
                 work,
                 breaks,
@@ -321,7 +219,7 @@ fn finish(
                 other_coefficients,
                 errors,
             );
-            accept(r, points, d, n, spacing, parameters, mode)
+            accept(run, r, mode)
         }
         Ending::Refused(number) => refuse(number, mode),
         Ending::Exhausted(ratio) => {
@@ -334,22 +232,11 @@ fn finish(
     }
 }
 
-// The request in document 01's terms: d rows and n waypoints of points, which axes are smoothed and with
-// which tolerance, where the parameters come from, the limits, and what a query outside start to end is
-// to get. The work slice is scratch: it ends all +0, unless 18, 19 or 20 turned the request away. The
+// The request, and what a query outside start to end is to get. The work slice is scratch: it ends all +0, unless 18, 19 or 20 turned the request away. The
 // result slices change on acceptance only, in their first cells only: breaks and coefficients of the
 // selected axes and of the other axes, as `curve` takes them, and the errors, in the order of the axes.
 pub fn build(
-    points: &[f64],
-    d: usize,
-    n: usize,
-    axes: Axes,
-    axis_list: &[usize],
-    tolerance: Tolerance,
-    tolerance_list: &[f64],
-    spacing: Spacing,
-    parameters: &[f64],
-    limits: Limits,
+    r: &Request,
     mode: Mode,
     work: &mut [f64],
     breaks: &mut [f64],
@@ -359,55 +246,38 @@ pub fn build(
     errors: &mut [f64],
 ) -> Built
     ensures answer_value { outcome_of result.answer
-        ≡ reported (answer_to (lane_of d n axes axis_list.now tolerance tolerance_list.now spacing
-        parameters.now points.now) (limits_of limits)
+        ≡ reported (answer_to (lane_of r.now) (limits_of r.now.limits)
         work.old (results breaks.old coefficients.old other_breaks.old
         other_coefficients.old errors.old)) }
     ensures curve_value { result.curve
-        ≡ curve_after mode d (answer_to (lane_of d n axes axis_list.now tolerance tolerance_list.now spacing
-        parameters.now points.now) (limits_of limits)
+        ≡ curve_after mode r.now.d (answer_to (lane_of r.now) (limits_of r.now.limits)
         work.old (results breaks.old coefficients.old other_breaks.old
         other_coefficients.old errors.old)) }
     ensures work_after { work.new
-        ≡ work_after (answer_to (lane_of d n axes axis_list.now tolerance tolerance_list.now spacing
-        parameters.now points.now) (limits_of limits)
+        ≡ work_after (answer_to (lane_of r.now) (limits_of r.now.limits)
         work.old (results breaks.old coefficients.old other_breaks.old
         other_coefficients.old errors.old)) work.old }
     ensures errors_after { results breaks.new coefficients.new other_breaks.new
         other_coefficients.new errors.new
-        ≡ results_after (answer_to (lane_of d n axes axis_list.now tolerance tolerance_list.now spacing
-        parameters.now points.now) (limits_of limits)
+        ≡ results_after (answer_to (lane_of r.now) (limits_of r.now.limits)
         work.old (results breaks.old coefficients.old other_breaks.old
         other_coefficients.old errors.old))
         (results breaks.old coefficients.old other_breaks.old other_coefficients.old
         errors.old) }
 {
-    let number = refusals::refusal_first(
-        points.len(),
-        work.len(),
-        breaks.len(),
-        coefficients.len(),
-        other_breaks.len(),
-        other_coefficients.len(),
-        errors.len(),
-        d,
-        n,
-        limits,
-    );
-    if 0 < number {
-        return refuse(number, mode);
+    let room = Room {
+        work: work.len(),
+        breaks: breaks.len(),
+        coefficients: coefficients.len(),
+        other_breaks: other_breaks.len(),
+        other_coefficients: other_coefficients.len(),
+        errors: errors.len(),
+    };
+    if let Err(refusal) = refusals::refusal_first(r, room) {
+        return refuse(refusal.number(), mode);
     }
     let built = finish(
-        points,
-        d,
-        n,
-        axes,
-        axis_list,
-        tolerance,
-        tolerance_list,
-        spacing,
-        parameters,
-        limits,
+        r,
         mode,
         work,
         breaks,

@@ -7,7 +7,7 @@ pub mod compute; // compute.rt: what is computed once the checks let a request t
 pub mod entry; // entry.rt: all of it
 
 pub use answers::number;
-pub use checks::{Axes, Limits, Tolerance};
+pub use checks::{Axes, Limits, Request, Tolerance};
 pub use entry::{Built, build};
 
 // The report of an accepted request: the segments of the selected axes and of the other axes, the

@@ -15,7 +15,9 @@ use Rattle.smoothing.specs.Request.{Lane, axis_count, smoothed_axes, lane_parame
 use Rattle.smoothing.specs.Rows.{task_of, lane_task, other_axes}
 use Rattle.smoothing.specs.Checks.{no_axes, bad_axes, bad_tolerance, too_fine, refusal_of}
 use Rattle.smoothing.proofs.Passed.{passed, good_axes, all_axes}
-use Rattle.checks.specs.Checks.{refusal_before, refusal_after}
+use Rattle.checks.specs.declared.Refusal.{Refusal}
+use Rattle.checks.specs.declared.Refusal.TheVariants.{BadPoints, NoAxes, BadAxes, BadTolerance, BadParameters, BadRange, Overflow, AboveDomain, ShortSlice, PointCells, ToleranceTooFine}
+use Rattle.checks.specs.Checks.{refusal_number, refusal_before, refusal_after}
 
 pub refusal_after_law : (l : Lane)
     → refusal_of l ≡ cond (eqb (refusal_before l) 0) (refusal_after (lane_parameters l) (lane_task l)) (refusal_before l)
@@ -72,3 +74,17 @@ module _ (l : Lane) (h : refusal_before l ≡ 0) where
   pub listed_long : l.spacing ≡ Listed → l.n ≤ length l.parameters
   listed_long e =
       omega (arith, listed_count l.spacing l.parameters l.points l.d l.n before.placed e)
+
+-- the numbers of the refusals: those of document 01 but 14, and 26
+pub refusal_known : (r : Refusal) → (1 ≤ refusal_number r) × (refusal_number r ≡ 14 → ⊥) × (20 < refusal_number r → refusal_number r ≡ 26)
+refusal_known BadPoints = (omega arith, λ z. omega arith, λ z. omega arith)
+refusal_known NoAxes = (omega arith, λ z. omega arith, λ z. omega arith)
+refusal_known BadAxes = (omega arith, λ z. omega arith, λ z. omega arith)
+refusal_known BadTolerance = (omega arith, λ z. omega arith, λ z. omega arith)
+refusal_known BadParameters = (omega arith, λ z. omega arith, λ z. omega arith)
+refusal_known BadRange = (omega arith, λ z. omega arith, λ z. omega arith)
+refusal_known Overflow = (omega arith, λ z. omega arith, λ z. omega arith)
+refusal_known AboveDomain = (omega arith, λ z. omega arith, λ z. omega arith)
+refusal_known ShortSlice = (omega arith, λ z. omega arith, λ z. omega arith)
+refusal_known PointCells = (omega arith, λ z. omega arith, λ z. omega arith)
+refusal_known ToleranceTooFine = (omega arith, λ z. omega arith, λ z. omega arith)

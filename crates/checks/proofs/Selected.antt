@@ -1,37 +1,32 @@
 -- The axes that a request chooses: how many, each of them, those left over, and when they and the tolerances are refused.
-use mathlib.Core.Path.{◌≡◌, refl, ap, ◌∙◌}
+use mathlib.Core.Path.{◌≡◌, refl, sym, ap, ◌∙◌}
+use Rattle.std.specs.List.{list_any}
 use mathlib.Core.Bool.{Bool, true, false, not, cond, ◌||◌}
 use mathlib.Core.List.{List, [], ◌∷◌, ◌++◌, append-nil}
-use Prim.Native.Nat.{ℕ, zero, suc, ◌+◌, ◌≤◌, ◌<◌}
+use Prim.Native.Nat.{ℕ, zero, suc, ◌+◌, ◌-◌, ◌≤◌, ◌<◌}
 use native.Mathlib.Omega.{arith}
 use native.Mathlib.Decide.{dec_lt}
 use native.Mathlib.Numerals.{add-one}
 use borrow.Author.Tests.{eq-eqb, lt-ltb, le-ltb}
 use lib.Dec.{eqb, ltb}
-use lib.ListN.{length, get_or, take, replicate, length-append, length-replicate, get_or-replicate, get_or-append}
-use lib.Seq.{length-take-le, get_or-take, get_or-append-add}
+use lib.ListN.{length, get_or, take, drop, replicate, length-append, length-drop, length-replicate, get_or-replicate, get_or-append, get_or-eq_default}
+use lib.Seq.{length-take-le, get_or-take, get_or-drop, get_or-append-add, ext_get_or}
 use lib.Ieee.{Float, nan}
-use lib.Ieee.Scale.{finite}
 use Rattle.window.specs.Cells.{at}
 use Rattle.window.specs.Rows.{join, list_of}
 use Rattle.window.proofs.Joined.{list_length, list_at}
 use Rattle.request.specs.Any.{any}
 use Rattle.request.proofs.Anys.{any_found}
 use Rattle.arith.specs.First.{first_of}
-use Rattle.curve.specs.Places.{position_of}
+use Rattle.curve.specs.Places.{position_of, padded}
+use Rattle.curve.proofs.Padded.{padded_length, padded_at}
 use Rattle.curve.specs.Form.{axes_formed}
 use Rattle.curve.proofs.Formed.{axes_good}
 use Rattle.curve.proofs.Placing.{others_count}
-use Rattle.smoothing.specs.Request as smoothing
 use Rattle.smoothing.specs.Request.{Lane, axis_count, up_to, tolerances_of}
 use Rattle.smoothing.specs.Request.Tolerance.{uniform, per_axis}
 use Rattle.smoothing.specs.Rows.{left_over}
 use Rattle.smoothing.specs.Checks.{bad_tolerance}
-use Rattle.checks.specs.declared.Axes.{Axes}
-use Rattle.checks.specs.declared.Axes.TheVariants.{All, Listed}
-use Rattle.checks.specs.declared.Tolerance.{Tolerance}
-use Rattle.checks.specs.declared.Tolerance.TheVariants.{PerAxis}
-use Rattle.checks.specs.Request.{axes_of, tolerance_of, axes_in, tolerances_in}
 use Rattle.checks.specs.Checks.{bad_cell}
 
 -- ---- how many, and each of them
@@ -46,18 +41,22 @@ all_count d = rw (up_to_is d) (list_length d (λ i. i))
 pub all_at : (d i : ℕ) → i < d → get_or (up_to d) i 0 ≡ i
 all_at d i h = rw (up_to_is d) (list_at d (λ i. i) 0 i h)
 
-module _ (list : List ℕ) (d : ℕ) where
-  pub count_within : (axes : Axes) → d ≤ 16 → (axes ≡ Listed → length list ≤ 16) → length (axes_in axes list d) ≤ 16
-  unfolding axes_of smoothing.axes_of
-  count_within All h g = rw (all_count d) h
-  count_within Listed h g = g refl
-
-  pub listed_are : (axes : Axes) → axes ≡ Listed → axes_in axes list d ≡ list
-  unfolding axes_of smoothing.axes_of
-  listed_are axes e = ap (λ (a : Axes). axes_in a list d) e
-
-  pub listed_count : (axes : Axes) → axes ≡ Listed → length (axes_in axes list d) ≡ length list
-  listed_count axes e = ap length (listed_are axes e)
+-- those of a list, as they stand in sixteen cells that were 0
+pub padded_list : (l z : List ℕ) → z ≡ replicate 16 0 → length l ≤ 16 → l ++ drop (length l) z ≡ padded l
+padded_list l z e h =
+    let n = length-append l (drop (length l) z) in
+    let k = length-drop (length l) z in
+    let m : length z ≡ 16 = ap length e ∙ length-replicate {A = ℕ} 16 0 in
+    ext_get_or 0 (l ++ drop (length l) z) (padded l) (omega (arith, padded_length l)) (λ i j.
+    elim (dec_lt i (length l)) [
+      | yes g ↦ get_or-append l (drop (length l) z) 0 i g ∙ sym (padded_at l i (omega arith))
+      | no g ↦
+          let p : i ≡ length l + (i - length l) = omega arith in
+          let q : get_or z i 0 ≡ 0 = ap (λ (t : List ℕ). get_or t i 0) e ∙ get_or-replicate {A = ℕ} 16 i 0 0 (omega arith) in
+          ap (λ (t : ℕ). get_or (l ++ drop (length l) z) t 0) p ∙ get_or-append-add l (drop (length l) z) (i - length l) 0
+          ∙ get_or-drop (length l) z (i - length l) 0 ∙ ap (λ (t : ℕ). get_or z t 0) (sym p) ∙ q
+          ∙ sym (padded_at l i (omega arith) ∙ get_or-eq_default l 0 (omega arith))
+    ])
 
 -- ---- when axes are refused
 first_same : (n : ℕ) (f g : ℕ → Bool) → ((i : ℕ) → i < n → f i ≡ g i) → first_of n f ≡ first_of n g
@@ -121,12 +120,6 @@ left_below axes (suc a) i h = go (ltb (position_of axes (length axes) a) (length
       | no l ↦ last b g l
     ]
 
--- ---- the tolerances in a list
-pub per_axis_count : (tolerance : Tolerance) (list : List Float) (k : ℕ) → tolerance ≡ PerAxis
-    → length (tolerances_in tolerance list k) ≡ length list
-unfolding tolerances_of tolerance_of
-per_axis_count tolerance list k e = ap (λ (t : Tolerance). length (tolerances_in t list k)) e
-
 -- ---- when tolerances are refused
 pub any_false : (n : ℕ) (f : ℕ → Bool) → ((i : ℕ) → i < n → f i ≡ false) → any n f ≡ false
 unfolding any
@@ -143,19 +136,34 @@ any_same : (n : ℕ) (f : ℕ → Bool) (b : Bool) → ((i : ℕ) → i < n → 
 any_same n f true h l = any_found f n 0 l (h 0 l)
 any_same n f false h l = any_false n f h
 
-pub bad_infinite : (above : Bool) (x : Float) → finite x ≡ false → bad_cell above x ≡ true
-bad_infinite true x h = rw h
-bad_infinite false x h = rw h
-
 module _ (l : Lane) where
-  pub uniform_bad : (x : Float) → l.tolerance ≡ uniform x → 0 < axis_count l → bad_tolerance l ≡ bad_cell true x
+  pub uniform_bad : (x : Float) → l.tolerance ≡ uniform x → 0 < axis_count l → bad_tolerance l ≡ bad_cell x
   unfolding bad_tolerance tolerances_of
   uniform_bad x e h =
       let k = axis_count l in
       rw (e, length-replicate k x, eq-eqb k k refl)
-      (any_same k (λ a. bad_cell true (at (replicate k x) a)) (bad_cell true x) (λ i m. rw (get_or-replicate k i x nan m)) h)
+      (any_same k (λ a. bad_cell (at (replicate k x) a)) (bad_cell x) (λ i m. rw (get_or-replicate k i x nan m)) h)
 
   pub each_bad : (list : List Float) → l.tolerance ≡ per_axis list
-      → bad_tolerance l ≡ (not (eqb (length list) (axis_count l)) || any (length list) (λ i. bad_cell true (at list i)))
+      → bad_tolerance l ≡ (not (eqb (length list) (axis_count l)) || any (length list) (λ i. bad_cell (at list i)))
   unfolding bad_tolerance tolerances_of
   each_bad list e = rw e
+
+-- ---- an iterator that tests each cell
+any_front : (n : ℕ) (f : ℕ → Bool) → any (suc n) f ≡ (f 0 || any n (λ i. f (suc i)))
+unfolding any
+any_front zero f = or_false (f 0)
+  where
+    or_false : (b : Bool) → b ≡ (b || false)
+    or_false true = refl
+    or_false false = refl
+any_front (suc n) f = rw (any_front n f) (or_join (f 0) (any n (λ i. f (suc i))) (f (suc n)))
+  where
+    or_join : (a b c : Bool) → ((a || b) || c) ≡ (a || (b || c))
+    or_join true b c = refl
+    or_join false b c = refl
+
+pub listed_any : (test : Float → Bool) (xs : List Float) → list_any test xs ≡ any (length xs) (λ i. test (at xs i))
+unfolding any
+listed_any test [] = refl
+listed_any test (x ∷ xs) = ap (λ (b : Bool). test x || b) (listed_any test xs) ∙ sym (any_front (length xs) (λ i. test (at (x ∷ xs) i)))

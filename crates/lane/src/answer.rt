@@ -8,7 +8,7 @@ ghost use Rattle.lane.specs.Printed.{printed_of};
 ghost use Rattle.lane.specs.Room.{Lent, Small};
 
 use crate::lines;
-use building::{Answer, Axes, Limits, Tolerance};
+use building::{Answer, Axes, Limits, Request, Tolerance};
 use curve::Mode;
 use job::Counts;
 use request::parameters::Spacing;
@@ -31,22 +31,21 @@ fn build(
         → take c.d errors.new ≡ x.report.errors }
 {
     let end = 1 + c.d * c.n;
-    let limits = Limits {
-        refinements: c.refinements,
-        segments: c.segments,
+    let r = Request {
+        points: &cells[1..end],
+        d: c.d,
+        n: c.n,
+        axes: Axes::All,
+        tolerance: Tolerance::Uniform(cells[0]),
+        spacing: Spacing::Even,
+        parameters: &cells[0..0],
+        limits: Limits {
+            refinements: c.refinements,
+            segments: c.segments,
+        },
     };
-    let listed = [0; 1];
     let built = building::build(
-        &cells[1..end],
-        c.d,
-        c.n,
-        Axes::All,
-        &listed,
-        Tolerance::Uniform(cells[0]),
-        &cells[0..0],
-        Spacing::Even,
-        &cells[0..0],
-        limits,
+        &r,
         Mode::Error,
         work,
         breaks,

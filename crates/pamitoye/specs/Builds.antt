@@ -3,7 +3,7 @@ use Rattle.std.specs.Prelude.{ℕ, ◌+◌, ◌-◌, ◌*◌, ◌≡◌, Bool, t
 use Rattle.smoothing.specs.Answer.{Answer, number_of}
 use Rattle.smoothing.specs.Answer.Answer.{done, refused, exhausted}
 use Rattle.smoothing.specs.Build.{Result}
-use Rattle.checks.specs.Request.{lane_of}
+use Rattle.checks.specs.Request.{lane_with}
 use Rattle.curve.specs.declared.Curve.{Curve}
 use Rattle.curve.specs.declared.Mode.{Mode}
 use Rattle.curve.specs.Form.{Slices, slices, well_formed}
@@ -16,7 +16,8 @@ use Rattle.pamitoye.specs.Choices.{chosen_axes, chosen_tolerance, chosen_spacing
 abbrev pub requested : ℕ → ℕ → Bool → List ℕ → Bool → Float → List Float → ℕ → List Float → List Float → ℕ → ℕ → List Float → Results
     → Answer Result
 requested d n all axes uniform tolerance tolerances spacing parameters points refinements segments work s =
-    answer_to (lane_of d n (chosen_axes all) axes (chosen_tolerance uniform tolerance) tolerances (chosen_spacing spacing) parameters points)
+    answer_to
+    (lane_with d n (chosen_axes all axes) (chosen_tolerance uniform tolerance tolerances) (chosen_spacing spacing) parameters points)
     (record { refinements = refinements; segments = segments }) work s
 
 -- the report's counts

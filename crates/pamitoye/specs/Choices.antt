@@ -2,20 +2,19 @@
 use Rattle.std.specs.Prelude.{Bool, cond, List, ℕ, eqb, Float}
 use Rattle.request.specs.declared.parameters.Spacing.{Spacing}
 use Rattle.request.specs.declared.parameters.Spacing.TheVariants.{Listed, Even, Chord}
-use Rattle.checks.specs.declared.Axes.{Axes}
-use Rattle.checks.specs.declared.Axes.TheVariants.{All, Listed as ListedAxes}
-use Rattle.checks.specs.declared.Tolerance.{Tolerance}
-use Rattle.checks.specs.declared.Tolerance.TheVariants.{Uniform, PerAxis}
+use Rattle.smoothing.specs.Request.{Axes, Tolerance}
+use Rattle.smoothing.specs.Request.Axes.{all, listed}
+use Rattle.smoothing.specs.Request.Tolerance.{uniform, per_axis}
 use Rattle.curve.specs.declared.Curve.{Curve}
 use Rattle.curve.specs.declared.Mode.{Mode}
 use Rattle.curve.specs.declared.Mode.TheVariants.{Error, Clamp}
 
 -- all axes, or those listed; one tolerance, or those listed
-abbrev pub chosen_axes : Bool → Axes
-chosen_axes all = cond all All ListedAxes
+abbrev pub chosen_axes : Bool → List ℕ → Axes
+chosen_axes every list = cond every all (listed list)
 
-abbrev pub chosen_tolerance : Bool → Float → Tolerance
-chosen_tolerance uniform x = cond uniform (Uniform x) PerAxis
+abbrev pub chosen_tolerance : Bool → Float → List Float → Tolerance
+chosen_tolerance one x list = cond one (uniform x) (per_axis list)
 
 -- the header's `enum pamitoye_spacing`: 1, even parameters; 2, by chords; 0, and any other number, those listed
 abbrev pub chosen_spacing : ℕ → Spacing

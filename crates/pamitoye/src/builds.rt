@@ -8,7 +8,7 @@ ghost use Rattle.pamitoye.specs.Builds.{requested, report_counts, counts_after, 
 ghost use Rattle.pamitoye.specs.Builds.{build_outputs, build_outputs_after, FormedCurve};
 
 use crate::choices;
-use building::{Answer, Limits, Report};
+use building::{Answer, Limits, Report, Request};
 use curve::Curve;
 
 // The report's counts.
@@ -106,21 +106,21 @@ pub extern "C" fn pamitoye_build(
         other_breaks.new other_coefficients.new errors.new) counts.new ratio.new
         (outline k.new axes.new start.new end.new)) }
 {
-    let limits = Limits {
-        refinements: max_refinements,
-        segments: max_segments,
-    };
-    let built = building::build(
+    let r = Request {
         points,
         d,
         n,
-        choices::axes_of(all),
-        axis_list,
-        choices::tolerance_of(uniform, tolerance),
-        tolerance_list,
-        choices::spacing_of(spacing),
+        axes: choices::axes_of(all, axis_list),
+        tolerance: choices::tolerance_of(uniform, tolerance, tolerance_list),
+        spacing: choices::spacing_of(spacing),
         parameters,
-        limits,
+        limits: Limits {
+            refinements: max_refinements,
+            segments: max_segments,
+        },
+    };
+    let built = building::build(
+        &r,
         choices::mode_of(clamp),
         work,
         breaks,

@@ -1,5 +1,6 @@
 // What a request or a curve chooses: each comes as a bool or a number.
 ghost use Rattle.std.specs.Prelude.{◌≡◌};
+ghost use Rattle.checks.specs.Request.{axes_of, tolerance_of};
 ghost use Rattle.pamitoye.specs.Choices.{chosen_axes, chosen_tolerance, chosen_spacing, chosen_mode};
 
 use checks::{Axes, Tolerance};
@@ -7,23 +8,25 @@ use curve::Mode;
 use request::parameters::Spacing;
 
 // All axes, or those of a list.
-pub(crate) fn axes_of(all: bool) -> Axes
-    ensures { result ≡ chosen_axes all }
+#[tactic(auto, unfolding(checks::specs::Request::axes_of))]
+pub(crate) fn axes_of(all: bool, list: &[usize]) -> Axes<'_>
+    ensures { axes_of result ≡ chosen_axes all list.now }
 {
     if all {
         return Axes::All;
     }
-    Axes::Listed
+    Axes::Listed(list)
 }
 
 // One tolerance, or those of a list.
-pub(crate) fn tolerance_of(uniform: bool, x: f64) -> Tolerance
-    ensures { result ≡ chosen_tolerance uniform x }
+#[tactic(auto, unfolding(checks::specs::Request::tolerance_of))]
+pub(crate) fn tolerance_of(uniform: bool, x: f64, list: &[f64]) -> Tolerance<'_>
+    ensures { tolerance_of result ≡ chosen_tolerance uniform x list.now }
 {
     if uniform {
         return Tolerance::Uniform(x);
     }
-    Tolerance::PerAxis
+    Tolerance::PerAxis(list)
 }
 
 // Even parameters (1), by chords (2), or those of a list (0, and any other number).

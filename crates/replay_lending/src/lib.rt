@@ -28,8 +28,10 @@ pub fn answer(head: Head, cells: &[f64], buffers: Lent<&mut [f64]>, out: &mut [u
         return None;
     }
     let wholes = head.wholes;
-    let q = question::asked(&wholes, head.count, cells)?;
-    let p = parts::parts_asked(&wholes, q.d, q.n, q.limits.segments);
+    let listed = axes::axes_of(&wholes, 9);
+    let q = question::asked(&wholes, head.count, &listed, cells)?;
+    let r = q.request;
+    let p = parts::parts_asked(&wholes, r.d, r.n, r.limits.segments);
     let Lent {
         work,
         breaks,
@@ -55,18 +57,8 @@ pub fn answer(head: Head, cells: &[f64], buffers: Lent<&mut [f64]>, out: &mut [u
     mark(other_breaks, p.other_breaks);
     mark(other_coefficients, p.other_coefficients);
     mark(errors, p.errors);
-    let listed = axes::axes_of(&wholes, 9);
     let built = building::build(
-        q.points,
-        q.d,
-        q.n,
-        q.axes,
-        &listed[..q.listed],
-        q.tolerance,
-        q.tolerances,
-        q.spacing,
-        q.parameters,
-        q.limits,
+        &r,
         Mode::Error,
         &mut work[8..p.work],
         &mut breaks[8..p.breaks],

@@ -1,23 +1,15 @@
 // A request of the list: its whole numbers, and the parts of its cells.
-ghost use Rattle.std.specs.Prelude.{◌≡◌, ◌++◌, ◌≤◌, IfSome};
+ghost use Rattle.std.specs.Prelude.{◌≡◌, ◌++◌, IfSome};
 
-use building::{Axes, Limits, Tolerance};
+use building::{Axes, Limits, Request, Tolerance};
 use listing::curves;
 use request::parameters::Spacing;
 
-// `listed` is the number of listed axes. The cells are the tolerances, the points and the parameters.
+// A request, and the cells of its tolerances. The cells are these, the points and the parameters.
 #[derive(Clone, Copy)]
 pub struct Question<'a> {
-    pub d: usize,
-    pub n: usize,
-    pub axes: Axes,
-    pub listed: usize,
-    pub tolerance: Tolerance,
-    pub spacing: Spacing,
-    pub limits: Limits,
     pub tolerances: &'a [f64],
-    pub points: &'a [f64],
-    pub parameters: &'a [f64],
+    pub request: Request<'a>,
 }
 
 // How many cells hold points: the sixteenth number, or d for each of n waypoints, where no count of cells
@@ -33,35 +25,37 @@ fn point_cells(wholes: &[u64; 16], numbers: usize) -> Option<u64> {
 }
 
 // All axes in mode 17, which is the number of listed axes else.
-fn axes_of(k: u64) -> Option<(Axes, usize)>
-    ensures { IfSome result (λ r. r.1 ≤ 16) }
-{
+fn axes_of(k: u64, listed: &[usize; 16]) -> Option<Axes<'_>> {
     match k {
-        17 => Some((Axes::All, 0)),
-        0..=16 => Some((Axes::Listed, k as usize)),
+        17 => Some(Axes::All),
+        0..=16 => Some(Axes::Listed(&listed[..k as usize])),
         _ => None,
     }
 }
 
 // One tolerance in mode 0, a list of them in mode 1.
-fn tolerance_of(mode: u64, tolerances: &[f64]) -> Option<Tolerance> {
+fn tolerance_of(mode: u64, tolerances: &[f64]) -> Option<Tolerance<'_>> {
     match mode {
         0 if tolerances.len() == 1 => Some(Tolerance::Uniform(tolerances[0])),
-        1 => Some(Tolerance::PerAxis),
+        1 => Some(Tolerance::PerAxis(tolerances)),
         _ => None,
     }
 }
 
-// The request of the first `numbers` whole numbers; None where they do not fit the count of cells. There
-// are parameters where these are listed alone.
-pub fn asked<'a>(wholes: &[u64; 16], numbers: usize, cells: &'a [f64]) -> Option<Question<'a>>
-    ensures listed { IfSome result (λ q. q.listed ≤ 16) }
-    ensures cells { IfSome result (λ q. cells.now ≡ q.tolerances.now ++ (q.points.now ++ q.parameters.now)) }
+// The request of the first `numbers` whole numbers, with these axes where they are listed; None where it does
+// not fit the count of cells. There are parameters where these are listed alone.
+pub fn asked<'a>(
+    wholes: &[u64; 16],
+    numbers: usize,
+    listed: &'a [usize; 16],
+    cells: &'a [f64],
+) -> Option<Question<'a>>
+    ensures { IfSome result (λ q. cells.now ≡ q.tolerances.now ++ (q.request.points.now ++ q.request.parameters.now)) }
 {
     if numbers != 13 && numbers != 16 {
         return None;
     }
-    let (axes, listed) = axes_of(wholes[2])?;
+    let axes = axes_of(wholes[2], listed)?;
     let (tolerances, rest) = cells.split_at_checked(wholes[4] as usize)?;
     let count = rest.len().checked_sub(wholes[6] as usize)?;
     let (points, parameters) = rest.split_at(count);
@@ -73,19 +67,19 @@ pub fn asked<'a>(wholes: &[u64; 16], numbers: usize, cells: &'a [f64]) -> Option
     if !matches!(spacing, Spacing::Listed) && !parameters.is_empty() {
         return None;
     }
-    Some(Question {
+    let limits = Limits {
+        refinements: wholes[7] as usize,
+        segments: wholes[8] as usize,
+    };
+    let request = Request {
+        points,
         d: wholes[0] as usize,
         n: wholes[1] as usize,
         axes,
-        listed,
         tolerance,
         spacing,
-        limits: Limits {
-            refinements: wholes[7] as usize,
-            segments: wholes[8] as usize,
-        },
-        tolerances,
-        points,
         parameters,
-    })
+        limits,
+    };
+    Some(Question { tolerances, request })
 }

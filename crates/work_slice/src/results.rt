@@ -86,18 +86,10 @@ pub fn put_other(
     );
 }
 
-// The first k of a list.
-fn put_front(from: &[f64], k: usize, to: &mut [f64])
-    requires { (k ≤ length from.now) × (k ≤ length to.old) }
-    ensures { to.new ≡ onto (take k from.now) to.old }
-{
-    window::copy(to, &from[0..k]);
-}
-
 // The errors of k axes.
 pub fn put_errors(from: &[f64; 16], k: usize, errors: &mut [f64])
     requires { (k ≤ 16) × (k ≤ length errors.old) }
     ensures { errors.new ≡ onto (take k from.now) errors.old }
 {
-    put_front(from, k, errors);
+    window::copy(errors, &from[0..k]);
 }

@@ -18,7 +18,7 @@ returns-in-Ok-clause-work_after c =
     let same = same_selected a.p a.done.count w R z (take a.p.axes a.done.errors) (counts_of a.done.report) in
     let part = part_is a.p a.done.count w R z in
     ended_done _ _ c.requires.roomy.3
-    ∙ (λ t. done (both (same t) (other_in a.p.samples a.j a.p.room c.in-Ok.other_segments (part t))))
+    ∙ (λ t. done (both (same t) (other_in a.p.samples a.rest.now.count a.p.room c.in-Ok.other_segments (part t))))
     ∙ sym (other_done (smoothed_at a.p a.done w) _ _ c.in-Ok.ensures.part_after)
 
 pub returns-in-Err-clause-work_after : goal.returns-in-Err-clause-work_after
