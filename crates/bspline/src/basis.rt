@@ -13,11 +13,10 @@ struct Expanded {
 }
 
 // The values of degree j from those of degree j - 1.
-fn raise(left: [f64; 6], right: [f64; 6], j: usize, before: [f64; 6]) -> [f64; 6]
+fn raise(b: &mut [f64; 6], left: &[f64; 6], right: &[f64; 6], j: usize)
     requires { j < 6 }
-    ensures { result ≡ inner_loop floats left right j before }
+    ensures { b.new ≡ inner_loop floats left.now right.now j b.old }
 {
-    let mut b = before;
     let mut saved = 0.0;
     for r in 0..j {
         let v = b[r] / (right[r + 1] + left[j - r]);
@@ -25,7 +24,6 @@ fn raise(left: [f64; 6], right: [f64; 6], j: usize, before: [f64; 6]) -> [f64; 6
         saved = left[j - r] * v;
     }
     b[j] = saved;
-    b
 }
 
 // The six functions of the span, at x.
@@ -40,7 +38,7 @@ pub fn values(t: &[f64], span: usize, x: f64) -> [f64; 6]
     for j in 1..6 {
         left[j] = x - t[span + 1 - j];
         right[j] = t[span + j] - x;
-        b = raise(left, right, j, b);
+        raise(&mut b, &left, &right, j);
     }
     b
 }

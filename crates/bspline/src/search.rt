@@ -45,5 +45,8 @@ pub fn partition_point_lt(list: &[f64], x: f64) -> usize
 pub fn span(t: &[f64], m: usize, x: f64) -> usize
     ensures { result ≡ span_of floats t.now m x }
 {
-    partition_point_le(t, x).saturating_sub(1).min(m.saturating_sub(1)).max(5)
+    partition_point_le(t, x)
+        .saturating_sub(1)
+        .min(m.saturating_sub(1))
+        .max(5)
 }

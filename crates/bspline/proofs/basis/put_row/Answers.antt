@@ -1,4 +1,4 @@
-use Rattle.std.proofs.Common.{◌≡◌, ℕ, ◌+◌, ◌≤◌, ◌<◌, List, ◌∷◌, [], ◌++◌, length, get_or, set, take, sym, ap, ◌∙◌, add-one, arith}
+use Rattle.std.proofs.Common.{◌≡◌, ℕ, ◌+◌, ◌≤◌, ◌<◌, List, length, get_or, set, take, sym, ap, ◌∙◌, add-one, arith}
 use lib.Ieee.{Float, nan}
 use Rattle.std.proofs.lemmas.List.{take_all}
 use lib.Seq.{take-suc, length-take-le}

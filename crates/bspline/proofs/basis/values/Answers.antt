@@ -11,7 +11,7 @@ loop-j-init c = refl
 pub loop-j-preserved : goal.loop-j-preserved
 unfolding outer_turn
 loop-j-preserved c =
-    rw c.raise-b.ensures (ap (λ (s : Outer Float). s.row) (sym (each_turn _ _ _ _ (omega arith))) ∙ c.loop-j.invariant)
+    rw c.raise.ensures (ap (λ (s : Outer Float). s.row) (sym (each_turn _ _ _ _ (omega arith))) ∙ c.loop-j.invariant)
 
 pub returns : goal.returns
 returns c = ap (λ (s : Outer Float). s.row) (sym (each_done _ _ _ _ (omega arith))) ∙ c.loop-j.invariant
