@@ -1,2 +1,3 @@
 -- Laws about the definitions.
 pub mod Rooms
+pub mod Turns

@@ -37,7 +37,7 @@ fn interval(s: &[f64], n: usize, x: f64) -> usize
 }
 
 // The line between points i and i + 1, at x: d cells, and 0 up to 16.
-#[tactic(auto, using(arith::proofs::Loops::each_next, arith::proofs::Loops::each_done), unfolding(crate::specs::Pieces::line_of, crate::specs::Pieces::line_turn))]
+#[tactic(auto, using(crate::proofs::Turns::loops), unfolding(crate::specs::Pieces::line_of, crate::specs::Pieces::line_turn))]
 fn line(s: &[f64], y: &[f64], d: usize, i: usize, x: f64) -> [f64; 16]
     requires { (d ≤ 16) × (i + 1 < length s.now) × ((i + 1) * d + d ≤ length y.now) }
     ensures { result ≡ line_of s.now y.now d i x }

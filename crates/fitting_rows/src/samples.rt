@@ -15,6 +15,7 @@ pub struct Density {
 }
 
 // Whether at least 8 samples lie in the span, its right end left out.
+#[tactic(auto, unfolding(crate::specs::Samples::dense_of))]
 pub fn is_dense(t: &[f64], s: &[f64], span: usize) -> bool
     requires { span + 1 < length t.now }
     ensures { result ≡ dense_of t.now s.now span }
@@ -39,7 +40,7 @@ fn weight(s: &[f64], n: usize, i: usize) -> f64
 }
 
 // The d cells of point i, and 0 up to 16.
-#[tactic(auto, using(arith::proofs::Loops::each_turn, arith::proofs::Loops::each_done), unfolding(crate::specs::Samples::point_of))]
+#[tactic(auto, using(crate::proofs::Turns::loops), unfolding(crate::specs::Samples::point_of))]
 pub fn point(y: &[f64], d: usize, i: usize) -> [f64; 16]
     requires { (d ≤ 16) × (i * d + d ≤ length y.now) }
     ensures { result ≡ point_of y.now d i }
@@ -52,6 +53,7 @@ pub fn point(y: &[f64], d: usize, i: usize) -> [f64; 16]
 }
 
 // The row of sample i, of n, which lies in the span.
+#[tactic(auto, unfolding(crate::specs::Samples::sample_row_of))]
 fn sample_row(
     t: &[f64],
     c: &[f64],

@@ -5,3 +5,4 @@ pub mod Tests
 pub mod Pivots
 pub mod Outcomes
 pub mod Arrays
+pub mod Turns

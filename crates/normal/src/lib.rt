@@ -32,6 +32,7 @@ fn value(c: &[f64], d: usize, start: usize, basis: [f64; 6], axis: usize) -> f64
 }
 
 // The fitting row for a target, from the controls as they are.
+#[tactic(auto, using(crate::proofs::Turns::loops), unfolding(crate::specs::Add::row_of, crate::specs::Add::difference_of))]
 pub fn fitting_row(
     c: &[f64],
     d: usize,
@@ -108,6 +109,7 @@ fn add_axis(r: &mut [f64], a: usize, n: usize, d: usize, row: Row, axis: usize)
 }
 
 // Adds the row's shares to the right sides of the n active controls from a on.
+#[tactic(auto, using(crate::proofs::Turns::loops), unfolding(crate::specs::Add::add_right_of))]
 fn add_right(r: &mut [f64], a: usize, n: usize, d: usize, row: Row)
     requires { (d ≤ 16) × (a + n ≤ usize_max) × (row.start + 6 ≤ usize_max) × (n * d ≤ length r.old) }
     ensures { r.new ≡ add_right_of a n d row r.old }
@@ -200,6 +202,7 @@ fn divide_row(sys: &mut [f64], n: usize, d: usize, i: usize)
 }
 
 // What is left of h[i][i - j] when the products of the columns before j are taken away.
+#[tactic(auto, using(crate::proofs::Turns::loops), unfolding(crate::specs::Solve::reduced_of, crate::specs::Solve::reduce_of))]
 fn reduced(h: &[f64], i: usize, j: usize) -> f64
     requires { (j ≤ i) × (i ≤ j + 5) × (6 * i + 6 ≤ length h.now) }
     ensures { result ≡ reduced_of h.now i j }
@@ -212,6 +215,7 @@ fn reduced(h: &[f64], i: usize, j: usize) -> f64
 }
 
 // Row i of the factor, without the diagonal.
+#[tactic(auto, using(crate::proofs::Turns::loops), unfolding(crate::specs::Solve::eliminated_of, crate::specs::Solve::eliminate_of))]
 fn eliminate(h: &mut [f64], i: usize)
     requires { 6 * i + 6 ≤ length h.old }
     ensures { h.new ≡ eliminated_of i h.old }

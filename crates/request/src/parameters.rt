@@ -27,6 +27,7 @@ fn even_at(n: usize, i: usize) -> f64
 }
 
 // The chord from waypoint i to the next.
+#[tactic(auto, using(crate::proofs::Spaced::sum_next), unfolding(crate::specs::Parameters::sum_of, crate::specs::Parameters::square_of, crate::specs::Parameters::chord_length))]
 fn chord_from(points: &[f64], d: usize, i: usize) -> f64
     requires { (i < 20000) × ((i + 1) * d + d ≤ length points.now) }
     ensures { result ≡ chord_length points.now d i }
@@ -42,6 +43,7 @@ fn chord_from(points: &[f64], d: usize, i: usize) -> f64
 }
 
 // The sum of the first chords.
+#[tactic(auto, using(crate::proofs::Spaced::sum_next), unfolding(crate::specs::Parameters::sum_of))]
 fn chords(points: &[f64], d: usize, count: usize) -> f64
     requires { (count ≤ 20000) × ((count + 1) * d ≤ length points.now) }
     ensures { result ≡ sum_of count (chord_length points.now d) }
