@@ -90,10 +90,6 @@ pub refused_not_done : (a : Ending) (n : ℕ) → a ≡ Refused n → a ≡ Done
 unfolding NotDone
 refused_not_done a n e h = subst NotDone (sym e ∙ h) tt
 
-pub exhausted_not_done : (a : Ending) (w : Float) → a ≡ Exhausted w → a ≡ Done → ⊥
-unfolding NotDone
-exhausted_not_done a w e h = subst NotDone (sym e ∙ h) tt
-
 -- ---- the other axes
 module _ (x : Selected) (o : Answer (Polynomial Float)) where
   pub other_refused : (n : ℕ) → refused n ≡ o → with_other x o ≡ refused n

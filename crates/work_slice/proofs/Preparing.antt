@@ -1,10 +1,9 @@
--- What `prepare` and `interpolate_others` write and test.
+-- What `prepare` writes and tests.
 use mathlib.Core.Path.{◌≡◌, refl, ap, ◌∙◌}
 use mathlib.Core.Bool.{Bool, not, ◌||◌}
 use mathlib.Core.List.{List}
 use Prim.Native.Nat.{ℕ, zero, suc, ◌+◌, ◌-◌, ◌*◌, ◌≤◌, ◌<◌}
 use native.Mathlib.Omega.{arith}
-use native.Mathlib.Nat.{mul-le-mul}
 use lib.ListN.{length}
 use lib.Ieee.{Float, nan, le}
 use lib.Ieee.Scale.{finite}
@@ -18,10 +17,6 @@ use Rattle.request.specs.Parameters.{normalised_of, length_of, any_fall, unrelia
 use Rattle.smoothing.specs.Checks.{overflows}
 use Rattle.smoothing.specs.Rows.{Task, Units, task_of, centred}
 use Rattle.work_slice.specs.Rows.{s_of}
-
--- n waypoints of k axes
-pub cells_few : (n k : ℕ) → n ≤ 20016 → k ≤ 16 → n * k ≤ 320256
-cells_few n k h g = let l : n * k ≤ 20016 * 16 = mul-le-mul h g in omega arith
 
 -- equal tests
 pub any_ap : (f g : ℕ → Bool) (n : ℕ) → ((i : ℕ) → i < n → f i ≡ g i) → any n f ≡ any n g
@@ -72,10 +67,6 @@ module _ {list : ℕ → List Float} {n : ℕ} {w v : List Float} (P : Put list 
 
   pub put_read : window 0 n (splice 0 n v w) ≡ s_of (list n) n
   put_read = window_same 0 n v w (omega (arith, P.fits)) put_count ∙ put_is
-
-  -- the part that then takes m cells of rows
-  pub rows_long : (b m : ℕ) → b + m ≤ length w → length (window b (b + m) (splice 0 n v w)) ≡ m
-  rows_long b m g = length_window b (b + m) (splice 0 n v w) (omega arith) (omega (arith, put_long)) ∙ omega arith
 
   -- the parameters once they are written
   pub put_stays : {b f : ℕ} {z : List Float} → Apart 0 n b f v z w → window 0 (0 + n) (splice b f z (splice 0 n v w)) ≡ s_of (list n) n
