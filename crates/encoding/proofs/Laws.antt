@@ -1,11 +1,11 @@
 -- Laws of numbers as bytes and as digits.
-use mathlib.Core.Path.{◌≡◌, refl, sym, ap, ◌∙◌}
+use mathlib.Core.Path.{◌≡◌, refl, sym, ◌∙◌}
 use mathlib.Core.Bool.{not}
 use mathlib.Core.List.{List, [], ◌∷◌, ◌++◌, append-nil}
 use Prim.Native.Nat.{ℕ, zero, suc, ◌+◌, ◌*◌, ◌%◌, ◌^◌, ◌≤◌, ◌<◌}
 use native.Mathlib.Omega.{arith}
 use native.Mathlib.Nat.{le_of_suc-le-suc, not-suc-le-zero, lt_of_lt_of_le}
-use lib.ListN.{length, drop, get_or, set, length-append, length-drop, get_or-append}
+use lib.ListN.{length, drop, get_or, set, length-append, get_or-append}
 use lib.Pow.{pow-add, pow_mono}
 use native.Mathlib.Numerals.{add-one}
 use lib.Seq.{drop-cons, drop-length, get_or_at}

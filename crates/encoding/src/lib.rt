@@ -74,7 +74,8 @@ pub fn float(bytes: &[u8]) -> f64
     number(whole(bytes))
 }
 
-// As many f64 as `cells` has places, from eight bytes each.
+// As many f64 as `cells` has places, from eight bytes each. One loop for both, with a closure, would need clauses on
+// its calls that are longer than this loop.
 pub fn floats(bytes: &[u8], cells: &mut [f64])
     requires { 8 * length cells.old ≤ length bytes.now }
     ensures { cells.new ≡ floats_of (length cells.old) bytes.now }

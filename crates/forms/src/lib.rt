@@ -14,6 +14,9 @@ pub struct Number {
     pub next: usize,
 }
 
+// A last group behind others that adds nothing.
+const PADDING: usize = 0;
+
 // A third group from here on says that a fourth follows.
 const FOURTH_FOLLOWS: usize = 128;
 
@@ -31,7 +34,7 @@ pub fn number_at(bytes: &[u8], at: usize) -> Option<Number>
     }
     let b = usize::from(*bytes.get(second)?);
     let third = second + 1;
-    if b == 0 {
+    if b == PADDING {
         return None;
     }
     if b < 128 {
@@ -41,7 +44,7 @@ pub fn number_at(bytes: &[u8], at: usize) -> Option<Number>
         });
     }
     let c = usize::from(*bytes.get(third)?);
-    if c == 0 || FOURTH_FOLLOWS <= c {
+    if c == PADDING || FOURTH_FOLLOWS <= c {
         return None;
     }
     Some(Number {

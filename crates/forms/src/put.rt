@@ -59,7 +59,8 @@ pub fn put_words(file: &mut [u8], at: usize, cells: &[u64])
     }
 }
 
-// The patterns of the numbers in the cells, eight bytes each.
+// The patterns of the numbers in the cells, eight bytes each. One loop for both, with a closure, would need clauses on
+// its calls that are longer than this loop.
 pub fn put_floats(file: &mut [u8], at: usize, cells: &[f64])
     requires { at + 8 * length cells.now ≤ length file.old }
     ensures { file.new ≡ written at (write_all (bytes 8) (map (λ x. to_bits binary64 x) cells.now))

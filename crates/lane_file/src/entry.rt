@@ -3,12 +3,12 @@ ghost use Rattle.std.specs.Prelude.{◌≡◌, take};
 ghost use Rattle.lane_file.specs.Curves.{cells};
 ghost use Rattle.lane_file.specs.Outcome.{write_outcome, write_number, write_count, write_of, WritePromised, read_outcome, read_number, curve_in, read_of, ReadPromised};
 
+use crate::Refusal;
 use crate::cells::{curve_at, read_sets, too_short};
 use crate::formed::formed;
 use crate::head::whole_head;
 use crate::kept::well_formed;
 use crate::put::{head_length, put_head, put_patterns};
-use crate::Refusal;
 use curve::Curve;
 
 // The file of the curve, into the first bytes of the slice.

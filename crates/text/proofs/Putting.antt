@@ -1,13 +1,11 @@
 -- Texts put together.
-use mathlib.Core.Path.{◌≡◌, refl, sym, ap, ◌∙◌}
+use mathlib.Core.Path.{◌≡◌, refl, ap, ◌∙◌}
 use mathlib.Core.Bool.{Bool, true, false, not, cond}
 use mathlib.Core.List.{List, ◌∷◌, ◌++◌, append_assoc}
 use Prim.Native.Nat.{ℕ, zero, suc, ◌+◌, ◌-◌, ◌≤◌, ◌<◌}
 use native.Mathlib.Omega.{arith}
 use lib.Dec.{T, ltb, ltb→lt, nltb→le}
 use lib.IntN.{pos, negsuc, ◌-ℤ◌}
-use lib.ListN.{length, take, length-append}
-use lib.Seq.{take_at, take-length, length-take-le}
 use Rattle.text.specs.Decimal.{decimal_of, whole_text}
 
 -- two texts, one after the other

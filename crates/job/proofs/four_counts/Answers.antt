@@ -1,5 +1,4 @@
 -- One count after the other, as the form reads them.
-use Rattle.std.proofs.Common.{sym, ◌∙◌}
 use Rattle.job.proofs.Places.{unread2, unread3, unread4, all_read}
 use Rattle.job.proofs.four_counts.Goals as goal
 

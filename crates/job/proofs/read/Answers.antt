@@ -1,5 +1,5 @@
 -- At each return the definition gives what the code answers.
-use Rattle.std.proofs.Common.{◌≡◌, ◌+◌, ◌*◌, false, length, drop, sym, ◌∙◌, arith}
+use Rattle.std.proofs.Common.{◌≡◌, ◌+◌, ◌*◌, false, drop, sym, ◌∙◌, arith}
 use lib.ListN.{length-drop}
 use Rattle.job.specs.Job.{above_limits}
 use Rattle.job.proofs.Places.{few_points, job_unread, job_above, job_bad, job_read, refused_read, done_read, put_numbers}

@@ -2,7 +2,7 @@ use Rattle.std.proofs.Common.{◌≡◌, ◌+◌, ◌*◌, ◌≤◌, length, ma
 use lib.ListN.{length-map}
 use lib.Ieee.{nan, binary64, to_bits}
 use Rattle.window.proofs.Joined.{map_at}
-use Rattle.forms.proofs.Putting.{words_first, words_next, words_last, word_length}
+use Rattle.forms.proofs.Putting.{words_next, word_length}
 use Rattle.forms.proofs.put.put_floats.Goals as goal
 
 pub loop-i-preserved : goal.loop-i-preserved

@@ -1,5 +1,5 @@
 use Rattle.std.proofs.Common.{◌+◌, ◌*◌, ◌≤◌, length, get_or, refl, ap, ◌∙◌, arith}
-use Rattle.forms.proofs.Putting.{words_first, words_next, words_last, word_length}
+use Rattle.forms.proofs.Putting.{words_next, word_length}
 use Rattle.forms.proofs.put.put_words.Goals as goal
 
 pub loop-i-preserved : goal.loop-i-preserved

@@ -1,4 +1,4 @@
-use Rattle.std.proofs.Common.{length, take, sym, refl, arith, append-nil}
+use Rattle.std.proofs.Common.{take, sym, refl, arith, append-nil}
 use Rattle.lane.specs.Printed.{error_lines}
 use Rattle.lane.proofs.Printing.{lines_next}
 use Rattle.lane.proofs.lines.error_lines.Goals as goal

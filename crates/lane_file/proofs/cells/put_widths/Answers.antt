@@ -1,4 +1,4 @@
-use Rattle.std.proofs.Common.{ℕ, List, length, set, length-set, refl, sym, ap, ◌+◌, ◌∙◌, arith}
+use Rattle.std.proofs.Common.{ℕ, List, set, length-set, refl, sym, ap, ◌+◌, ◌∙◌, arith}
 use Rattle.window.specs.Rows.{join}
 use Rattle.window.proofs.Written.{written_none, fill_next}
 use Rattle.curve.specs.Form.{width_of}

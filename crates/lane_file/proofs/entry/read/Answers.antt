@@ -1,10 +1,8 @@
 -- At each return the definition gives what the code answers.
-use Rattle.std.proofs.Common.{◌≡◌, List, ℕ, false, true, sym, ap, subst, ◌∙◌}
+use Rattle.std.proofs.Common.{◌≡◌, List, ℕ, sym, subst, ◌∙◌}
 use Rattle.curve.specs.declared.Curve.{Curve}
-use Rattle.curve.specs.Form.{well_formed}
-use Rattle.lane_file.specs.Curves.{Cells, cells, slices_of}
+use Rattle.lane_file.specs.Curves.{Cells, cells}
 use Rattle.lane_file.specs.Outcome.{read_outcome, ReadPromised}
-use Rattle.lane_file.specs.Reading.{cells_at, curve_at}
 use Rattle.lane_file.proofs.Taking.{short_is}
 use Rattle.lane_file.proofs.Answers.{not_read, read_not_formed, read_too_short, read_done, taken}
 use Rattle.lane_file.proofs.entry.read.Goals as goal

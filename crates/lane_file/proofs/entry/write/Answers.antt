@@ -1,6 +1,5 @@
 -- At each return the definition gives what the code answers.
 use Rattle.std.proofs.Common.{◌≡◌, ◌-◌, ◌≤◌, length, take, sym, ◌∙◌, arith, rules}
-use lib.Seq.{length-take-le}
 use Rattle.window.specs.Rows.{written}
 use Rattle.lane_file.specs.File.{coefficient_count, patterns_form}
 use Rattle.lane_file.specs.Curves.{cells, Storable, head_of, patterns_from, file_of}

@@ -1,4 +1,4 @@
-use Rattle.std.proofs.Common.{Bool, ℕ, cond, ◌+◌, ap, ◌∙◌, arith}
+use Rattle.std.proofs.Common.{Bool, cond, ◌+◌, ap, ◌∙◌, arith}
 use lib.Ieee.{lt}
 use Rattle.window.specs.Cells.{at}
 use Rattle.encoding.specs.Bytes.{floats_of}

@@ -1,5 +1,5 @@
 -- The first k coefficients are in their cells.
-use Rattle.std.proofs.Common.{◌≡◌, ◌++◌, length, map, take, drop}
+use Rattle.std.proofs.Common.{◌≡◌, ◌++◌, map, take, drop}
 use Rattle.lane_file.specs.Curves.{number_of}
 use Rattle.lane_totals.proofs.segments.powers_at.Given as goal
 

@@ -1,5 +1,4 @@
-use Rattle.std.proofs.Common.{arith}
-use Rattle.season.proofs.Turns.{turn_stops, turn_goes, turn_ends, turn_rests}
+use Rattle.season.proofs.Turns.{turn_goes, turn_ends}
 use Rattle.season.proofs.parts.take_part.Goals as goal
 
 pub returns-then-last-clause-by_index : goal.returns-then-last-clause-by_index
