@@ -1,103 +1,121 @@
 // Lines of text, gathered in a buffer and written to standard output when it is full.
-ghost use Rattle.std.specs.Prelude.{◌≡◌, take};
+ghost use Rattle.std.specs.Prelude.{◌≡◌, ℕ, List, take};
 ghost use Rattle.listing.specs.Output.{put, printed, whole_text, cell_text, cells_text, end_text, refused_text, damaged_text};
+
+use std::marker::Model;
 
 // standard output
 const STDOUT_FILENO: i32 = 1;
 
-// Writes what is in the buffer.
-pub(crate) fn flush(out: &[u8], at: usize) {
-    if at <= out.len() {
-        io::write_all(STDOUT_FILENO, &out[..at]);
+// The buffer, and where the next byte goes in it.
+#[derive(Drop)]
+pub struct Output {
+    buffer: [u8; 4096],
+    at: usize,
+}
+
+impl Model for Output {
+    ghost Value = { List ℕ × ℕ };
+
+    ghost view = { λ s. (s.buffer, s.at) };
+}
+
+impl Output {
+    pub fn new() -> Output {
+        Output {
+            buffer: [0; 4096],
+            at: 0,
+        }
     }
-}
 
-// One byte more.
-fn byte(out: &mut [u8], at: usize, b: u8) -> usize
-    ensures { (out.new, result) ≡ put (out.old, at) b }
-{
-    if at < out.len() {
-        out[at] = b;
-        return at + 1;
+    // Writes what is in the buffer.
+    pub(crate) fn flush(&self) {
+        if self.at <= self.buffer.len() {
+            io::write_all(STDOUT_FILENO, &self.buffer[..self.at]);
+        }
     }
-    flush(out, at);
-    if 0 < out.len() {
-        out[0] = b;
-        return 1;
+
+    // One byte more.
+    fn byte(&mut self, b: u8)
+        ensures { self.new ≡ put self.old b }
+    {
+        if self.at < self.buffer.len() {
+            self.buffer[self.at] = b;
+            self.at += 1;
+            return;
+        }
+        self.flush();
+        self.buffer[0] = b;
+        self.at = 1;
     }
-    0
-}
 
-// The bytes of `words`.
-pub fn text(out: &mut [u8], at: usize, words: &[u8]) -> usize
-    ensures { (out.new, result) ≡ printed (out.old, at) words.now }
-{
-    let mut next = at;
-    for b in words {
-        next = byte(out, next, *b);
+    // The bytes of `words`.
+    pub fn text(&mut self, words: &[u8])
+        ensures { self.new ≡ printed self.old words.now }
+    {
+        for b in words {
+            self.byte(*b);
+        }
     }
-    next
-}
 
-// A blank, and a whole number in decimal.
-pub fn whole(out: &mut [u8], at: usize, n: u64) -> usize
-    ensures { (out.new, result) ≡ printed (out.old, at) (whole_text n) }
-{
-    let mut digits = [0u8; 20];
-    let count = io::decimal(n, &mut digits);
-    let next = byte(out, at, b' ');
-    text(out, next, &digits[..count])
-}
-
-// A blank, and an f64 as 16 hex digits, or `NaN`.
-pub fn cell(out: &mut [u8], at: usize, x: f64) -> usize
-    ensures { (out.new, result) ≡ printed (out.old, at) (cell_text x) }
-{
-    let words = encoding::hex(x);
-    let next = byte(out, at, b' ');
-    text(out, next, words.as_bytes())
-}
-
-// The cells of `list`.
-pub fn cells(out: &mut [u8], at: usize, list: &[f64]) -> usize
-    ensures { (out.new, result) ≡ printed (out.old, at) (cells_text list.now) }
-{
-    let mut next = at;
-    for x in list {
-        next = cell(out, next, *x);
+    // A blank, and a whole number in decimal.
+    pub fn whole(&mut self, n: u64)
+        ensures { self.new ≡ printed self.old (whole_text n) }
+    {
+        let mut digits = [0u8; 20];
+        let count = io::decimal(n, &mut digits);
+        self.byte(b' ');
+        self.text(&digits[..count]);
     }
-    next
-}
 
-// The first n cells of `list`, as far as there are any.
-pub fn first_cells(out: &mut [u8], at: usize, list: &[f64], n: usize) -> usize
-    ensures { (out.new, result) ≡ printed (out.old, at) (cells_text (take n list.now)) }
-{
-    cells(out, at, &list[..n.min(list.len())])
-}
+    // A blank, and an f64 as 16 hex digits, or `NaN`.
+    pub fn cell(&mut self, x: f64)
+        ensures { self.new ≡ printed self.old (cell_text x) }
+    {
+        let words = encoding::hex(x);
+        self.byte(b' ');
+        self.text(words.as_bytes());
+    }
 
-// The end of a line.
-pub fn end(out: &mut [u8], at: usize) -> usize
-    ensures { (out.new, result) ≡ printed (out.old, at) end_text }
-{
-    byte(out, at, b'\n')
-}
+    // The cells of `list`.
+    pub fn cells(&mut self, list: &[f64])
+        ensures { self.new ≡ printed self.old (cells_text list.now) }
+    {
+        for x in list {
+            self.cell(*x);
+        }
+    }
 
-// The end of a line that tells a refusal's number.
-pub fn refused(out: &mut [u8], at: usize, number: u64) -> usize
-    ensures { (out.new, result) ≡ printed (out.old, at) (refused_text number) }
-{
-    let next = text(out, at, b" refused");
-    let next = whole(out, next, number);
-    end(out, next)
-}
+    // The first n cells of `list`, as far as there are any.
+    pub fn first_cells(&mut self, list: &[f64], n: usize)
+        ensures { self.new ≡ printed self.old (cells_text (take n list.now)) }
+    {
+        self.cells(&list[..n.min(list.len())]);
+    }
 
-// The list is damaged: one line that says at which byte the case that does not read starts.
-pub fn damaged(out: &mut [u8], at: usize, place: u64)
-    ensures { out.new ≡ (printed (out.old, at) (damaged_text place)).0 }
-{
-    let next = text(out, at, b"damaged at byte");
-    let next = whole(out, next, place);
-    let next = end(out, next);
-    flush(out, next);
+    // The end of a line.
+    pub fn end(&mut self)
+        ensures { self.new ≡ printed self.old end_text }
+    {
+        self.byte(b'\n');
+    }
+
+    // The end of a line that tells a refusal's number.
+    pub fn refused(&mut self, number: u64)
+        ensures { self.new ≡ printed self.old (refused_text number) }
+    {
+        self.text(b" refused");
+        self.whole(number);
+        self.end();
+    }
+
+    // The list is damaged: one line that says at which byte the case that does not read starts.
+    pub fn damaged(&mut self, place: u64)
+        ensures { self.new ≡ printed self.old (damaged_text place) }
+    {
+        self.text(b"damaged at byte");
+        self.whole(place);
+        self.end();
+        self.flush();
+    }
 }

@@ -17,8 +17,7 @@ fn main() {
     let mut other_coefficients = [0.0; 65536];
     let mut errors = [0.0; 64];
     let mut bytes = io::buffer();
-    let mut out = io::buffer();
-    turn::run(&mut bytes, &mut cells, &mut out, |head, cells, out, at| {
+    turn::run(&mut bytes, &mut cells, |head, cells, out| {
         let buffers = Lent {
             work: &mut work[..],
             breaks: &mut breaks[..],
@@ -27,6 +26,6 @@ fn main() {
             other_coefficients: &mut other_coefficients[..],
             errors: &mut errors[..],
         };
-        replay_lending::answer(head, cells, buffers, out, at)
+        replay_lending::answer(head, cells, buffers, out)
     });
 }

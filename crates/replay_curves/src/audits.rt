@@ -4,7 +4,7 @@ ghost use Rattle.polynomial.specs.Placed.{PartsLaid};
 ghost use Rattle.listing.specs.Lines.{Unanswered};
 
 use listing::list::Head;
-use listing::output;
+use listing::output::Output;
 use polynomial::audit::Parts;
 use polynomial::interval::Unaudited;
 
@@ -40,19 +40,19 @@ fn arrange(cells: &[f64], work: &mut [f64], curve: usize)
 }
 
 // The line of an audit: the bounds and the witnesses, which lie one after the other, or the number.
-fn line(outcome: Result<(), Unaudited>, list: &[f64], out: &mut [u8], at: usize) -> usize {
-    let next = output::text(out, at, b"audit");
+fn line(outcome: Result<(), Unaudited>, list: &[f64], out: &mut Output) {
+    out.text(b"audit");
     match outcome {
         Ok(()) => {
-            let next = output::cells(out, next, list);
-            output::end(out, next)
+            out.cells(list);
+            out.end();
         }
-        Err(e) => output::refused(out, next, e.number() as u64),
+        Err(e) => out.refused(e.number() as u64),
     }
 }
 
 // Kind 50, whole numbers d, n, first, last, segments: the bounds and the witnesses after the audit.
-pub fn audit(head: Head, cells: &[f64], work: &mut [f64], out: &mut [u8], at: usize) -> Option<usize>
+pub fn audit(head: Head, cells: &[f64], work: &mut [f64], out: &mut Output) -> Option<()>
     ensures { Unanswered out.old out.new result }
 {
     let wholes = head.wholes;
@@ -70,5 +70,6 @@ pub fn audit(head: Head, cells: &[f64], work: &mut [f64], out: &mut [u8], at: us
     }
     arrange(cells, work, p.breaks);
     let r = polynomial::audit::audit(work, p, first, last);
-    Some(line(r.outcome, &work[p.bounds..p.breaks], out, at))
+    line(r.outcome, &work[p.bounds..p.breaks], out);
+    Some(())
 }

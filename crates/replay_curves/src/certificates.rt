@@ -4,29 +4,29 @@ ghost use Rattle.listing.specs.Lines.{Unanswered};
 use certificate::certify::Refusal;
 use curve::Mode;
 use listing::list::Head;
-use listing::{axes, curves, output};
+use listing::output::Output;
+use listing::{axes, curves};
 
 // The line of a certificate.
-fn line(certificate: Result<Option<f64>, Refusal>, out: &mut [u8], at: usize) -> usize
-{
-    let next = output::text(out, at, b"certify");
+fn line(certificate: Result<Option<f64>, Refusal>, out: &mut Output) {
+    out.text(b"certify");
     match certificate {
         Ok(Some(x)) => {
-            let next = output::text(out, next, b" figure");
-            let next = output::cell(out, next, x);
-            output::end(out, next)
+            out.text(b" figure");
+            out.cell(x);
+            out.end();
         }
         Ok(None) => {
-            let next = output::text(out, next, b" none");
-            output::end(out, next)
+            out.text(b" none");
+            out.end();
         }
-        Err(refusal) => output::refused(out, next, refusal.number()),
+        Err(refusal) => out.refused(refusal.number()),
     }
 }
 
 // Kind 90, whole numbers d, k, segments of both sets, n, four of axes, six counts of cells, and the
 // axis with the parameter mode and the depth: the certified figure.
-pub fn certify(head: Head, cells: &[f64], out: &mut [u8], at: usize) -> Option<usize>
+pub fn certify(head: Head, cells: &[f64], out: &mut Output) -> Option<()>
     ensures { Unanswered out.old out.new result }
 {
     let wholes = head.wholes;
@@ -58,5 +58,6 @@ pub fn certify(head: Head, cells: &[f64], out: &mut [u8], at: usize) -> Option<u
         (word % 256) as usize,
         (word / 65536) as usize,
     );
-    Some(line(certificate, out, at))
+    line(certificate, out);
+    Some(())
 }

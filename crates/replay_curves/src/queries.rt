@@ -4,11 +4,12 @@ ghost use Rattle.listing.specs.Lines.{Unanswered};
 use curve::{Curve, Mode};
 use listing::curves::Slices;
 use listing::list::Head;
-use listing::{axes, curves, output, sizes};
+use listing::output::Output;
+use listing::{axes, curves, sizes};
 use query::Lent;
 
 // The four orders of one query.
-fn query(curve: Curve, p: Slices<'_>, x: f64, out: &mut [u8], at: usize) -> usize {
+fn query(curve: Curve, p: Slices<'_>, x: f64, out: &mut Output) {
     let mut q = [0.0; 16];
     let mut dq = [0.0; 16];
     let mut ddq = [0.0; 16];
@@ -20,20 +21,23 @@ fn query(curve: Curve, p: Slices<'_>, x: f64, out: &mut [u8], at: usize) -> usiz
         other_breaks: p.other_breaks,
         other_coefficients: p.other_coefficients,
     };
-    let answer = query::evaluate(&lent, x, 3, &mut q, &mut dq, &mut ddq, &mut dddq);
-    if let Err(refusal) = answer {
-        let next = output::text(out, at, b" refused");
-        return output::whole(out, next, refusal.number());
+    match query::evaluate(&lent, x, 3, &mut q, &mut dq, &mut ddq, &mut dddq) {
+        Ok(()) => {
+            out.first_cells(&q, curve.d);
+            out.first_cells(&dq, curve.d);
+            out.first_cells(&ddq, curve.d);
+            out.first_cells(&dddq, curve.d);
+        }
+        Err(refusal) => {
+            out.text(b" refused");
+            out.whole(refusal.number());
+        }
     }
-    let next = output::first_cells(out, at, &q, curve.d);
-    let next = output::first_cells(out, next, &dq, curve.d);
-    let next = output::first_cells(out, next, &ddq, curve.d);
-    output::first_cells(out, next, &dddq, curve.d)
 }
 
 // Kind 80, whole numbers d, k, segments of both sets, queries and four of axes: values and derivatives
 // at every query.
-pub fn evaluate(head: Head, cells: &[f64], out: &mut [u8], at: usize) -> Option<usize>
+pub fn evaluate(head: Head, cells: &[f64], out: &mut Output) -> Option<()>
     ensures { Unanswered out.old out.new result }
 {
     let wholes = head.wholes;
@@ -56,9 +60,10 @@ pub fn evaluate(head: Head, cells: &[f64], out: &mut [u8], at: usize) -> Option<
     }
     let axes = axes::axes_of(&wholes, 5);
     let curve = curves::curve_of(&wholes, axes, p.start, p.end, Mode::Error);
-    let mut next = output::text(out, at, b"evaluate");
+    out.text(b"evaluate");
     for x in p.rest {
-        next = query(curve, p, *x, out, next);
+        query(curve, p, *x, out);
     }
-    Some(output::end(out, next))
+    out.end();
+    Some(())
 }

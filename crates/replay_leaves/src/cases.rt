@@ -2,10 +2,10 @@
 ghost use Rattle.listing.specs.Lines.{Unanswered};
 
 use listing::list::Head;
-use listing::output;
+use listing::output::Output;
 
 // Kind 1: the cells, cleared.
-pub fn clear(cells: &[f64], work: &mut [f64], out: &mut [u8], at: usize) -> Option<usize>
+pub fn clear(cells: &[f64], work: &mut [f64], out: &mut Output) -> Option<()>
     ensures { Unanswered out.old out.new result }
 {
     let n = cells.len();
@@ -14,13 +14,14 @@ pub fn clear(cells: &[f64], work: &mut [f64], out: &mut [u8], at: usize) -> Opti
     }
     window::copy(work, cells);
     window::clear(&mut work[..n]);
-    let next = output::text(out, at, b"clear");
-    let next = output::cells(out, next, &work[..n]);
-    Some(output::end(out, next))
+    out.text(b"clear");
+    out.cells(&work[..n]);
+    out.end();
+    Some(())
 }
 
 // Kind 2, whole number n: the first n cells after the last n were copied there.
-pub fn copy(head: Head, cells: &[f64], work: &mut [f64], out: &mut [u8], at: usize) -> Option<usize>
+pub fn copy(head: Head, cells: &[f64], work: &mut [f64], out: &mut Output) -> Option<()>
     ensures { Unanswered out.old out.new result }
 {
     let n = head.wholes[0];
@@ -30,7 +31,8 @@ pub fn copy(head: Head, cells: &[f64], work: &mut [f64], out: &mut [u8], at: usi
     }
     window::copy(work, &cells[..half]);
     window::copy(work, &cells[half..]);
-    let next = output::text(out, at, b"copy");
-    let next = output::first_cells(out, next, work, half);
-    Some(output::end(out, next))
+    out.text(b"copy");
+    out.first_cells(work, half);
+    out.end();
+    Some(())
 }

@@ -8,6 +8,7 @@ ghost use Rattle.listing.specs.Lines.{Unanswered};
 use curve::Mode;
 use listing::axes;
 use listing::list::Head;
+use listing::output::Output;
 use replay_requests::parts::{Lent, MARK};
 use replay_requests::{lines, parts, question};
 
@@ -21,7 +22,7 @@ fn mark(buffer: &mut [f64], end: usize)
 // Kind 70: the request's whole numbers, four of axes, and if there are 16, two with the cells that each
 // part has more, and the count of point cells. Marks the parts of the buffers, calls `build` and writes
 // the line.
-pub fn answer(head: Head, cells: &[f64], buffers: Lent<&mut [f64]>, out: &mut [u8], at: usize) -> Option<usize>
+pub fn answer(head: Head, cells: &[f64], buffers: Lent<&mut [f64]>, out: &mut Output) -> Option<()>
     ensures { Unanswered out.old out.new result }
 {
     if head.kind != 70 {
@@ -75,5 +76,6 @@ pub fn answer(head: Head, cells: &[f64], buffers: Lent<&mut [f64]>, out: &mut [u
         other_coefficients: &other_coefficients[..],
         errors: &errors[..],
     };
-    Some(lines::line(built, p, lent, out, at))
+    lines::line(built, p, lent, out);
+    Some(())
 }

@@ -9,7 +9,7 @@ ghost use Rattle.replay_queries.specs.Told.{marks, marked_outputs, refusal_text,
 
 use curve::Curve;
 use listing::curves::Slices;
-use listing::output;
+use listing::output::Output;
 use query::{Lent, Refusal};
 
 const MARK: f64 = -6.0221407623e-123;
@@ -43,35 +43,33 @@ fn refused_at(answers: Result<(), Refusal>) -> u64
 }
 
 // A refusal's number.
-pub fn refusal(number: u64, out: &mut [u8], at: usize) -> usize
-    ensures { (out.new, result) ≡ printed (out.old, at) (refusal_text number) }
+pub fn refusal(number: u64, out: &mut Output)
+    ensures { out.new ≡ printed out.old (refusal_text number) }
 {
-    if number == 0 {
-        return at;
+    if number != 0 {
+        out.text(b" refused");
+        out.whole(number);
     }
-    let next = output::text(out, at, b" refused");
-    output::whole(out, next, number)
 }
 
 // The place of the first of many that is outside.
-fn place(number: u64, place: u64, out: &mut [u8], at: usize) -> usize
-    ensures { (out.new, result) ≡ printed (out.old, at) (place_text number place) }
+fn place(number: u64, place: u64, out: &mut Output)
+    ensures { out.new ≡ printed out.old (place_text number place) }
 {
     if number == 22 {
-        return output::whole(out, at, place);
+        out.whole(place);
     }
-    at
 }
 
 // All cells of the four slices.
-pub fn cells(q: &[f64], dq: &[f64], ddq: &[f64], dddq: &[f64], out: &mut [u8], at: usize) -> usize
-    ensures { (out.new, result) ≡ printed (out.old, at) (outputs_text (outputs q.now dq.now
+pub fn cells(q: &[f64], dq: &[f64], ddq: &[f64], dddq: &[f64], out: &mut Output)
+    ensures { out.new ≡ printed out.old (outputs_text (outputs q.now dq.now
         ddq.now dddq.now)) }
 {
-    let next = output::cells(out, at, q);
-    let next = output::cells(out, next, dq);
-    let next = output::cells(out, next, ddq);
-    output::cells(out, next, dddq)
+    out.cells(q);
+    out.cells(dq);
+    out.cells(ddq);
+    out.cells(dddq);
 }
 
 // One query.
@@ -84,10 +82,9 @@ pub fn single(
     dq: &mut [f64],
     ddq: &mut [f64],
     dddq: &mut [f64],
-    out: &mut [u8],
-    at: usize,
-) -> usize
-    ensures { (out.new, result) ≡ printed (out.old, at) (told_text (evaluate_of curve (slices p.entry.breaks.now p.entry.coefficients.now
+    out: &mut Output,
+)
+    ensures { out.new ≡ printed out.old (told_text (evaluate_of curve (slices p.entry.breaks.now p.entry.coefficients.now
         p.entry.other_breaks.now p.entry.other_coefficients.now) x order
         (marked_outputs (length q.old) (length dq.old) (length ddq.old) (length dddq.old)))) }
 {
@@ -100,8 +97,8 @@ pub fn single(
         other_coefficients: p.other_coefficients,
     };
     let answer = query::evaluate(&lent, x, order, q, dq, ddq, dddq);
-    let next = refusal(query::number(answer), out, at);
-    cells(q, dq, ddq, dddq, out, next)
+    refusal(query::number(answer), out);
+    cells(q, dq, ddq, dddq, out);
 }
 
 // All of those after the curve's slices, in one call.
@@ -113,10 +110,9 @@ pub fn all(
     dq: &mut [f64],
     ddq: &mut [f64],
     dddq: &mut [f64],
-    out: &mut [u8],
-    at: usize,
-) -> usize
-    ensures { (out.new, result) ≡ printed (out.old, at) (told_of_all_text (evaluate_all_of curve
+    out: &mut Output,
+)
+    ensures { out.new ≡ printed out.old (told_of_all_text (evaluate_all_of curve
         (slices p.entry.breaks.now p.entry.coefficients.now
         p.entry.other_breaks.now p.entry.other_coefficients.now)
         p.entry.rest.now order (marked_outputs (length q.old) (length dq.old) (length ddq.old)
@@ -131,7 +127,7 @@ pub fn all(
         other_coefficients: p.other_coefficients,
     };
     let answers = query::evaluate_all(&lent, p.rest, order, q, dq, ddq, dddq);
-    let next = refusal(query::number(answers), out, at);
-    let next = place(query::number(answers), refused_at(answers), out, next);
-    cells(q, dq, ddq, dddq, out, next)
+    refusal(query::number(answers), out);
+    place(query::number(answers), refused_at(answers), out);
+    cells(q, dq, ddq, dddq, out);
 }

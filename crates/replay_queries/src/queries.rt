@@ -5,7 +5,8 @@ use crate::{asked, calls, turns};
 use curve::Curve;
 use listing::curves::Slices;
 use listing::list::Head;
-use listing::{axes, curves, output};
+use listing::output::Output;
+use listing::{axes, curves};
 
 // How a case asks: one query alone, all in one call, or in turn of a reader.
 #[derive(Clone, Copy)]
@@ -16,11 +17,11 @@ pub enum Way {
 }
 
 // The name of a way.
-fn name(way: Way, out: &mut [u8], at: usize) -> usize {
+fn name(way: Way, out: &mut Output) {
     match way {
-        Way::Single => output::text(out, at, b"query"),
-        Way::All => output::text(out, at, b"queries"),
-        Way::InTurn => output::text(out, at, b"reader"),
+        Way::Single => out.text(b"query"),
+        Way::All => out.text(b"queries"),
+        Way::InTurn => out.text(b"reader"),
     }
 }
 
@@ -34,19 +35,18 @@ fn call(
     dq: &mut [f64],
     ddq: &mut [f64],
     dddq: &mut [f64],
-    out: &mut [u8],
-    at: usize,
-) -> usize {
+    out: &mut Output,
+) {
     match way {
-        Way::Single if p.rest.len() == 1 => calls::single(curve, p, p.rest[0], order, q, dq, ddq, dddq, out, at),
-        Way::InTurn => turns::in_turn(curve, p, order as u64, q, dq, ddq, dddq, out, at),
-        _ => calls::all(curve, p, order, q, dq, ddq, dddq, out, at),
+        Way::Single if p.rest.len() == 1 => calls::single(curve, p, p.rest[0], order, q, dq, ddq, dddq, out),
+        Way::InTurn => turns::in_turn(curve, p, order as u64, q, dq, ddq, dddq, out),
+        _ => calls::all(curve, p, order, q, dq, ddq, dddq, out),
     }
 }
 
 // Whole numbers d, k, segments of both sets, four of axes, four counts of cells, order, mode, the lengths
 // of the four slices and the queries: the answer, and all cells of the slices.
-pub fn query(way: Way, head: Head, cells: &[f64], out: &mut [u8], at: usize) -> Option<usize>
+pub fn query(way: Way, head: Head, cells: &[f64], out: &mut Output) -> Option<()>
     ensures { Unanswered out.old out.new result }
 {
     let wholes = head.wholes;
@@ -58,8 +58,8 @@ pub fn query(way: Way, head: Head, cells: &[f64], out: &mut [u8], at: usize) -> 
     let mut dq = [0.0; 256];
     let mut ddq = [0.0; 256];
     let mut dddq = [0.0; 256];
-    let next = name(way, out, at);
-    let next = call(
+    name(way, out);
+    call(
         way,
         curve,
         p,
@@ -69,7 +69,7 @@ pub fn query(way: Way, head: Head, cells: &[f64], out: &mut [u8], at: usize) -> 
         &mut ddq[..axes::byte_of(wholes[14], 2)],
         &mut dddq[..axes::byte_of(wholes[14], 3)],
         out,
-        next,
     );
-    Some(output::end(out, next))
+    out.end();
+    Some(())
 }

@@ -1,4 +1,5 @@
-// Queries in turn, asked of a curve reader by `reader::ask_from`: each of one that keeps the segments of the last answer.
+// Queries in turn, asked of a curve reader: each of one that keeps the segments of the last answer. A function with a reader in
+// a local is not covered, so each question goes through `reader::ask_from`.
 ghost use Rattle.std.specs.Prelude.{◌≡◌, ◌%◌, length, get_or};
 ghost use Rattle.std.specs.Float.{nan};
 ghost use Rattle.listing.specs.Axes.{byte_of};
@@ -11,12 +12,12 @@ use crate::calls;
 use curve::Curve;
 use listing::axes;
 use listing::curves::Slices;
+use listing::output::Output;
 use query::Lent;
 
-// Where the next byte goes, and the segments that are tried next.
+// The segments that are tried next.
 #[derive(Clone, Copy)]
 struct Kept {
-    at: usize,
     span: usize,
     other_span: usize,
 }
@@ -32,9 +33,9 @@ fn next(
     dq: &mut [f64],
     ddq: &mut [f64],
     dddq: &mut [f64],
-    out: &mut [u8],
+    out: &mut Output,
 ) -> Kept
-    ensures { (out.new, result.at) ≡ printed (out.old, kept.at) (told_text (evaluate_of curve
+    ensures { out.new ≡ printed out.old (told_text (evaluate_of curve
         (slices p.entry.breaks.now p.entry.coefficients.now
         p.entry.other_breaks.now p.entry.other_coefficients.now) x order
         (marked_outputs (length q.old) (length dq.old) (length ddq.old) (length dddq.old)))) }
@@ -48,15 +49,14 @@ fn next(
         other_coefficients: p.other_coefficients,
     };
     let found = reader::ask_from(lent, kept.span, kept.other_span, x, order, q, dq, ddq, dddq);
-    let at = calls::refusal(query::number(found), out, kept.at);
-    let at = calls::cells(q, dq, ddq, dddq, out, at);
+    calls::refusal(query::number(found), out);
+    calls::cells(q, dq, ddq, dddq, out);
     match found {
         Ok(spans) => Kept {
-            at,
             span: spans.span,
             other_span: spans.other_span,
         },
-        Err(_) => Kept { at, ..kept },
+        Err(_) => kept,
     }
 }
 
@@ -69,17 +69,15 @@ pub fn in_turn(
     dq: &mut [f64],
     ddq: &mut [f64],
     dddq: &mut [f64],
-    out: &mut [u8],
-    at: usize,
-) -> usize
-    ensures { (out.new, result) ≡ printed (out.old, at) (turns_text (length p.entry.rest.now) (λ i. evaluate_of curve
+    out: &mut Output,
+)
+    ensures { out.new ≡ printed out.old (turns_text (length p.entry.rest.now) (λ i. evaluate_of curve
         (slices p.entry.breaks.now p.entry.coefficients.now
         p.entry.other_breaks.now p.entry.other_coefficients.now)
         (get_or p.entry.rest.now i nan) (byte_of orders (i % 4))
         (marked_outputs (length q.old) (length dq.old) (length ddq.old) (length dddq.old)))) }
 {
     let mut kept = Kept {
-        at,
         span: 0,
         other_span: 0,
     };
@@ -97,5 +95,4 @@ pub fn in_turn(
             out,
         );
     }
-    kept.at
 }

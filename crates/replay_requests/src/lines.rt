@@ -2,7 +2,8 @@
 use crate::parts::{Lent, MARK};
 use building::{Answer, Built, Report};
 use curve::Curve;
-use listing::{output, sizes};
+use listing::output::Output;
+use listing::sizes;
 
 // The cells of each result that an accepted request uses.
 fn used_of(curve: Curve) -> Lent<usize> {
@@ -17,42 +18,39 @@ fn used_of(curve: Curve) -> Lent<usize> {
 }
 
 // The first n of the selected axes.
-fn axes(list: &[usize; 16], n: usize, out: &mut [u8], at: usize) -> usize {
-    let mut next = at;
+fn axes(list: &[usize; 16], n: usize, out: &mut Output) {
     for axis in &list[..n.min(16)] {
-        next = output::whole(out, next, *axis as u64);
+        out.whole(*axis as u64);
     }
-    next
 }
 
 // The report's counts, the axes, and the ends of the parameter.
-fn report(report: Report, curve: Curve, out: &mut [u8], at: usize) -> usize {
-    let next = output::whole(out, at, report.segments as u64);
-    let next = output::whole(out, next, report.interpolated_segments as u64);
-    let next = output::whole(out, next, report.refinements as u64);
-    let next = output::whole(out, next, report.fitting_rows as u64);
-    let next = output::whole(out, next, report.checked_intervals as u64);
+fn report(report: Report, curve: Curve, out: &mut Output) {
+    out.whole(report.segments as u64);
+    out.whole(report.interpolated_segments as u64);
+    out.whole(report.refinements as u64);
+    out.whole(report.fitting_rows as u64);
+    out.whole(report.checked_intervals as u64);
     let list = curve.axes;
-    let next = axes(&list, curve.k, out, next);
-    let next = output::cell(out, next, curve.start);
-    output::cell(out, next, curve.end)
+    axes(&list, curve.k, out);
+    out.cell(curve.start);
+    out.cell(curve.end);
 }
 
 // The first n cells of a part.
-fn part(buffer: &[f64], n: usize, out: &mut [u8], at: usize) -> usize {
-    match buffer.get(8..) {
-        Some(cells) => output::first_cells(out, at, cells, n),
-        None => at,
+fn part(buffer: &[f64], n: usize, out: &mut Output) {
+    if let Some(cells) = buffer.get(8..) {
+        out.first_cells(cells, n);
     }
 }
 
 // The used cells of the results.
-fn results(used: Lent<usize>, lent: Lent<&[f64]>, out: &mut [u8], at: usize) -> usize {
-    let next = part(lent.errors, used.errors, out, at);
-    let next = part(lent.breaks, used.breaks, out, next);
-    let next = part(lent.coefficients, used.coefficients, out, next);
-    let next = part(lent.other_breaks, used.other_breaks, out, next);
-    part(lent.other_coefficients, used.other_coefficients, out, next)
+fn results(used: Lent<usize>, lent: Lent<&[f64]>, out: &mut Output) {
+    part(lent.errors, used.errors, out);
+    part(lent.breaks, used.breaks, out);
+    part(lent.coefficients, used.coefficients, out);
+    part(lent.other_breaks, used.other_breaks, out);
+    part(lent.other_coefficients, used.other_coefficients, out);
 }
 
 // Whether there are cells from `from` up to `to`, all marked still.
@@ -104,25 +102,24 @@ fn is_of(curve: Curve, report: Report) -> bool {
 }
 
 // The end of the line: a word where a cell is not as it should be.
-fn end(good: bool, out: &mut [u8], at: usize) -> usize {
-    if good {
-        return output::end(out, at);
+fn end(good: bool, out: &mut Output) {
+    if !good {
+        out.text(b" cells");
     }
-    let next = output::text(out, at, b" cells");
-    output::end(out, next)
+    out.end();
 }
 
 // The line of an accepted request.
-fn accepted(told: Report, curve: Curve, p: Lent<usize>, lent: Lent<&[f64]>, out: &mut [u8], at: usize) -> usize {
+fn accepted(told: Report, curve: Curve, p: Lent<usize>, lent: Lent<&[f64]>, out: &mut Output) {
     let used = used_of(curve);
-    let next = report(told, curve, out, at);
-    let next = results(used, lent, out, next);
+    report(told, curve, out);
+    results(used, lent, out);
     let good = is_of(curve, told) && is_left(lent.work, p.work, 0) && are_kept(p, used, lent);
-    end(good, out, next)
+    end(good, out);
 }
 
 // The line of a refused request.
-fn refused(answer: Answer, p: Lent<usize>, lent: Lent<&[f64]>, out: &mut [u8], at: usize) -> usize {
+fn refused(answer: Answer, p: Lent<usize>, lent: Lent<&[f64]>, out: &mut Output) {
     let none = Lent {
         work: 0,
         breaks: 0,
@@ -131,27 +128,26 @@ fn refused(answer: Answer, p: Lent<usize>, lent: Lent<&[f64]>, out: &mut [u8], a
         other_coefficients: 0,
         errors: 0,
     };
-    let next = output::text(out, at, b" refused");
-    let next = output::whole(out, next, building::number(answer));
-    let next = ratio(answer, out, next);
+    out.text(b" refused");
+    out.whole(building::number(answer));
+    ratio(answer, out);
     let good = is_left(lent.work, p.work, building::number(answer)) && are_kept(p, none, lent);
-    end(good, out, next)
+    end(good, out);
 }
 
 // The ratio that 14 carries.
-fn ratio(answer: Answer, out: &mut [u8], at: usize) -> usize {
+fn ratio(answer: Answer, out: &mut Output) {
     if let Answer::RefinementsUsedUp(x) = answer {
-        return output::cell(out, at, x);
+        out.cell(x);
     }
-    at
 }
 
 // The line of a request.
-pub fn line(built: Built, p: Lent<usize>, lent: Lent<&[f64]>, out: &mut [u8], at: usize) -> usize {
+pub fn line(built: Built, p: Lent<usize>, lent: Lent<&[f64]>, out: &mut Output) {
     let answer = built.answer;
-    let next = output::text(out, at, b"build");
+    out.text(b"build");
     if let Answer::Accepted(told) = answer {
-        return accepted(told, built.curve, p, lent, out, next);
+        return accepted(told, built.curve, p, lent, out);
     }
-    refused(answer, p, lent, out, next)
+    refused(answer, p, lent, out);
 }

@@ -11,7 +11,8 @@ ghost use Rattle.replay_returns.specs.Returned.{marked_slices, returned_text};
 use curve::{Curve, Mode};
 use listing::curves::Slices;
 use listing::list::Head;
-use listing::{axes, curves, output};
+use listing::output::Output;
+use listing::{axes, curves};
 use replay_queries::{asked, calls};
 
 // The call with these lent slices, whose cells are all marked before it and printed after it.
@@ -22,10 +23,9 @@ fn call(
     lent_coefficients: &mut [f64],
     lent_other_breaks: &mut [f64],
     lent_other_coefficients: &mut [f64],
-    out: &mut [u8],
-    at: usize,
-) -> usize
-    ensures { (out.new, result) ≡ printed (out.old, at) (returned_text (return_of curve (slices p.entry.breaks.now p.entry.coefficients.now
+    out: &mut Output,
+)
+    ensures { out.new ≡ printed out.old (returned_text (return_of curve (slices p.entry.breaks.now p.entry.coefficients.now
         p.entry.other_breaks.now p.entry.other_coefficients.now)
         (marked_slices (length lent_breaks.old) (length lent_coefficients.old)
         (length lent_other_breaks.old) (length lent_other_coefficients.old)))) }
@@ -47,21 +47,20 @@ fn call(
         lent_other_breaks,
         lent_other_coefficients,
     );
-    let next = calls::refusal(return_lane::number(answer), out, at);
+    calls::refusal(return_lane::number(answer), out);
     calls::cells(
         lent_breaks,
         lent_coefficients,
         lent_other_breaks,
         lent_other_coefficients,
         out,
-        next,
     )
 }
 
 // Kind 84, whole numbers d, k, segments of both sets, four of axes, four counts of cells and the lengths of
 // the four lent slices: the answer, and all cells of those slices. There are thirteen, so that the sixteenth,
 // which counts queries, is 0.
-pub fn returned(head: Head, cells: &[f64], out: &mut [u8], at: usize) -> Option<usize>
+pub fn returned(head: Head, cells: &[f64], out: &mut Output) -> Option<()>
     ensures { Unanswered out.old out.new result }
 {
     let wholes = head.wholes;
@@ -72,8 +71,8 @@ pub fn returned(head: Head, cells: &[f64], out: &mut [u8], at: usize) -> Option<
     let mut b = [0.0; 256];
     let mut c = [0.0; 256];
     let mut d = [0.0; 256];
-    let next = output::text(out, at, b"returned");
-    let next = call(
+    out.text(b"returned");
+    call(
         curve,
         p,
         &mut a[..axes::byte_of(wholes[12], 0)],
@@ -81,7 +80,7 @@ pub fn returned(head: Head, cells: &[f64], out: &mut [u8], at: usize) -> Option<
         &mut c[..axes::byte_of(wholes[12], 2)],
         &mut d[..axes::byte_of(wholes[12], 3)],
         out,
-        next,
     );
-    Some(output::end(out, next))
+    out.end();
+    Some(())
 }

@@ -2,11 +2,11 @@
 ghost use Rattle.listing.specs.Lines.{Unanswered};
 
 use listing::list::Head;
-use listing::output;
+use listing::output::Output;
 use seed::Waypoints;
 
 // Kind 60, whole numbers d and n: the number of seeded knots, and the knots.
-pub fn seeded(head: Head, cells: &[f64], work: &mut [f64], out: &mut [u8], at: usize) -> Option<usize>
+pub fn seeded(head: Head, cells: &[f64], work: &mut [f64], out: &mut Output) -> Option<()>
     ensures { Unanswered out.old out.new result }
 {
     let d = head.wholes[0] as usize;
@@ -29,10 +29,11 @@ pub fn seeded(head: Head, cells: &[f64], work: &mut [f64], out: &mut [u8], at: u
             knots,
         },
     );
-    let next = output::text(out, at, b"seed");
-    let next = output::whole(out, next, count as u64);
-    let next = output::first_cells(out, next, &work[knots..], count);
-    Some(output::end(out, next))
+    out.text(b"seed");
+    out.whole(count as u64);
+    out.first_cells(&work[knots..], count);
+    out.end();
+    Some(())
 }
 
 // How many regions the locations x have, on a spline with the knots t and m controls.
@@ -48,20 +49,18 @@ fn count_regions(t: &[f64], m: usize, x: &[f64]) -> usize {
 }
 
 // The first and the last control, not counted, of each region.
-fn ends(t: &[f64], m: usize, x: &[f64], out: &mut [u8], at: usize) -> usize {
-    let mut next = at;
+fn ends(t: &[f64], m: usize, x: &[f64], out: &mut Output) {
     let mut from = 0;
     while from < x.len() {
         let region = seed::next_region(t, m, x, from);
-        next = output::whole(out, next, region.a as u64);
-        next = output::whole(out, next, region.z as u64);
+        out.whole(region.a as u64);
+        out.whole(region.z as u64);
         from = region.next;
     }
-    next
 }
 
 // Kind 61, whole numbers knots and count: the number of regions, and the ends of each.
-pub fn regions(head: Head, cells: &[f64], out: &mut [u8], at: usize) -> Option<usize>
+pub fn regions(head: Head, cells: &[f64], out: &mut Output) -> Option<()>
     ensures { Unanswered out.old out.new result }
 {
     let knots = head.wholes[0] as usize;
@@ -70,14 +69,15 @@ pub fn regions(head: Head, cells: &[f64], out: &mut [u8], at: usize) -> Option<u
         return None;
     }
     let (t, x) = cells.split_at(knots);
-    let next = output::text(out, at, b"regions");
-    let next = output::whole(out, next, count_regions(t, knots - 6, x) as u64);
-    let next = ends(t, knots - 6, x, out, next);
-    Some(output::end(out, next))
+    out.text(b"regions");
+    out.whole(count_regions(t, knots - 6, x) as u64);
+    ends(t, knots - 6, x, out);
+    out.end();
+    Some(())
 }
 
 // Kind 62: the number of cells once sorted and without repeats, and these.
-pub fn sort_dedup(cells: &[f64], work: &mut [f64], out: &mut [u8], at: usize) -> Option<usize>
+pub fn sort_dedup(cells: &[f64], work: &mut [f64], out: &mut Output) -> Option<()>
     ensures { Unanswered out.old out.new result }
 {
     let n = cells.len();
@@ -87,8 +87,9 @@ pub fn sort_dedup(cells: &[f64], work: &mut [f64], out: &mut [u8], at: usize) ->
     window::copy(work, cells);
     sorting::sort(&mut work[..n]);
     let count = sorting::dedup(&mut work[..n]);
-    let next = output::text(out, at, b"sort_dedup");
-    let next = output::whole(out, next, count as u64);
-    let next = output::first_cells(out, next, work, count);
-    Some(output::end(out, next))
+    out.text(b"sort_dedup");
+    out.whole(count as u64);
+    out.first_cells(work, count);
+    out.end();
+    Some(())
 }

@@ -1,120 +1,137 @@
 // Cases of crate `bspline`.
+ghost use Rattle.std.specs.Prelude.{◌+◌, ◌<◌, ◌≤◌, length, IfSome};
 ghost use Rattle.listing.specs.Lines.{Unanswered};
 
-use bspline::Spline;
+use bspline::{Spline, basis, insertion, search, segments};
 use listing::list::Head;
-use listing::output;
+use listing::output::Output;
 
-// Kinds 20 and 21, whole number n: x, and a list of n.
-pub fn point(head: Head, cells: &[f64], out: &mut [u8], at: usize) -> Option<usize>
+// Kinds 20 and 21, whole number n: x, and a list of n, of which `find` counts a part.
+fn point<F: Fn(&[f64], f64) -> usize>(name: &[u8], find: F, head: Head, cells: &[f64], out: &mut Output) -> Option<()>
+    requires { F.IsAlwaysCallable find }
     ensures { Unanswered out.old out.new result }
 {
     let (x, list) = cells.split_first()?;
     if head.wholes[0] != list.len() as u64 {
         return None;
     }
-    let next = match head.kind {
-        20 => {
-            let found = bspline::search::partition_point_le(list, *x);
-            let next = output::text(out, at, b"partition_point_le");
-            output::whole(out, next, found as u64)
-        }
-        _ => {
-            let found = bspline::search::partition_point_lt(list, *x);
-            let next = output::text(out, at, b"partition_point_lt");
-            output::whole(out, next, found as u64)
-        }
-    };
-    Some(output::end(out, next))
+    out.text(name);
+    out.whole(find(list, *x) as u64);
+    out.end();
+    Some(())
 }
 
-// The six values on a span.
-fn values(t: &[f64], span: usize, x: f64, out: &mut [u8], at: usize) -> Option<usize>
+// Kind 20.
+pub fn partition_point_le(head: Head, cells: &[f64], out: &mut Output) -> Option<()>
     ensures { Unanswered out.old out.new result }
 {
+    point(b"partition_point_le", |t, x| search::partition_point_le(t, x), head, cells, out)
+}
+
+// Kind 21.
+pub fn partition_point_lt(head: Head, cells: &[f64], out: &mut Output) -> Option<()>
+    ensures { Unanswered out.old out.new result }
+{
+    point(b"partition_point_lt", |t, x| search::partition_point_lt(t, x), head, cells, out)
+}
+
+// The x and the knots of kinds 22, 23 and 24, whole number knots: the knots, then x.
+fn located(head: Head, cells: &[f64]) -> Option<(f64, &[f64])>
+    ensures { IfSome result (λ r. 12 ≤ length r.1.now) }
+{
+    let (x, t) = cells.split_last()?;
+    if t.len() < 12 || head.wholes[0] != t.len() as u64 {
+        return None;
+    }
+    Some((*x, t))
+}
+
+// Kind 22: the span of x.
+pub fn span(head: Head, cells: &[f64], out: &mut Output) -> Option<()>
+    ensures { Unanswered out.old out.new result }
+{
+    let (x, t) = located(head, cells)?;
+    out.text(b"span");
+    out.whole(search::span(t, t.len() - 6, x) as u64);
+    out.end();
+    Some(())
+}
+
+// Kind 23: the six values on the span of x.
+pub fn values(head: Head, cells: &[f64], out: &mut Output) -> Option<()>
+    ensures { Unanswered out.old out.new result }
+{
+    let (x, t) = located(head, cells)?;
+    let span = search::span(t, t.len() - 6, x);
     if span < 5 || t.len() <= span || t.len() - span <= 5 {
         return None;
     }
-    let six = bspline::basis::values(t, span, x);
-    let next = output::text(out, at, b"values");
-    let next = output::whole(out, next, (span - 5) as u64);
-    let next = output::cells(out, next, &six);
-    Some(output::end(out, next))
+    let six = basis::values(t, span, x);
+    out.text(b"values");
+    out.whole((span - 5) as u64);
+    out.cells(&six);
+    out.end();
+    Some(())
 }
 
-// The 36 coefficients on a span.
-fn powers(t: &[f64], span: u64, x: f64, out: &mut [u8], at: usize) -> Option<usize>
+// Kind 24, whole numbers knots and span: the 36 coefficients on the span.
+pub fn powers(head: Head, cells: &[f64], out: &mut Output) -> Option<()>
     ensures { Unanswered out.old out.new result }
 {
-    if span < 5 || t.len() as u64 <= span {
+    let (x, t) = located(head, cells)?;
+    let span = head.wholes[1] as usize;
+    if span < 5 || t.len() <= span || t.len() - span <= 5 {
         return None;
     }
-    let place = span as usize;
-    if t.len() - place <= 5 {
-        return None;
-    }
-    let rows = bspline::basis::powers(t, place, x);
-    let next = output::text(out, at, b"powers");
-    let next = output::cells(out, next, &rows);
-    Some(output::end(out, next))
+    let rows = basis::powers(t, span, x);
+    out.text(b"powers");
+    out.cells(&rows);
+    out.end();
+    Some(())
 }
 
-// Kinds 22, 23 and 24, whole numbers knots and, for 24, span: the knots, then x.
-pub fn basis(head: Head, cells: &[f64], out: &mut [u8], at: usize) -> Option<usize>
-    ensures { Unanswered out.old out.new result }
+// The axes and the count of controls of kinds 25 and 26, whole numbers d and knots.
+fn spline_of(head: Head, cells: &[f64]) -> Option<(usize, usize)>
+    ensures { IfSome result (λ r. (r.0 ≤ 16) × (6 ≤ r.1) × (r.1 ≤ 4000) × (r.1 + 6 < length cells.now)) }
 {
-    if cells.len() < 13 {
+    let d = head.wholes[0];
+    let knots = head.wholes[1];
+    if 16 < d || knots < 12 || 4006 < knots || cells.len() as u64 <= knots {
         return None;
     }
-    let (x, t) = cells.split_last()?;
-    if head.wholes[0] != t.len() as u64 {
-        return None;
-    }
-    if head.kind == 24 {
-        return powers(t, head.wholes[1], *x, out, at);
-    }
-    let span = bspline::search::span(t, t.len() - 6, *x);
-    if head.kind == 23 {
-        return values(t, span, *x, out, at);
-    }
-    let next = output::text(out, at, b"span");
-    let next = output::whole(out, next, span as u64);
-    Some(output::end(out, next))
+    Some((d as usize, knots as usize - 6))
 }
 
-// The insertion of x into the spline of `count` controls that lies in `work`, its knots at 0 and
-// its controls after one free cell.
-fn inserted(work: &mut [f64], count: usize, d: usize, x: f64, out: &mut [u8], at: usize) -> Option<usize>
+// Kind 25: x, the knots, and the controls, which lie after one free cell; x is inserted.
+pub fn insert(head: Head, cells: &[f64], work: &mut [f64], out: &mut Output) -> Option<()>
     ensures { Unanswered out.old out.new result }
 {
-    if count < 6 || 4000 < count || 16 < d {
-        return None;
-    }
+    let (d, count) = spline_of(head, cells)?;
     let controls = count + 7;
-    let more = count + 1;
-    let last = controls + more * d;
+    let last = controls + (count + 1) * d;
     if work.len() < last {
         return None;
     }
+    window::copy(work, &cells[1..controls]);
+    window::copy(&mut work[controls..], &cells[controls..]);
     let spline = Spline {
         knots: 0,
         controls,
         count,
         axes: d,
     };
-    bspline::insertion::insert(work, spline, x);
-    let next = output::text(out, at, b"insert");
-    let next = output::cells(out, next, &work[..last]);
-    Some(output::end(out, next))
+    insertion::insert(work, spline, cells[0]);
+    out.text(b"insert");
+    out.cells(&work[..last]);
+    out.end();
+    Some(())
 }
 
-// The polynomial of the spline of `count` controls that lies at the front of `work`.
-fn segments(work: &mut [f64], count: usize, d: usize, out: &mut [u8], at: usize) -> Option<usize>
+// Kind 26: the knots, then the controls; the spline's polynomial.
+pub fn polynomial(head: Head, cells: &[f64], work: &mut [f64], out: &mut Output) -> Option<()>
     ensures { Unanswered out.old out.new result }
 {
-    if count < 6 || 4000 < count || 16 < d {
-        return None;
-    }
+    let (d, count) = spline_of(head, cells)?;
     let controls = count + 6;
     let breaks = controls + count * d;
     let coefficients = breaks + count - 4;
@@ -124,42 +141,21 @@ fn segments(work: &mut [f64], count: usize, d: usize, out: &mut [u8], at: usize)
     if work.len() < last {
         return None;
     }
+    window::copy(work, cells);
     let spline = Spline {
         knots: 0,
         controls,
         count,
         axes: d,
     };
-    let n = bspline::segments::polynomial(work, spline, breaks, coefficients);
+    let n = segments::polynomial(work, spline, breaks, coefficients);
     if spans < n {
         return None;
     }
-    let next = output::text(out, at, b"polynomial");
-    let next = output::whole(out, next, n as u64);
-    let next = output::first_cells(out, next, &work[breaks..], n + 1);
-    let next = output::first_cells(out, next, &work[coefficients..], n * wide);
-    Some(output::end(out, next))
-}
-
-// Kinds 25 and 26, whole numbers d and knots: for 25 x first; the knots, then the controls.
-pub fn spline(head: Head, cells: &[f64], work: &mut [f64], out: &mut [u8], at: usize) -> Option<usize>
-    ensures { Unanswered out.old out.new result }
-{
-    let kind = head.kind;
-    let d = head.wholes[0];
-    let knots = head.wholes[1];
-    if 16 < d || knots < 12 || cells.len() as u64 <= knots {
-        return None;
-    }
-    if kind == 26 {
-        window::copy(work, cells);
-        return segments(work, knots as usize - 6, d as usize, out, at);
-    }
-    let first = knots as usize + 1;
-    if work.len() < first {
-        return None;
-    }
-    window::copy(work, &cells[1..first]);
-    window::copy(&mut work[first..], &cells[first..]);
-    inserted(work, first - 7, d as usize, cells[0], out, at)
+    out.text(b"polynomial");
+    out.whole(n as u64);
+    out.first_cells(&work[breaks..], n + 1);
+    out.first_cells(&work[coefficients..], n * wide);
+    out.end();
+    Some(())
 }

@@ -7,7 +7,7 @@ ghost use Rattle.listing.specs.Lines.{Unanswered};
 use fit::Counts;
 use fitting_rows::Place;
 use listing::list::Head;
-use listing::output;
+use listing::output::Output;
 use normal::Unsolved;
 
 // The arrays of a case with d axes, n samples and m controls, in the case's order, and the system of the
@@ -34,23 +34,22 @@ fn layout(d: usize, n: usize, m: usize, a: usize, z: usize) -> Place
 }
 
 // The line of a fit: its counts and all controls, or the number.
-fn line(fitted: Result<Counts, Unsolved>, controls: &[f64], out: &mut [u8], at: usize) -> usize
-{
-    let next = output::text(out, at, b"fit");
+fn line(fitted: Result<Counts, Unsolved>, controls: &[f64], out: &mut Output) {
+    out.text(b"fit");
     match fitted {
         Ok(counts) => {
-            let next = output::whole(out, next, counts.first as u64);
-            let next = output::whole(out, next, counts.last as u64);
-            let next = output::whole(out, next, counts.rows as u64);
-            let next = output::cells(out, next, controls);
-            output::end(out, next)
+            out.whole(counts.first as u64);
+            out.whole(counts.last as u64);
+            out.whole(counts.rows as u64);
+            out.cells(controls);
+            out.end();
         }
-        Err(e) => output::refused(out, next, e.number() as u64),
+        Err(e) => out.refused(e.number() as u64),
     }
 }
 
 // Kind 40, whole numbers d, n, a, z, knots: the controls after the fit of the window [a, z).
-pub fn fit(head: Head, cells: &[f64], work: &mut [f64], out: &mut [u8], at: usize) -> Option<usize>
+pub fn fit(head: Head, cells: &[f64], work: &mut [f64], out: &mut Output) -> Option<()>
     ensures { Unanswered out.old out.new result }
 {
     let wholes = head.wholes;
@@ -75,5 +74,6 @@ pub fn fit(head: Head, cells: &[f64], work: &mut [f64], out: &mut [u8], at: usiz
     }
     window::copy(work, rest);
     let fitted = fit::fit(&mut work[..end], p, a, z, *strength);
-    Some(line(fitted, &work[p.controls..p.parameters], out, at))
+    line(fitted, &work[p.controls..p.parameters], out);
+    Some(())
 }

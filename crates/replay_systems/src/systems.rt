@@ -4,7 +4,7 @@ ghost use Rattle.normal.specs.System.{size_of};
 ghost use Rattle.listing.specs.Lines.{Unanswered};
 
 use listing::list::Head;
-use listing::output;
+use listing::output::Output;
 use normal::Unsolved;
 
 // The whole number below `most` that a cell holds, if any.
@@ -68,19 +68,19 @@ fn add_rows(controls: &[f64], rows: &[f64], w: Window, sys: &mut [f64]) -> Optio
 }
 
 // The line of a system: the refusal's number, or the solution.
-fn line(answer: Result<(), Unsolved>, solution: &[f64], out: &mut [u8], at: usize) -> usize {
-    let next = output::text(out, at, b"normal");
+fn line(answer: Result<(), Unsolved>, solution: &[f64], out: &mut Output) {
+    out.text(b"normal");
     match answer {
         Ok(()) => {
-            let next = output::cells(out, next, solution);
-            output::end(out, next)
+            out.cells(solution);
+            out.end();
         }
-        Err(e) => output::refused(out, next, e.number() as u64),
+        Err(e) => out.refused(e.number() as u64),
     }
 }
 
 // Makes the system of the window, adds the rows and solves it.
-fn system(controls: &[f64], rows: &[f64], w: Window, work: &mut [f64], out: &mut [u8], at: usize) -> Option<usize>
+fn system(controls: &[f64], rows: &[f64], w: Window, work: &mut [f64], out: &mut Output) -> Option<()>
     requires { (length controls.now ≡ w.controls * w.d) × (size_of w.n w.d ≤ length work.old) }
     ensures { Unanswered out.old out.new result }
 {
@@ -90,11 +90,12 @@ fn system(controls: &[f64], rows: &[f64], w: Window, work: &mut [f64], out: &mut
     window::clear(&mut work[..size]);
     add_rows(controls, rows, w, &mut work[..size])?;
     let answer = normal::solve(&mut work[..size], w.n, w.d);
-    Some(line(answer, &work[right..scales], out, at))
+    line(answer, &work[right..scales], out);
+    Some(())
 }
 
 // Kind 30, whole numbers d, a, z, controls, rows: the system of the controls from a up to z.
-pub fn normal(head: Head, cells: &[f64], work: &mut [f64], out: &mut [u8], at: usize) -> Option<usize>
+pub fn normal(head: Head, cells: &[f64], work: &mut [f64], out: &mut Output) -> Option<()>
     ensures { Unanswered out.old out.new result }
 {
     let d = head.wholes[0] as usize;
@@ -111,5 +112,5 @@ pub fn normal(head: Head, cells: &[f64], work: &mut [f64], out: &mut [u8], at: u
     }
     let w = Window { a, n, d, controls };
     let (controls, rows) = cells.split_at(controls * d);
-    system(controls, rows, w, work, out, at)
+    system(controls, rows, w, work, out)
 }

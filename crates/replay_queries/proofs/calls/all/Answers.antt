@@ -4,5 +4,6 @@ use Rattle.replay_queries.proofs.calls.all.Goals as goal
 
 pub returns : goal.returns
 returns c =
-    all_told (evaluate_all_of _ _ _ _) _ _ c.mark_all.ensures _ _ _ _ _ c.evaluate_all-answers.ensures _ c.number.ensures
-    c.number-2.ensures c.refused_at.ensures c.refusal-next.ensures c.place-next.ensures c.cells.ensures
+    all_told (evaluate_all_of _ _ _ _) _ _ c.mark_all.ensures _ _ _ _ _ c.evaluate_all-answers.ensures _
+    c.number.ensures c.number-2.ensures c.refused_at.ensures
+    c.refusal.ensures c.place.ensures c.cells.ensures

@@ -5,4 +5,4 @@ pub returns-then-number-eq0 : goal.returns-then-number-eq0
 returns-then-number-eq0 c = no_refusal _ _ c.if-number-eq0.true
 
 pub returns : goal.returns
-returns c = a_refusal _ _ _ c.if-number-eq0.false c.whole.ensures c.text-next.ensures
+returns c = a_refusal _ _ _ c.if-number-eq0.false c.whole.ensures c.text.ensures
