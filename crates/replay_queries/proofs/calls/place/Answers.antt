@@ -4,5 +4,5 @@ use Rattle.replay_queries.proofs.calls.place.Goals as goal
 pub returns-then-number-eq22 : goal.returns-then-number-eq22
 returns-then-number-eq22 c = a_place _ _ _ c.if-number-eq22.true c.whole.ensures
 
-pub returns : goal.returns
-returns c = no_place _ _ _ c.if-number-eq22.false
+pub returns-else-number-eq22 : goal.returns-else-number-eq22
+returns-else-number-eq22 c = no_place _ _ _ c.if-number-eq22.false

@@ -1,8 +1,8 @@
 use Rattle.replay_queries.proofs.Telling.{no_refusal, a_refusal}
 use Rattle.replay_queries.proofs.calls.refusal.Goals as goal
 
-pub returns-then-number-eq0 : goal.returns-then-number-eq0
-returns-then-number-eq0 c = no_refusal _ _ c.if-number-eq0.true
+pub returns-then-number-ne0 : goal.returns-then-number-ne0
+returns-then-number-ne0 c = a_refusal _ _ _ c.if-number-ne0.true c.whole.ensures c.text.ensures
 
-pub returns : goal.returns
-returns c = a_refusal _ _ _ c.if-number-eq0.false c.whole.ensures c.text.ensures
+pub returns-else-number-ne0 : goal.returns-else-number-ne0
+returns-else-number-ne0 c = no_refusal _ _ c.if-number-ne0.false
