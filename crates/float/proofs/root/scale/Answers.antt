@@ -1,5 +1,5 @@
 use mathlib.Core.Path.{sym, subst}
-use Prim.Native.Nat.{◌+◌, ◌*◌, ◌/◌, ◌%◌, ◌^◌}
+use Prim.Native.Nat.{◌+◌, ◌*◌, ◌/◌, ◌%◌, ◌^◌, ◌≤◌}
 use native.Mathlib.Omega.{arith}
 use lib.Count.{leading_le}
 use Rattle.float.specs.RootSteps.{Scaling}
@@ -31,7 +31,8 @@ overflow_sub-result-else-field-eq0 c = high_fits (c.args.bits / 0x10_0000_0000_0
 pub returns-then-field-eq0 : goal.returns-then-field-eq0
 returns-then-field-eq0 c =
     let b = c.args.bits in
-    subst (Scaling b (b * 2 ^ lead b % 0x1_0000_0000_0000_0000)) (sym (low_back (lead b) (omega (arith, (leading c.args.bits (omega arith) (omega arith)).is))))
+    let few : lead b ≤ 52 = omega (arith, (leading b (omega arith) (omega arith)).is) in
+    subst (Scaling b (b * 2 ^ lead b % 0x1_0000_0000_0000_0000)) (sym (low_back (lead b) few))
     (scale_low b (omega arith) (omega arith))
 
 pub returns-else-field-eq0 : goal.returns-else-field-eq0
