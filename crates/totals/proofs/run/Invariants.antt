@@ -1,5 +1,5 @@
 -- What is left in front of the buffer is less than a count and a file, and the totals are those of what was read before it.
-use Rattle.std.proofs.Common.{◌≡◌, ◌-◌, ◌≤◌, length}
+use Rattle.std.proofs.Common.{◌-◌, ◌≤◌}
 use Rattle.season.specs.Run.{files_in, Running}
 use Rattle.totals.specs.Input.{Course}
 use Rattle.totals.proofs.run.Given as goal

@@ -1,4 +1,4 @@
-use Rattle.std.proofs.Common.{◌≡◌, refl, sym, ap, subst, Bool, ltb, ◌∙◌, List, [], ◌++◌, append_assoc, append-nil, ℕ, ◌+◌, ◌≤◌, length, take, drop, arith, rules}
+use Rattle.std.proofs.Common.{◌≡◌, refl, sym, ap, subst, Bool, ltb, ◌∙◌, List, [], ◌++◌, append_assoc, append-nil, ℕ, ◌+◌, ◌≤◌, length, take, drop, arith}
 use borrow.Author.Tests.{ltb-false}
 use lib.ListN.{length-append, take-append-drop}
 use lib.Seq.{take_at, length-take-le}
