@@ -23,8 +23,8 @@ use Rattle.bspline.specs.Placed.{inserted_at, polynomial_at}
 use Rattle.bspline.proofs.InsertPlaced.{span_within}
 use Rattle.bspline.proofs.WideSpans.{wide_breaks_length, wide_coefficients_length}
 use Rattle.window.proofs.TwoParts.{Apart, splice_swap, both_before, both_after, both_first, both_second}
-use Rattle.smoothing.specs.Answer.{Answer, unless}
-use Rattle.smoothing.specs.Answer.Answer.{refused}
+use Rattle.smoothing.specs.Answer.{Answer}
+use Rattle.smoothing.specs.Answer.Answer.{done, refused}
 use Rattle.smoothing.specs.State.{Spline, spline, polynomial_in}
 use Rattle.smoothing.specs.Round.{span_in, outside, insert_of, insert_all}
 use Rattle.smoothing.proofs.Sizes.{Formed, insert_formed}
@@ -200,13 +200,13 @@ module _ (d count : ℕ) (L L' : List Float) (i : ℕ) (x : Float) (b : Spline) 
       ∙ ap (λ (k : Bool). cond k (refused 16) (insert_all d (drop (i + 1) X) (insert_of d x b))) o
       ∙ opened
 
-  pub insert_stopped : (b' : Spline) → true ≡ outside b x → unless 16 b' ≡ whole
-  unfolding insert_all unless
-  insert_stopped b' o = ap (λ (k : Bool). cond k (refused 16) (insert_all d (drop (i + 1) X) (insert_of d x b))) o ∙ opened
+  pub insert_stopped : true ≡ outside b x → refused 16 ≡ whole
+  unfolding insert_all
+  insert_stopped o = ap (λ (k : Bool). cond k (refused 16) (insert_all d (drop (i + 1) X) (insert_of d x b))) o ∙ opened
 
 pub inserts_done : (d count i : ℕ) (L : List Float) (b : Spline) (whole : Answer Spline) → count ≤ i
-    → insert_all d (drop i (take count L)) b ≡ whole → unless 0 b ≡ whole
-unfolding insert_all unless
+    → insert_all d (drop i (take count L)) b ≡ whole → done b ≡ whole
+unfolding insert_all
 inserts_done d count i L b whole h inv =
     let n = length-take count L in
     let k : length (take count L) ≤ i = omega arith in

@@ -4,13 +4,16 @@ use mathlib.Core.Bool.{Bool, true, false, cond}
 use mathlib.Core.List.{List}
 use Prim.Native.Nat.{ℕ, zero, suc, ◌+◌, ◌-◌, ◌≤◌, ◌<◌}
 use native.Mathlib.Omega.{arith}
-use borrow.Author.Tests.{ne_eqb, lt-ltb, le-ltb}
+use borrow.Author.Tests.{lt-ltb, le-ltb}
 use lib.Dec.{ltb}
 use lib.ListN.{length}
 use lib.Ieee.{Float, le}
 use Rattle.arith.specs.Operations.{floats}
-use Rattle.smoothing.specs.Answer.{Answer, and_then, unless}
+use Rattle.smoothing.specs.Answer.{Answer, and_then}
 use Rattle.smoothing.specs.Answer.Answer.{done, refused, exhausted}
+use Rattle.smoothing.specs.Refusal.{refused_by}
+use Rattle.smoothing.specs.declared.refusal.Refusal.{Refusal}
+use Rattle.smoothing.proofs.Refused.{then_refused}
 use Rattle.smoothing.specs.Rows.{Task}
 use Rattle.smoothing.specs.State.{State, Counts, counts}
 use Rattle.smoothing.specs.Round.{worst_of, settled, raw_locations, locations_of, spans_after, round_of, refine_of}
@@ -49,9 +52,8 @@ module _ (p : Plan) (w w₁ : List Float) (k : ℕ) (f : Located p k w w₁) whe
     unfolding spans_after
     spans_are = ap (λ (i : ℕ). ltb segments (p.count - 5 + i)) (sym (f.many ∙ ap length same))
 
-    pub try_refused : (s : State) → segments < p.count - 5 + k → unless 15 s ≡ tried segments q st
-    unfolding unless
-    try_refused s l = sym (ap (λ (b : Bool). cond b (refused 15) (round_of q st)) (spans_are ∙ lt-ltb segments (p.count - 5 + k) l))
+    pub try_refused : segments < p.count - 5 + k → refused 15 ≡ tried segments q st
+    try_refused l = sym (ap (λ (b : Bool). cond b (refused 15) (round_of q st)) (spans_are ∙ lt-ltb segments (p.count - 5 + k) l))
 
     pub try_goes : (answer : Answer State) → p.count - 5 + k ≤ segments
         → answer ≡ round_with (task_at p w₁) (locations_at p k w₁) (state_at p report w₁) → answer ≡ tried segments q st
@@ -105,21 +107,18 @@ module _ (segments : ℕ) (q : Task) (st : State) where
       pub refine_used_up : left ≡ 0 → exhausted w ≡ whole
       refine_used_up z = ap exhausted is ∙ refine_exhausted left z (settled_is false h) ∙ inv
 
-      module _ (number : ℕ) (s : State) (some : 0 < left) (t : unless number s ≡ tried segments q st) where
-        turn : refine_of segments left q st ≡ and_then (unless number s) (refine_of segments (left - 1) q)
-        turn =
+      module _ (some : 0 < left) where
+        turn : (answer : Answer State) → answer ≡ tried segments q st
+            → refine_of segments left q st ≡ and_then answer (refine_of segments (left - 1) q)
+        turn answer t =
             let e : left ≡ suc (left - 1) = omega arith in
             ap (λ (i : ℕ). refine_of segments i q st) e
             ∙ opened (left - 1) (settled_is false h)
             ∙ ap (λ (a : Answer State). and_then a (refine_of segments (left - 1) q)) (sym t)
 
-        pub refine_refused : 0 < number → refused number ≡ whole
-        unfolding unless and_then
-        refine_refused l =
-            let b = ne_eqb number 0 (λ e. omega arith) in
-            let u : unless number s ≡ refused number = rw b in
-            sym (turn ∙ ap (λ (a : Answer State). and_then a (refine_of segments (left - 1) q)) u) ∙ inv
+        pub refine_refused : (e : Refusal) → refused_by e ≡ tried segments q st → refused_by e ≡ whole
+        refine_refused e t = sym (turn (refused_by e) t ∙ then_refused e (refine_of segments (left - 1) q)) ∙ inv
 
-        pub refine_next : number ≡ 0 → refine_of segments (left - 1) q s ≡ whole
-        unfolding unless and_then
-        refine_next z = sym (turn ∙ ap (λ (i : ℕ). and_then (unless i s) (refine_of segments (left - 1) q)) z) ∙ inv
+        pub refine_next : (s : State) → done s ≡ tried segments q st → refine_of segments (left - 1) q s ≡ whole
+        unfolding and_then
+        refine_next s t = sym (turn (done s) t) ∙ inv

@@ -31,8 +31,8 @@ round_refused number a b x f l e =
     v ∙ sym (ap (λ z. and_then z f) (sym e ∙ u))
 
 -- ---- all knots are in: the arrays were x, are x₁ then, and x₂ with the polynomial
-module _ (p : Plan) (m count number : ℕ) (x x₁ : Memory) (zero_is : number ≡ 0)
-    (inserted : unless number (spline_in (sized p m) x₁) ≡ insert_all p.axes (take count x.locations) (spline_in p x)) where
+module _ (p : Plan) (m count : ℕ) (x x₁ : Memory)
+    (inserted : done (spline_in (sized p m) x₁) ≡ insert_all p.axes (take count x.locations) (spline_in p x)) where
   abbrev p' : Plan
   p' = sized p m
 
@@ -40,8 +40,7 @@ module _ (p : Plan) (m count number : ℕ) (x x₁ : Memory) (zero_is : number �
   X = take count x.locations
 
   done_is : insert_all p.axes X (spline_in p x) ≡ done (spline_in p' x₁)
-  unfolding unless
-  done_is = sym inserted ∙ ap (λ (n : ℕ). unless n (spline_in p' x₁)) zero_is
+  done_is = sym inserted
 
   pub knots_rise : Rising x.t p.count → All Number X → Rising x₁.t m
   knots_rise r a = insert_all_rising p.axes X (spline_in p x) (spline_in p' x₁) a r done_is
@@ -90,15 +89,15 @@ module _ (p : Plan) (m count number : ℕ) (x x₁ : Memory) (zero_is : number �
           subst (λ (t : List Float). Rising t m) (sym (h.same_t ∙ ap (λ (y : Memory). y.t) rebuilt)) (knots_rise r a)
 
 -- the same of the cells, w before the round and w₁, w₂, w₃ after the insertions, the polynomial and the regions
-pub round_stands : (p : Plan) (m count number : ℕ) (w w₁ w₂ w₃ : List Float)
+pub round_stands : (p : Plan) (m count : ℕ) (w w₁ w₂ w₃ : List Float)
     → let x = memory_at p w in let x₁ = memory_at (sized p m) w₁ in let x₂ = memory_at (sized p m) w₂ in
-    number ≡ 0 → unless number (spline_in (sized p m) x₁) ≡ insert_all p.axes (take count x.locations) (spline_in p x)
+    done (spline_in (sized p m) x₁) ≡ insert_all p.axes (take count x.locations) (spline_in p x)
     → x₂ ≡ with_polynomial (polynomial_in p.axes (spline_in (sized p m) x₁)) x₁ → Beside x x₁ → Same x₂ (memory_at (sized p m) w₃)
     → Rising x.t p.count → All Number (take count x.locations) → Standing p m w w₃
-round_stands p m count number w w₁ w₂ w₃ z i e b s r a =
+round_stands p m count w w₁ w₂ w₃ i e b s r a =
     record {
-      same_task = kept_task p m count number (memory_at p w) (memory_at (sized p m) w₁) z i (memory_at (sized p m) w₂) e b
+      same_task = kept_task p m count (memory_at p w) (memory_at (sized p m) w₁) i (memory_at (sized p m) w₂) e b
           (memory_at (sized p m) w₃) s;
-      rising = kept_rising p m count number (memory_at p w) (memory_at (sized p m) w₁) z i (memory_at (sized p m) w₂) e b
+      rising = kept_rising p m count (memory_at p w) (memory_at (sized p m) w₁) i (memory_at (sized p m) w₂) e b
           (memory_at (sized p m) w₃) s r a;
     }

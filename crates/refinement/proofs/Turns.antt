@@ -3,13 +3,15 @@ use mathlib.Core.Path.{◌≡◌, refl, sym, ap, subst, ◌∙◌}
 use mathlib.Core.List.{List, [], ◌∷◌}
 use Prim.Native.Nat.{ℕ, ◌*◌, ◌≤◌, ◌<◌}
 use native.Mathlib.Omega.{arith}
-use borrow.Author.Tests.{ne_eqb}
 use lib.ListN.{length, take, drop, length-take, drop_of_length-le}
 use lib.Ieee.{Float}
 use Rattle.seed.specs.Regions.{Range, range, regions_of}
 use Rattle.seed.proofs.Joining.{region_inside}
-use Rattle.smoothing.specs.Answer.{Answer, and_then, unless}
-use Rattle.smoothing.specs.Answer.Answer.{refused}
+use Rattle.smoothing.specs.Answer.{Answer, and_then}
+use Rattle.smoothing.specs.Answer.Answer.{done}
+use Rattle.smoothing.specs.Refusal.{refused_by}
+use Rattle.smoothing.specs.declared.refusal.Refusal.{Refusal}
+use Rattle.smoothing.proofs.Refused.{then_refused}
 use Rattle.smoothing.specs.State.{State}
 use Rattle.smoothing.specs.Round.{refit_of, refit_all}
 use Rattle.refinement.specs.declared.plan.Plan.{Plan}
@@ -43,13 +45,13 @@ module _ (p : Plan) (w : List Float) (r : Roomy p (length w)) (count from a z ne
       (f, within f (subst (λ (u : List Float). (from < next) × (next ≤ length u)) eX n))
 
 -- ---- one turn
-pub turn_is : (p : Plan) (count from next a z number : ℕ) (x : Memory) (st st' : State)
-    → unless number st' ≡ refit_of (task_in p x) (range a z) st
+pub turn_is : (p : Plan) (count from next a z : ℕ) (x : Memory) (st : State) (answer : Answer State)
+    → answer ≡ refit_of (task_in p x) (range a z) st
     → regions_of x.t p.count (drop from (take count x.locations))
     ≡ range a z ∷ regions_of x.t p.count (drop next (take count x.locations))
-    → refits_from p count from x st ≡ and_then (unless number st') (refits_from p count next x)
+    → refits_from p count from x st ≡ and_then answer (refits_from p count next x)
 unfolding refit_all
-turn_is p count from next a z number x st st' e s =
+turn_is p count from next a z x st answer e s =
     ap (λ (l : List Range). refit_all (task_in p x) l st) s ∙ ap (λ (v : Answer State). and_then v (refits_from p count next x)) (sym e)
 
 -- the same arrays, the same turns
@@ -79,27 +81,24 @@ same_self x = record { same_s = refl; same_y = refl; same_t = refl; same_locatio
 -- ---- the turns left, from the arrays x, which were x₀ before the first
 module _ (p : Plan) (count from : ℕ) (x₀ x : Memory) (st : State) (whole : Answer State) (h : Same x₀ x)
     (inv : refits_from p count from x₀ st ≡ whole) where
-  pub turn_next : (next number : ℕ) (st' : State) → number ≡ 0
-      → refits_from p count from x st ≡ and_then (unless number st') (refits_from p count next x)
+  pub turn_next : (next : ℕ) (st' : State)
+      → refits_from p count from x st ≡ and_then (done st') (refits_from p count next x)
       → refits_from p count next x₀ st' ≡ whole
-  unfolding unless and_then
-  turn_next next number st' e t =
+  unfolding and_then
+  turn_next next st' t =
       sym (same_turns p count next x₀ x st' h)
-      ∙ sym (t ∙ ap (λ (n : ℕ). and_then (unless n st') (refits_from p count next x)) e)
+      ∙ sym t
       ∙ same_turns p count from x₀ x st h
       ∙ inv
 
-  pub turn_refused : (next number : ℕ) (st' : State) → 0 < number
-      → refits_from p count from x st ≡ and_then (unless number st') (refits_from p count next x)
-      → unless number st' ≡ whole
-  unfolding unless and_then
-  turn_refused next number st' l t =
-      let b = ne_eqb number 0 (λ e. omega arith) in
-      let u : unless number st' ≡ refused number = rw b in
-      u ∙ sym (ap (λ (v : Answer State). and_then v (refits_from p count next x)) u) ∙ sym t ∙ same_turns p count from x₀ x st h ∙ inv
+  pub turn_refused : (next : ℕ) (e : Refusal)
+      → refits_from p count from x st ≡ and_then (refused_by e) (refits_from p count next x)
+      → refused_by e ≡ whole
+  turn_refused next e t =
+      sym (then_refused e (refits_from p count next x)) ∙ sym t ∙ same_turns p count from x₀ x st h ∙ inv
 
-  pub turns_done : count ≤ from → unless 0 st ≡ whole
-  unfolding unless refit_all regions_of
+  pub turns_done : count ≤ from → done st ≡ whole
+  unfolding refit_all regions_of
   turns_done l =
       let n = length-take count x₀.locations in
       let k : length (take count x₀.locations) ≤ from = omega arith in

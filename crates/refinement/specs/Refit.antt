@@ -1,14 +1,15 @@
 -- What a refit leaves as it was, its audit, and its counts.
-use Rattle.std.specs.Prelude.{ℕ, ◌+◌, ◌*◌, ◌≤◌, ◌≡◌, List, Float, length}
+use Rattle.std.specs.Prelude.{ℕ, ◌+◌, ◌*◌, ◌≤◌, ◌≡◌, List, Float, length, ⊤, Result, OnOk}
 use Rattle.polynomial.specs.Audit.{Audit, audit_of}
 use Rattle.seed.specs.Regions.{range}
 use Rattle.smoothing.specs.Answer.{unless}
-use Rattle.smoothing.specs.State.{Counts, add_rows, add_intervals, audit_in}
-use Rattle.smoothing.specs.Round.{strength_of, refit_of}
+use Rattle.smoothing.specs.State.{Counts, add_intervals, audit_in}
+use Rattle.smoothing.specs.Round.{refit_of}
+use Rattle.smoothing.specs.Refusal.{answered}
+use Rattle.smoothing.specs.declared.refusal.Refusal.{Refusal}
 use Rattle.running_report.specs.declared.Report.{Report}
 use Rattle.running_report.specs.Counted.{counts_of}
 use Rattle.refinement.specs.declared.plan.Plan.{Plan}
-use Rattle.refinement.specs.declared.refit.Refitted.{Refitted}
 use Rattle.refinement.specs.Memory.{Memory, Roomy, Wide, memory_at, task_at, state_at, Stored}
 
 -- the task, the knots and the locations are as they were
@@ -42,17 +43,9 @@ abbrev pub Audits : Plan → ℕ → ℕ → List Float → List Float → ℕ �
 Audits p left right w w' number checked =
     (k : Counts) → unless number (state_at p (add_intervals checked k) w') ≡ audit_in (task_at p w) left right (state_at p k w)
 
--- the same of a refit of [a, z), which gave r, and no more than these rows and intervals
-abbrev pub Refits : Plan → ℕ → ℕ → Float → List Float → List Float → Refitted → Type 0
-Refits p a z strength w w' r =
-    ((k : Counts) → strength ≡ strength_of k.refinements
-    → unless r.number (state_at p (add_intervals r.checked (add_rows r.rows k)) w')
-    ≡ refit_of (task_at p w) (range a z) (state_at p k w))
-    × (r.number ≡ 0 → Stored p (memory_at p w') × Same (memory_at p w) (memory_at p w')) × (r.rows ≤ 4294967296) × (r.checked ≤ 20016)
-
--- the source's turn for the region [a, z): the slice went from w to w' and the report from r to r', with a refusal's number or 0
-abbrev pub AfterRefit : Plan → ℕ → ℕ → List Float → List Float → Report → Report → ℕ → Type 0
-AfterRefit p a z w w' r r' number =
-    (unless number (state_at p (counts_of r') w') ≡ refit_of (task_at p w) (range a z) (state_at p (counts_of r) w))
-    × (number ≡ 0 → Stored p (memory_at p w') × Same (memory_at p w) (memory_at p w'))
+-- the source's turn for the region [a, z): the slice went from w to w' and the report from r to r', with a refusal or none
+abbrev pub AfterRefit : Plan → ℕ → ℕ → List Float → List Float → Report → Report → Result ⊤ Refusal → Type 0
+AfterRefit p a z w w' r r' result =
+    (answered result (state_at p (counts_of r') w') ≡ refit_of (task_at p w) (range a z) (state_at p (counts_of r) w))
+    × OnOk result (Stored p (memory_at p w') × Same (memory_at p w) (memory_at p w'))
     × (r'.refinements ≡ r.refinements) × More 1 r r'

@@ -1,20 +1,14 @@
 // The knots of a round, inserted one after the other, and the polynomial of the spline with them.
-ghost use Rattle.std.specs.Prelude.{◌≡◌, ◌+◌, ◌≤◌, ◌<◌, length};
+ghost use Rattle.std.specs.Prelude.{◌≡◌, ◌+◌, ◌≤◌, ◌<◌, length, OnOk};
 ghost use Rattle.window.specs.Cells.{at};
-ghost use Rattle.smoothing.specs.Answer.{unless};
+ghost use Rattle.smoothing.specs.Refusal.{answered};
 ghost use Rattle.smoothing.specs.State.{polynomial_in};
 ghost use Rattle.smoothing.specs.Round.{outside, insert_of, insert_all};
 ghost use Rattle.refinement.specs.Memory.{Roomy, Wide, memory_at, spline_at, locations_at, sized, with_polynomial};
 ghost use Rattle.refinement.specs.Kept.{Beside};
 
 use crate::plan::Plan;
-
-// How the insertions ended: 0 or 16, and the number of controls then.
-#[derive(Clone, Copy)]
-pub struct Grown {
-    pub number: usize,
-    pub count: usize,
-}
+use smoothing::Refusal;
 
 // Whether x does not lie strictly inside its span: `x <= b.t[span] || x >= b.t[span + 1]`.
 fn outside_at(work: &[f64], p: Plan, x: f64) -> bool
@@ -48,37 +42,24 @@ fn location_at(work: &[f64], p: Plan, i: usize) -> f64
 }
 
 // `for &x in &locations`, of which there are `count`: 16 where one does not lie strictly inside its span.
-pub fn insert_all(work: &mut [f64], p: Plan, count: usize) -> Grown
+pub fn insert_all(work: &mut [f64], p: Plan, count: usize) -> Result<(), Refusal>
     requires { Roomy p (length work.old) × (p.count + count + 7 ≤ p.room) }
-    ensures work_after { unless result.number (spline_at (sized p result.count) work.new)
+    ensures work_after { answered result (spline_at (sized p (p.count + count)) work.new)
         ≡ insert_all p.axes (locations_at p count work.old) (spline_at p work.old) }
-    ensures beside { result.number ≡ 0 → Beside (memory_at p work.old) (memory_at (sized p result.count) work.new)
-        × (result.count ≡ p.count + count) }
+    ensures beside { OnOk result (Beside (memory_at p work.old) (memory_at (sized p (p.count + count)) work.new)) }
 {
-    let mut m = p.count;
-    let mut i = 0;
-    while i < count {
+    for i in 0..count {
         let q = Plan {
-            axes: p.axes,
-            samples: p.samples,
-            room: p.room,
-            count: m,
+            count: p.count + i,
+            ..p
         };
         let x = location_at(work, q, i);
         if outside_at(work, q, x) {
-            return Grown {
-                number: 16,
-                count: m,
-            };
+            return Err(Refusal::BadMidpoint);
         }
         insert_one(work, q, x);
-        m += 1;
-        i += 1;
     }
-    Grown {
-        number: 0,
-        count: m,
-    }
+    Ok(())
 }
 
 // `b.polynomial()`: that of the whole spline.

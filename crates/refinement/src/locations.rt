@@ -18,12 +18,10 @@ fn is_selected(work: &[f64], p: Plan, i: usize) -> bool
 {
     let d = p.axes;
     let bounds = crate::plan::bounds(work, p);
-    let mut a = 0;
-    while a < d {
+    for a in 0..d {
         if 0.9 < bounds[i * d + a] {
             return true;
         }
-        a += 1;
     }
     false
 }
@@ -65,10 +63,8 @@ fn collect(work: &mut [f64], p: Plan) -> usize
 {
     let n = p.samples - 1;
     let mut count = 0;
-    let mut i = 0;
-    while i < n {
+    for i in 0..n {
         count = add_location(work, p, i, count);
-        i += 1;
     }
     count
 }

@@ -8,59 +8,15 @@ ghost use Rattle.smoothing.specs.Round.{strength_of};
 ghost use Rattle.refinement.specs.Memory.{Roomy, Wide, memory_at, with_controls, with_coefficients, with_bounds, task_at, spline_at};
 ghost use Rattle.refinement.specs.Memory.{Stored};
 ghost use Rattle.refinement.specs.Kept.{Stale};
-ghost use Rattle.refinement.specs.Refit.{Same, audit_over, Spare, Refittable, Audits, Refits, AfterRefit};
+ghost use Rattle.refinement.specs.Refit.{Same, audit_over, Spare, Refittable, Audits, AfterRefit};
 
 use crate::plan::Plan;
 use fit::Counts;
 use fitting_rows::Place;
 use normal::Unsolved;
 use polynomial::audit::{Audited, Parts};
-use polynomial::interval::Unaudited;
 use running_report::Report;
-
-// What a refit did: document 01's number of the refusal, or 0; its rows, and its audited intervals.
-#[derive(Clone, Copy)]
-pub struct Refitted {
-    pub number: usize,
-    pub rows: usize,
-    pub checked: usize,
-}
-
-// How a refit ended: document 01's number of the refusal, or 0, and the report then.
-#[derive(Clone, Copy)]
-pub struct Ended {
-    pub number: usize,
-    pub report: Report,
-}
-
-fn larger(a: usize, b: usize) -> usize
-    ensures { result ≡ max a b }
-{
-    if a < b { b } else { a }
-}
-
-fn smaller(a: usize, b: usize) -> usize
-    ensures { result ≡ min a b }
-{
-    if a < b { a } else { b }
-}
-
-// a - b, or 0 where that is below 0.
-fn down(a: usize, b: usize) -> usize
-    ensures { result ≡ a - b }
-{
-    if b < a { a - b } else { 0 }
-}
-
-// Document 01's number of how an audit ended.
-pub fn number_of(o: Result<(), Unaudited>) -> usize
-    ensures { result ≡ number_of o }
-{
-    match o {
-        Ok(()) => 0,
-        Err(e) => e.number(),
-    }
-}
+use smoothing::Refusal;
 
 // `fit(&mut b, &s, &y, a, z, strength)`: the controls of the window [a, z) fitted anew; no other array changes.
 pub fn fit_in(work: &mut [f64], p: Plan, a: usize, z: usize, strength: f64) -> Result<Counts, Unsolved>
@@ -99,8 +55,8 @@ pub fn refresh(work: &mut [f64], p: Plan, a: usize, z: usize)
 {
     let s = crate::plan::spline_of(p);
     let b = p.room * p.axes;
-    let from = larger(a, 5);
-    let to = smaller(z + 5, p.count);
+    let from = a.max(5);
+    let to = (z + 5).min(p.count);
     bspline::segments::put_spans(work, s, 13 * p.room + 4 * b, 14 * p.room + 4 * b, from, to);
 }
 
@@ -130,46 +86,22 @@ pub fn audit_in(work: &mut [f64], p: Plan, first: usize, last: usize) -> Audited
     polynomial::audit::audit(work, parts, first, last)
 }
 
-// What follows a fit of [a, z): the segments are made anew, and the intervals audited from `first.saturating_sub(1)` up to
-// `last.min(n - 1)`.
-fn follow(work: &mut [f64], p: Plan, a: usize, z: usize, fitted: Counts) -> Refitted
+// What follows a fit of [a, z) to the samples from `first` up to `last`: the segments are made anew, and the intervals
+// audited from `first.saturating_sub(1)` up to `last.min(n - 1)`.
+fn follow(work: &mut [f64], p: Plan, a: usize, z: usize, first: usize, last: usize) -> Audited
     requires roomy { Roomy p (length work.old) × (a ≤ z) × (z ≤ p.count)
         × Wide (memory_at p work.old).t p.count × Stale p a z (memory_at p work.old) }
-    requires first_le_samples { fitted.first ≤ p.samples }
-    ensures audits { Audits p (fitted.first - 1) (min fitted.last (p.samples - 1)) work.old work.new
-        result.number result.checked }
+    requires first_le_samples { first ≤ p.samples }
+    ensures audits { Audits p (first - 1) (min last (p.samples - 1)) work.old work.new (number_of result.outcome) result.checked }
     ensures stored { Stored p (memory_at p work.new) × Same (memory_at p work.old) (memory_at p work.new) }
-    ensures rows_value { (result.rows ≡ fitted.rows) × (result.checked ≤ 20016) }
+    ensures checked_few { result.checked ≤ 20016 }
 {
     refresh(work, p, a, z);
-    let left = down(fitted.first, 1);
-    let right = smaller(fitted.last, p.samples - 1);
-    let audited = audit_in(work, p, left, right);
-    let outcome = audited.outcome;
-    let number = number_of(outcome);
-    Refitted {
-        number,
-        rows: fitted.rows,
-        checked: audited.checked,
-    }
+    audit_in(work, p, first.saturating_sub(1), last.min(p.samples - 1))
 }
 
-// The controls [a, z) fitted anew, 9, 10, 11, and the intervals that they reach audited, 12, 13.
-fn refit_work(work: &mut [f64], p: Plan, a: usize, z: usize, strength: f64) -> Refitted
-    requires { Refittable p a z work.old }
-    ensures { Refits p a z strength work.old work.new result }
-{
-    match fit_in(work, p, a, z, strength) {
-        Ok(counts) => follow(work, p, a, z, counts),
-        Err(e) => Refitted {
-            number: e.number(),
-            rows: 0,
-            checked: 0,
-        },
-    }
-}
-
-// The source's turn for one region, which adds its rows and its intervals to the running report. Gives document 01's number.
+// The source's turn for one region: the controls [a, z) fitted anew, 9, 10, 11, and the intervals that they reach audited,
+// 12, 13. Adds its rows and its intervals to the running report.
 pub fn refit(
     work: &mut [f64],
     p: Plan,
@@ -177,32 +109,14 @@ pub fn refit(
     z: usize,
     strength: f64,
     report: &mut Report,
-) -> usize
+) -> Result<(), Refusal>
     requires { Refittable p a z work.old × (strength ≡ strength_of report.old.refinements) × Spare 1 report.old }
     ensures { AfterRefit p a z work.old work.new report.old report.new result }
 {
-    let done = refit_work(work, p, a, z, strength);
-    running_report::add_rows(report, done.rows);
-    running_report::add_intervals(report, done.checked);
-    done.number
-}
-
-// The same for a report that is held by value: it is lent to the turn.
-pub fn refit_lent(
-    work: &mut [f64],
-    p: Plan,
-    a: usize,
-    z: usize,
-    strength: f64,
-    report: Report,
-) -> Ended
-    requires { Refittable p a z work.old × (strength ≡ strength_of report.refinements) × Spare 1 report }
-    ensures { AfterRefit p a z work.old work.new report result.report result.number }
-{
-    let mut running = report;
-    let number = refit(work, p, a, z, strength, &mut running);
-    Ended {
-        number,
-        report: running,
-    }
+    let fitted = fit_in(work, p, a, z, strength)?;
+    running_report::add_rows(report, fitted.rows);
+    let audited = follow(work, p, a, z, fitted.first, fitted.last);
+    running_report::add_intervals(report, audited.checked);
+    audited.outcome?;
+    Ok(())
 }

@@ -1,6 +1,6 @@
 // One round of the source's `build`, from its locations on: the knots, then the regions.
-ghost use Rattle.std.specs.Prelude.{◌≡◌, ◌+◌, ◌≤◌, length};
-ghost use Rattle.smoothing.specs.Answer.{unless};
+ghost use Rattle.std.specs.Prelude.{◌≡◌, ◌+◌, ◌≤◌, length, OnOk};
+ghost use Rattle.smoothing.specs.Refusal.{answered};
 ghost use Rattle.smoothing.specs.Round.{strength_of};
 ghost use Rattle.smoothing.specs.Rising.{Rising, All, Number};
 ghost use Rattle.refinement.specs.Memory.{Roomy, memory_at, task_at, state_at, locations_at, sized};
@@ -10,15 +10,7 @@ ghost use Rattle.refinement.specs.Round.{round_with, Standing};
 
 use crate::plan::Plan;
 use running_report::Report;
-
-// How a round ended: document 01's number of the refusal, or 0; the number of controls then, and the
-// report.
-#[derive(Clone, Copy)]
-pub struct Rounded {
-    pub number: usize,
-    pub count: usize,
-    pub report: Report,
-}
+use smoothing::Refusal;
 
 // `0.001 * 0.25f64.powi(report.refinements as i32)`
 fn strength_of(refinements: usize) -> f64
@@ -29,46 +21,24 @@ fn strength_of(refinements: usize) -> f64
     0.001 * float::powi(0.25, n)
 }
 
-// The round with the `count` locations that lie in their place.
-pub fn round_from(work: &mut [f64], p: Plan, count: usize, report: Report) -> Rounded
+// The round with the `count` locations that lie in their place: so many controls more.
+pub fn round_from(work: &mut [f64], p: Plan, count: usize, report: &mut Report) -> Result<(), Refusal>
     requires roomy { Roomy p (length work.old) × (p.count + count + 7 ≤ p.room)
         × Rising (memory_at p work.old).t p.count × All Number (locations_at p count work.old) }
-    requires refinements_bound { (report.refinements ≤ 1000000) × Spare count report }
-    ensures work_after { unless result.number (state_at (sized p result.count) (counts_of result.report) work.new)
+    requires refinements_bound { (report.old.refinements ≤ 1000000) × Spare count report.old }
+    ensures work_after { answered result (state_at (sized p (p.count + count)) (counts_of report.new) work.new)
         ≡ round_with (task_at p work.old) (locations_at p count work.old)
-        (state_at p (counts_of report) work.old) }
-    ensures standing { result.number ≡ 0 → Standing p result.count work.old work.new × (result.count ≡ p.count + count) }
-    ensures refinements_bound_2 { (result.report.refinements ≤ report.refinements + 1) × More count report result.report }
+        (state_at p (counts_of report.old) work.old) }
+    ensures standing { OnOk result (Standing p (p.count + count) work.old work.new) }
+    ensures refinements_bound_2 { (report.new.refinements ≤ report.old.refinements + 1) × More count report.old report.new }
 {
-    let g = crate::insertions::insert_all(work, p, count);
-    let m = g.count;
-    let number = g.number;
-    if 0 < number {
-        return Rounded {
-            number,
-            count: m,
-            report,
-        };
-    }
+    crate::insertions::insert_all(work, p, count)?;
     let q = Plan {
-        axes: p.axes,
-        samples: p.samples,
-        room: p.room,
-        count: m,
+        count: p.count + count,
+        ..p
     };
     crate::insertions::rebuild(work, q);
-    let more = Report {
-        refinements: report.refinements + 1,
-        rows: report.rows,
-        intervals: report.intervals,
-    };
-    let strength = strength_of(more.refinements);
-    let e = crate::regions::refit_all(work, q, count, strength, more);
-    let end = e.number;
-    let last = e.report;
-    Rounded {
-        number: end,
-        count: m,
-        report: last,
-    }
+    report.refinements += 1;
+    let strength = strength_of(report.refinements);
+    crate::regions::refit_all(work, q, count, strength, report)
 }

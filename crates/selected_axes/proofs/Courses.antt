@@ -1,5 +1,5 @@
 -- The start, the rounds and the finish, one after the other.
-use mathlib.Core.Path.{◌≡◌, sym, ap, ◌∙◌}
+use mathlib.Core.Path.{◌≡◌, refl, sym, ap, ◌∙◌}
 use Prim.Native.Nat.{ℕ, ◌+◌, ◌-◌, ◌*◌, ◌≤◌, ◌<◌}
 use native.Mathlib.Omega.{arith}
 use native.Mathlib.Nat.{mul-le-mul}
@@ -8,7 +8,11 @@ use lib.ListN.{length, take}
 use mathlib.Core.List.{List}
 use lib.Ieee.{Float}
 use Rattle.smoothing.specs.Answer.{Answer, and_then, unless}
-use Rattle.smoothing.specs.Answer.Answer.{done, refused, exhausted}
+use Rattle.smoothing.specs.Answer.Answer.{done, refused}
+use Rattle.smoothing.specs.Refusal.{refused_by}
+use Rattle.smoothing.specs.declared.refusal.Refusal.{Refusal}
+use Rattle.smoothing.specs.declared.refusal.Refusal.TheVariants.{InitialSegments, Unsolved, Unaudited, RefinementsUsedUp, SegmentsUsedUp, BadMidpoint, ErrorAboveTolerance}
+use Rattle.smoothing.proofs.Refused.{then_refused}
 use Rattle.smoothing.specs.Request.{Limits}
 use Rattle.smoothing.specs.Rows.{Task, Units}
 use Rattle.smoothing.specs.State.{State}
@@ -24,7 +28,7 @@ use Rattle.running_report.specs.Counted.{counts_of}
 use Rattle.selected_axes.specs.declared.course.Ending.{Ending}
 use Rattle.selected_axes.specs.declared.course.Ending.TheVariants.{Done, Refused, Exhausted}
 use Rattle.selected_axes.specs.declared.course.Smoothed.{Smoothed}
-use Rattle.selected_axes.specs.Selected.{selected_in, ending_of, answer_in}
+use Rattle.selected_axes.specs.Selected.{selected_in, ending_of, ending_by, answer_in}
 
 -- ---- the answer
 pub unless_refused : {A : Type 0} (number : ℕ) (a : A) (whole : Answer A) → 0 < number → unless number a ≡ whole → refused number ≡ whole
@@ -54,14 +58,9 @@ module _ (m : Limits) (q : Task) (u : Units) where
         ap (λ (a : Answer State). and_then a (finish_of q u)) h
         ∙ ap (λ (b : Answer State). and_then (and_then b (refine_of m.segments m.refinements q)) (finish_of q u)) started
 
-    -- 9 to 13, 15, 16; and 14
-    pub rounds_refuse : (n : ℕ) → refused n ≡ refine_of m.segments m.refinements q s → refused n ≡ selected_of m q u
-    unfolding and_then
-    rounds_refuse n h = rounds_end (refused n) h
-
-    pub rounds_exhaust : (x : Float) → exhausted x ≡ refine_of m.segments m.refinements q s → exhausted x ≡ selected_of m q u
-    unfolding and_then
-    rounds_exhaust x h = rounds_end (exhausted x) h
+    -- 9 to 16
+    pub rounds_refuse : (e : Refusal) → refused_by e ≡ refine_of m.segments m.refinements q s → refused_by e ≡ selected_of m q u
+    rounds_refuse e h = sym (then_refused e (finish_of q u)) ∙ rounds_end (refused_by e) h
 
     -- the finish
     module _ (s₁ : State) (settled : done s₁ ≡ refine_of m.segments m.refinements q s) where
@@ -94,15 +93,34 @@ told (Exhausted x) = 2
 pub refused_done : (e : Ending) (n : ℕ) → e ≡ Refused n → e ≡ Done → ⊥
 refused_done e n h g = let z : ◌≡◌ {A = ℕ} 1 0 = ap told (sym h ∙ g) in omega arith
 
-pub exhausted_done : (e : Ending) (x : Float) → e ≡ Exhausted x → e ≡ Done → ⊥
-exhausted_done e x h g = let z : ◌≡◌ {A = ℕ} 2 0 = ap told (sym h ∙ g) in omega arith
+-- the ending of a refusal is not done
+told_by : (e : Refusal) → told (ending_by e) ≡ 0 → ⊥
+told_by InitialSegments h = omega arith
+told_by (Unsolved e) h = omega arith
+told_by (Unaudited e) h = omega arith
+told_by (RefinementsUsedUp ratio) h = omega arith
+told_by SegmentsUsedUp h = omega arith
+told_by BadMidpoint h = omega arith
+told_by ErrorAboveTolerance h = omega arith
+
+pub refusal_done : (a : Ending) (e : Refusal) → a ≡ ending_by e → a ≡ Done → ⊥
+refusal_done a e h g = told_by e (ap told (sym h ∙ g))
+
+ending_told : (e : Refusal) (x : Selected) → ending_of (ending_by e) x ≡ refused_by e
+ending_told InitialSegments x = refl
+ending_told (Unsolved e) x = refl
+ending_told (Unaudited e) x = refl
+ending_told (RefinementsUsedUp ratio) x = refl
+ending_told SegmentsUsedUp x = refl
+ending_told BadMidpoint x = refl
+ending_told ErrorAboveTolerance x = refl
 
 pub answer_refused : (p : Plan) (r : Smoothed) (w : List Float) (n : ℕ) → r.ending ≡ Refused n → answer_in p r w ≡ refused n
 answer_refused p r w n e =
     ap (λ (v : Ending). ending_of v (selected_in (sized p r.count) (take p.axes r.errors) (counts_of r.report)
     (memory_at (sized p r.count) w))) e
 
-pub answer_exhausted : (p : Plan) (r : Smoothed) (w : List Float) (x : Float) → r.ending ≡ Exhausted x → answer_in p r w ≡ exhausted x
-answer_exhausted p r w x e =
-    ap (λ (v : Ending). ending_of v (selected_in (sized p r.count) (take p.axes r.errors) (counts_of r.report)
-    (memory_at (sized p r.count) w))) e
+pub answer_told : (p : Plan) (r : Smoothed) (w : List Float) (e : Refusal) → r.ending ≡ ending_by e → answer_in p r w ≡ refused_by e
+answer_told p r w e h =
+    let x = selected_in (sized p r.count) (take p.axes r.errors) (counts_of r.report) (memory_at (sized p r.count) w) in
+    ap (λ (v : Ending). ending_of v x) h ∙ ending_told e x

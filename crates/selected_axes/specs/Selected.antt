@@ -2,6 +2,10 @@
 use Rattle.std.specs.Prelude.{ℕ, List, take, Float}
 use Rattle.smoothing.specs.Answer.{Answer}
 use Rattle.smoothing.specs.Answer.Answer.{done, refused, exhausted}
+use Rattle.smoothing.specs.declared.refusal.Refusal.{Refusal}
+use Rattle.smoothing.specs.declared.refusal.Refusal.TheVariants.{InitialSegments, Unsolved, Unaudited, RefinementsUsedUp, SegmentsUsedUp, BadMidpoint, ErrorAboveTolerance}
+use Rattle.normal.specs.Solve as solving
+use Rattle.polynomial.specs.Outcome as audits
 use Rattle.smoothing.specs.Rows.{Units, gathered}
 use Rattle.smoothing.specs.State.{Counts}
 use Rattle.smoothing.specs.Finish.{Selected}
@@ -26,6 +30,16 @@ abbrev pub ending_of : Ending → Selected → Answer Selected
 ending_of Done x = done x
 ending_of (Refused n) x = refused n
 ending_of (Exhausted v) x = exhausted v
+
+-- the ending of a refusal
+abbrev pub ending_by : Refusal → Ending
+ending_by InitialSegments = Refused 8
+ending_by (Unsolved e) = Refused (solving.refusal_number e)
+ending_by (Unaudited e) = Refused (audits.refusal_number e)
+ending_by (RefinementsUsedUp ratio) = Exhausted ratio
+ending_by SegmentsUsedUp = Refused 15
+ending_by BadMidpoint = Refused 16
+ending_by ErrorAboveTolerance = Refused 17
 
 -- the definition's answer, from what the cells then hold
 abbrev pub answer_in : Plan → Smoothed → List Float → Answer Selected

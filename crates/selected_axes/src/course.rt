@@ -7,13 +7,13 @@ ghost use Rattle.smoothing.specs.Build.{selected_of};
 ghost use Rattle.refinement.specs.Memory.{Roomy, memory_at, task_in, state_in, sized};
 ghost use Rattle.running_report.specs.Counted.{counts_of};
 ghost use Rattle.selected_axes.specs.declared.course.Ending.TheVariants.{Done};
-ghost use Rattle.selected_axes.specs.Selected.{units_of, answer_in};
+ghost use Rattle.selected_axes.specs.Selected.{units_of, ending_by, answer_in};
 
 use crate::{finish, start};
 use refinement::plan::Plan;
 use refinement::refine;
-use refinement::refine::Refined;
 use running_report::Report;
+use smoothing::Refusal;
 
 // Done; refused, with document 01's number; or the refinements used up (14), with the worst ratio of error
 // to tolerance.
@@ -31,6 +31,21 @@ pub struct Smoothed {
     pub count: usize,
     pub report: Report,
     pub errors: [f64; 16],
+}
+
+// The ending of a refusal.
+fn ending_of(e: Refusal) -> Ending
+    ensures { result ≡ ending_by e }
+{
+    match e {
+        Refusal::InitialSegments => Ending::Refused(8),
+        Refusal::Unsolved(e) => Ending::Refused(e.number()),
+        Refusal::Unaudited(e) => Ending::Refused(e.number()),
+        Refusal::RefinementsUsedUp(ratio) => Ending::Exhausted(ratio),
+        Refusal::SegmentsUsedUp => Ending::Refused(15),
+        Refusal::BadMidpoint => Ending::Refused(16),
+        Refusal::ErrorAboveTolerance => Ending::Refused(17),
+    }
 }
 
 // Nothing but how it ended.
@@ -115,19 +130,15 @@ pub fn smooth(
         room: p.room,
         count,
     };
-    let r = refine::refine(work, q, segments, refinements, report);
-    match r {
-        Refined::Done(k) => {
+    let mut running = report;
+    match refine::refine(work, q, segments, refinements, &mut running) {
+        Ok(settled) => {
             let m = Plan {
-                axes: p.axes,
-                samples: p.samples,
-                room: p.room,
-                count: k.count,
+                count: settled,
+                ..p
             };
-            let last = k.report;
-            conclude(work, m, points, d, axes, eps, last)
+            conclude(work, m, points, d, axes, eps, running)
         }
-        Refined::Refused(n) => ended(Ending::Refused(n), count, report),
-        Refined::Exhausted(x) => ended(Ending::Exhausted(x), count, report),
+        Err(e) => ended(ending_of(e), count, running),
     }
 }

@@ -89,7 +89,7 @@ pub fn finish(
     let last = p.samples - 1;
     let a = refinement::refit::audit_in(work, p, 0, last);
     let outcome = a.outcome;
-    let number = refinement::refit::number_of(outcome);
+    let number = crate::start::number_of(outcome);
     let errors = errors_in(work, p);
     let more = running_report::after_audit(report, a.checked);
     if 0 < number {

@@ -2,6 +2,7 @@
 // (12, 13).
 ghost use Rattle.std.specs.Prelude.{◌≡◌, ◌+◌, ◌-◌, ◌≤◌, ◌<◌, length};
 ghost use Rattle.fit.specs.Fit.{answer_of};
+ghost use Rattle.polynomial.specs.Outcome.{number_of};
 ghost use Rattle.smoothing.specs.Answer.{unless, and_then};
 ghost use Rattle.smoothing.specs.Rising.{Rising};
 ghost use Rattle.smoothing.specs.State.{counts, add_rows, audit_in};
@@ -13,10 +14,17 @@ ghost use Rattle.selected_axes.specs.First.{inner_knots};
 
 use fit::Counts;
 use normal::Unsolved;
+use polynomial::interval::Unaudited;
 use refinement::plan::Plan;
-use refinement::refit::Ended;
 use running_report::Report;
 use seed::Waypoints;
+
+// How a step ended: document 01's number of the refusal, or 0, and the report then.
+#[derive(Clone, Copy)]
+pub struct Ended {
+    pub number: usize,
+    pub report: Report,
+}
 
 // How it ended: document 01's number of the refusal, or 0; the number of controls, and the report.
 #[derive(Clone, Copy)]
@@ -24,6 +32,16 @@ pub struct Started {
     pub number: usize,
     pub count: usize,
     pub report: Report,
+}
+
+// Document 01's number of how an audit ended.
+pub(crate) fn number_of(o: Result<(), Unaudited>) -> usize
+    ensures { result ≡ number_of o }
+{
+    match o {
+        Ok(()) => 0,
+        Err(e) => e.number(),
+    }
 }
 
 // The first knots, in the place of the inner ones, and how many: none unless the waypoints are curved.
@@ -104,7 +122,7 @@ fn audit_first(work: &mut [f64], p: Plan, report: Report) -> Ended
     let last = p.samples - 1;
     let a = refinement::refit::audit_in(work, p, 0, last);
     let outcome = a.outcome;
-    let number = refinement::refit::number_of(outcome);
+    let number = number_of(outcome);
     let more = running_report::after_audit(report, a.checked);
     Ended {
         number,

@@ -27,3 +27,4 @@ pub mod HigherLimits
 pub mod UnsmoothedRows
 -- The parameters as a list.
 pub mod AsListed
+pub mod Refused

@@ -11,3 +11,4 @@ pub mod Interpolate
 pub mod Build
 pub mod Rising
 pub mod Lanes
+pub mod Refusal
