@@ -108,6 +108,7 @@ pub(crate) fn walk(
     let mut current = parameters::next(spacing, parameters, points, d, n, 0, start);
     let mut from = (start - start) / range;
     let mut to = (current - start) / range;
+    // Two places, of which one or the other moves on in each turn.
     while i < n - 1 {
         let x = intersect(
             breaks,

@@ -9,8 +9,8 @@ ghost use Rattle.pairs.specs.Structs.{ends_of, largest_number, lowest_number};
 
 use crate::{directed, neighbours};
 
-// The pair from `low` to `high`, if `good`; otherwise none. A flag and no Option, since only the flag is
-// written where a pair is none: with an Option each operation has a branch, which is slower.
+// The pair from `low` to `high`, if `good`; otherwise none. A flag and no Option: so an operation computes
+// both ends and the flag without a branch, where an Option would ask for one at every step.
 #[derive(Clone, Copy)]
 pub struct Ends {
     pub low: f64,

@@ -122,6 +122,7 @@ pub(crate) fn audit_interval(
         peak: -1.0,
         witness: before,
     };
+    // From piece to piece: the next begins where one ends, and no index is counted.
     while left < end {
         k = crate::span::advance(breaks, left, k);
         let right = float::min(end, breaks[k + 1]);

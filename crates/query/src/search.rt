@@ -36,6 +36,7 @@ fn quarter(breaks: &[f64], x: f64) -> usize
 {
     let mut base = 0;
     let mut size = breaks.len() - 1;
+    // What is left shrinks to a quarter in each turn: no index is counted.
     while 3 < size {
         let step = size / 4;
         base += step * passed(breaks, x, base, step, 4);

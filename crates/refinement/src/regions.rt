@@ -44,6 +44,7 @@ pub fn refit_all(
     ensures refinements_value { (report.new.refinements ≡ report.old.refinements) × More count report.old report.new }
 {
     let mut from = 0;
+    // From region to region: each says where the next begins.
     while from < count {
         let r = region_at(work, p, count, from);
         crate::refit::refit(work, p, r.a, r.z, strength, report)?;

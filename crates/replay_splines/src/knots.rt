@@ -40,6 +40,7 @@ pub fn seeded(head: Head, cells: &[f64], work: &mut [f64], out: &mut Output) -> 
 fn count_regions(t: &[f64], m: usize, x: &[f64]) -> usize {
     let mut count = 0;
     let mut from = 0;
+    // From region to region: each says where the next begins.
     while from < x.len() {
         let region = seed::next_region(t, m, x, from);
         from = region.next;
@@ -51,6 +52,7 @@ fn count_regions(t: &[f64], m: usize, x: &[f64]) -> usize {
 // The first and the last control, not counted, of each region.
 fn ends(t: &[f64], m: usize, x: &[f64], out: &mut Output) {
     let mut from = 0;
+    // From region to region: each says where the next begins.
     while from < x.len() {
         let region = seed::next_region(t, m, x, from);
         out.whole(region.a as u64);

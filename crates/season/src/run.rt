@@ -77,6 +77,7 @@ pub(crate) fn take_in(
         at: 0,
         sums: before,
     };
+    // From file to file: each says where the next begins.
     while taken.at < bytes.len() {
         let next = take_one(
             bytes,
