@@ -122,7 +122,13 @@ fn add_solution(work: &mut [f64], p: Place, a: usize, z: usize)
 // The source's `fit`: the controls of the window [a, z) fitted to the samples, all others as they are. The
 // system's cells are scratch, and hold afterwards what `solve` left there; on a refusal the controls
 // are unchanged.
-pub fn fit(work: &mut [f64], p: Place, a: usize, z: usize, strength: f64) -> Result<Counts, Unsolved>
+pub fn fit(
+    work: &mut [f64],
+    p: Place,
+    a: usize,
+    z: usize,
+    strength: f64,
+) -> Result<Counts, Unsolved>
     requires { WindowLaid p a z (length work.old) }
     ensures result_value { answer_of result ≡ (fit_of (arrays_at p (before p work.old)) a z strength).answered }
     ensures work_after { work.new ≡ cells_after p (fit_of (arrays_at p (before p work.old)) a z strength) work.old }

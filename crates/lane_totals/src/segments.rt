@@ -52,7 +52,13 @@ fn powers_at(coefficients: &[u64], from: usize) -> [f64; 6]
 }
 
 // The whole controls, on segment i, of the axis at a place of the m axes of a set.
-fn controls_on(breaks: &[f64], coefficients: &[u64], m: usize, place: usize, i: usize) -> Option<[u64; 6]>
+fn controls_on(
+    breaks: &[f64],
+    coefficients: &[u64],
+    m: usize,
+    place: usize,
+    i: usize,
+) -> Option<[u64; 6]>
     requires { (i + 1 < length breaks.now) × (6 * (i * m + place) + 6 ≤ length coefficients.now) }
     ensures { ControlsFrom (controls_in breaks.now (map number_of coefficients.now) m place i) result }
 {

@@ -32,7 +32,11 @@ pub fn answered(out: &mut Output, line: Option<()>, place: u64, head: Head) -> O
 
 // Reads and answers cases until the list ends, at most a million of them. `answer` writes the line of a case; None where the case
 // does not fit its kind.
-pub fn run<F: FnMut(Head, &[f64], &mut Output) -> Option<()>>(bytes: &mut [u8], cells: &mut [f64], mut answer: F)
+pub fn run<F: FnMut(Head, &[f64], &mut Output) -> Option<()>>(
+    bytes: &mut [u8],
+    cells: &mut [f64],
+    mut answer: F,
+)
     requires { F.IsAlwaysCallable answer }
 {
     let mut out = Output::new();

@@ -41,7 +41,13 @@ fn span_at(work: &[f64], p: Parts, i: usize) -> usize
     crate::span::span(&work[b..e], work[s + i])
 }
 // Interval i of the curve at p, from segment `span` on; its bounds go to `bounds`.
-fn interval_at(bounds: &mut [f64], work: &[f64], p: Parts, i: usize, span: usize) -> Result<Ended, Unaudited>
+fn interval_at(
+    bounds: &mut [f64],
+    work: &[f64],
+    p: Parts,
+    i: usize,
+    span: usize,
+) -> Result<Ended, Unaudited>
     requires { (length bounds.old ≡ p.axes) × PartsLaid p (length work.now) × (i + 1 < p.samples) × (span < p.segments) }
     ensures ends { Ends bounds.new result (interval_at p i span work.now) }
     ensures inside { IfOk result (λ ended. ended.span < p.segments) }

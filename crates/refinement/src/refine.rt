@@ -27,7 +27,12 @@ fn worst(work: &[f64], p: Plan) -> f64
 
 // One round with its locations, unless it would have more spans than `segments` (15):
 // `b.m() - 5 + locations.len() > cfg.max_segments`. Gives the number of controls then.
-fn try_round(work: &mut [f64], p: Plan, segments: usize, report: &mut Report) -> Result<usize, Refusal>
+fn try_round(
+    work: &mut [f64],
+    p: Plan,
+    segments: usize,
+    report: &mut Report,
+) -> Result<usize, Refusal>
     requires roomy { Roomy p (length work.old) × (segments + 16 ≤ p.room) × Rising (memory_at p work.old).t p.count }
     requires refinements_bound { (report.old.refinements ≤ 1000000) × Spare 20016 report.old }
     ensures work_after { outcome_of p result report.new work.new

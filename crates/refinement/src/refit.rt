@@ -19,7 +19,13 @@ use running_report::Report;
 use smoothing::Refusal;
 
 // `fit(&mut b, &s, &y, a, z, strength)`: the controls of the window [a, z) fitted anew; no other array changes.
-pub fn fit_in(work: &mut [f64], p: Plan, a: usize, z: usize, strength: f64) -> Result<Counts, Unsolved>
+pub fn fit_in(
+    work: &mut [f64],
+    p: Plan,
+    a: usize,
+    z: usize,
+    strength: f64,
+) -> Result<Counts, Unsolved>
     requires { Roomy p (length work.old) × (a ≤ z) × (z ≤ p.count) }
     ensures result_value { answer_of result
         ≡ (fit_in (task_at p work.old) a z strength (spline_at p work.old)).answered }

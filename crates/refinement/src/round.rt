@@ -22,7 +22,12 @@ fn strength_of(refinements: usize) -> f64
 }
 
 // The round with the `count` locations that lie in their place: so many controls more.
-pub fn round_from(work: &mut [f64], p: Plan, count: usize, report: &mut Report) -> Result<(), Refusal>
+pub fn round_from(
+    work: &mut [f64],
+    p: Plan,
+    count: usize,
+    report: &mut Report,
+) -> Result<(), Refusal>
     requires roomy { Roomy p (length work.old) × (p.count + count + 7 ≤ p.room)
         × Rising (memory_at p work.old).t p.count × All Number (locations_at p count work.old) }
     requires refinements_bound { (report.old.refinements ≤ 1000000) × Spare count report.old }

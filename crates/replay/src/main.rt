@@ -47,5 +47,9 @@ fn main() {
     let mut cells = [0.0; 65536];
     let mut work = [0.0; 65536];
     let mut bytes = io::buffer();
-    turn::run(&mut bytes, &mut cells, |head, cells, out| answer(head, cells, &mut work, out));
+    turn::run(
+        &mut bytes,
+        &mut cells,
+        |head, cells, out| answer(head, cells, &mut work, out),
+    );
 }

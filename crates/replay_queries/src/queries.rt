@@ -38,7 +38,9 @@ fn call(
     out: &mut Output,
 ) {
     match way {
-        Way::Single if p.rest.len() == 1 => calls::single(curve, p, p.rest[0], order, q, dq, ddq, dddq, out),
+        Way::Single if p.rest.len() == 1 => calls::single(
+            curve, p, p.rest[0], order, q, dq, ddq, dddq, out,
+        ),
         Way::InTurn => turns::in_turn(curve, p, order as u64, q, dq, ddq, dddq, out),
         _ => calls::all(curve, p, order, q, dq, ddq, dddq, out),
     }

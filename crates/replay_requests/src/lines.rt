@@ -71,12 +71,18 @@ fn is_zero(buffer: &[f64], from: usize, to: usize) -> bool {
 
 // Whether only the first `used` cells of a part that ends at `end` were written, and none around it.
 fn is_kept(buffer: &[f64], end: usize, used: usize) -> bool {
-    end <= buffer.len() && used <= end && is_marked(buffer, 0, 8) && is_marked(buffer, used + 8, end + 8)
+    end <= buffer.len()
+        && used <= end
+        && is_marked(buffer, 0, 8)
+        && is_marked(buffer, used + 8, end + 8)
 }
 
 // Whether all cells of a part that ends at `end` are cleared, and none was written around it.
 fn is_clear(buffer: &[f64], end: usize) -> bool {
-    end <= buffer.len() && is_marked(buffer, 0, 8) && is_zero(buffer, 8, end) && is_marked(buffer, end, end + 8)
+    end <= buffer.len()
+        && is_marked(buffer, 0, 8)
+        && is_zero(buffer, 8, end)
+        && is_marked(buffer, end, end + 8)
 }
 
 // Whether nothing but the used cells of the results was written.
@@ -84,7 +90,11 @@ fn are_kept(p: Lent<usize>, used: Lent<usize>, lent: Lent<&[f64]>) -> bool {
     is_kept(lent.breaks, p.breaks, used.breaks)
         && is_kept(lent.coefficients, p.coefficients, used.coefficients)
         && is_kept(lent.other_breaks, p.other_breaks, used.other_breaks)
-        && is_kept(lent.other_coefficients, p.other_coefficients, used.other_coefficients)
+        && is_kept(
+            lent.other_coefficients,
+            p.other_coefficients,
+            used.other_coefficients,
+        )
         && is_kept(lent.errors, p.errors, used.errors)
 }
 

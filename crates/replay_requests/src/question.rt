@@ -81,5 +81,8 @@ pub fn asked<'a>(
         parameters,
         limits,
     };
-    Some(Question { tolerances, request })
+    Some(Question {
+        tolerances,
+        request,
+    })
 }

@@ -7,7 +7,13 @@ use listing::list::Head;
 use listing::output::Output;
 
 // Kinds 20 and 21, whole number n: x, and a list of n, of which `find` counts a part.
-fn point<F: Fn(&[f64], f64) -> usize>(name: &[u8], find: F, head: Head, cells: &[f64], out: &mut Output) -> Option<()>
+fn point<F: Fn(&[f64], f64) -> usize>(
+    name: &[u8],
+    find: F,
+    head: Head,
+    cells: &[f64],
+    out: &mut Output,
+) -> Option<()>
     requires { F.IsAlwaysCallable find }
     ensures { Unanswered out.old out.new result }
 {
@@ -25,14 +31,26 @@ fn point<F: Fn(&[f64], f64) -> usize>(name: &[u8], find: F, head: Head, cells: &
 pub fn partition_point_le(head: Head, cells: &[f64], out: &mut Output) -> Option<()>
     ensures { Unanswered out.old out.new result }
 {
-    point(b"partition_point_le", |t, x| search::partition_point_le(t, x), head, cells, out)
+    point(
+        b"partition_point_le",
+        |t, x| search::partition_point_le(t, x),
+        head,
+        cells,
+        out,
+    )
 }
 
 // Kind 21.
 pub fn partition_point_lt(head: Head, cells: &[f64], out: &mut Output) -> Option<()>
     ensures { Unanswered out.old out.new result }
 {
-    point(b"partition_point_lt", |t, x| search::partition_point_lt(t, x), head, cells, out)
+    point(
+        b"partition_point_lt",
+        |t, x| search::partition_point_lt(t, x),
+        head,
+        cells,
+        out,
+    )
 }
 
 // The x and the knots of kinds 22, 23 and 24, whole number knots: the knots, then x.

@@ -80,7 +80,13 @@ fn line(answer: Result<(), Unsolved>, solution: &[f64], out: &mut Output) {
 }
 
 // Makes the system of the window, adds the rows and solves it.
-fn system(controls: &[f64], rows: &[f64], w: Window, work: &mut [f64], out: &mut Output) -> Option<()>
+fn system(
+    controls: &[f64],
+    rows: &[f64],
+    w: Window,
+    work: &mut [f64],
+    out: &mut Output,
+) -> Option<()>
     requires { (length controls.now ≡ w.controls * w.d) × (size_of w.n w.d ≤ length work.old) }
     ensures { Unanswered out.old out.new result }
 {

@@ -50,8 +50,8 @@ loop-i-preserved c =
     let set = set_with a.breaks.now (map number_of a.coefficients.now) a.n a.m a.at in
     let h = c.in-Some.ensures in
     gathered_next set l.all c.steps-one.result c.merged-all.result l.i l.invariant h.0
-          (c.steps-one.ensures.0 ∙ ap (λ (w : List ℤ). step_totals 256 (height_of w)) h.1)
-          c.steps-one.ensures.1 c.merged-all.ensures
+    (c.steps-one.ensures.0 ∙ ap (λ (w : List ℤ). step_totals 256 (height_of w)) h.1)
+    c.steps-one.ensures.1 c.merged-all.ensures
 
 pub returns : goal.returns
 returns c =

@@ -32,8 +32,7 @@ returns-in-Err c =
     let v = l.invariant.4 in
     let f = c.in-Err.ensures.ends in
     let r = interval_same a.p a.work.now v.0 v.1 c.requires.0 v.2 v.3 l.i l.k v.4 refl in
-    let e = sym (till_stop _ _ _ _ _ _ (omega arith) (stops _ _ _ _ _ _ _ _ r (sym (ap is_done f.1)))) ∙ v.5 in
-    (
+    let e = sym (till_stop _ _ _ _ _ _ (omega arith) (stops _ _ _ _ _ _ _ _ r (sym (ap is_done f.1)))) ∙ v.5 in (
       f.1 ∙ ap (λ (x : Audit). x.outcome) e,
       ap (λ (x : Audit). x.checked) e,
       v.4 ∙ ap (λ (x : Audit). with_bounds a.p x.bounds x.witness a.work.now) e,
