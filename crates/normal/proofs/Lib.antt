@@ -1,7 +1,6 @@
 -- Laws that the proofs cite.
 pub mod Places
 pub mod Region
-pub mod Tests
 pub mod Pivots
 pub mod Outcomes
 pub mod Arrays
