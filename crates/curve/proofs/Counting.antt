@@ -7,7 +7,6 @@ use native.Mathlib.Decide.{dec_lt}
 use native.Mathlib.Numerals.{add-one}
 use borrow.Author.Tests.{eq-eqb, ne_eqb, eqb-true}
 use lib.Dec.{eqb}
-use mir.Val.{bool_byte}
 use Rattle.arith.proofs.Truth.{and_parts, clash}
 use Rattle.arith.specs.First.{first_of, every}
 use Rattle.arith.proofs.Firsts.{every_all, every_at, first_all, first_next, first_le, first_more, first_stays}
@@ -68,11 +67,6 @@ both true true = refl
 both true false = refl
 both false true = refl
 both false false = refl
-
--- what a `bool` is as a number
-pub byte_is : (b : Bool) → (bool_byte b ≡ cond b 1 0) × (bool_byte b ≤ 1)
-byte_is true = (refl, omega arith)
-byte_is false = (refl, omega arith)
 
 -- every number passes two tests exactly where it passes each
 pub every_both : (f g : ℕ → Bool) (n : ℕ) → every n (λ i. f i && g i) ≡ (every n f && every n g)

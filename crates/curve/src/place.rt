@@ -2,7 +2,8 @@
 ghost use Rattle.std.specs.Prelude.{◌≡◌, ◌≤◌, ◌<◌};
 ghost use Rattle.curve.specs.Places.{position_of, axis_place};
 
-// The place of axis a among the first n listed axes; n where it is not there.
+// The place of axis a among the first n listed axes; n where it is not there, as the definition has it:
+// its users compare places, so that an Option is no plainer.
 pub fn position(axes: &[usize; 16], n: usize, a: usize) -> usize
     requires { n ≤ 16 }
     ensures { result ≡ position_of axes.now n a }

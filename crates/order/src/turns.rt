@@ -40,7 +40,8 @@ fn next(pairs: &[[usize; 2]], lanes: usize, cut: u64) -> usize
     sets::lowest_outside(sets::union(cut, waiting(pairs, cut)), lanes)
 }
 
-// Whether there is no cutting order.
+// Whether there is no cutting order. The turns are taken for this alone, and again by `write_order`: a
+// refusal has written nothing, and one function of both by a closure is no plainer.
 pub(crate) fn has_ring(pairs: &[[usize; 2]], lanes: usize) -> bool
     requires { Fitting pairs.now × (lanes ≤ 64) }
     ensures { result ≡ is_ring (order_of lanes pairs.now) }
