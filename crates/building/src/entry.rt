@@ -232,9 +232,10 @@ fn finish(
     }
 }
 
-// The request, and what a query outside start to end is to get. The work slice is scratch: it ends all +0, unless 18, 19 or 20 turned the request away. The
-// result slices change on acceptance only, in their first cells only: breaks and coefficients of the
-// selected axes and of the other axes, as `curve` takes them, and the errors, in the order of the axes.
+// The request, and what a query outside start to end is to get. The work slice is scratch: it ends all +0,
+// unless 18, 19 or 20 turned the request away. The result slices change on acceptance only, in their first
+// cells only: breaks and coefficients of the selected axes and of the other axes, as `curve` takes them, and
+// the errors, in the order of the axes.
 pub fn build(
     r: &Request,
     mode: Mode,

@@ -1,6 +1,5 @@
 -- The arrays of `build` after one or two of them were written.
 use mathlib.Core.Path.{◌≡◌, refl, sym, ap, subst, ◌∙◌}
-use mathlib.Core.Bool.{Bool}
 use mathlib.Core.List.{List, [], ◌++◌}
 use Prim.Native.Nat.{ℕ, ◌+◌, ◌-◌, ◌*◌, ◌≤◌, ◌<◌}
 use native.Mathlib.Omega.{arith}
@@ -16,12 +15,12 @@ use Rattle.bspline.specs.declared.Spline.{Spline}
 use Rattle.window.proofs.Joined.{table_length, table_ap}
 use Rattle.window.proofs.Written.{written_none}
 use Rattle.window.proofs.TwoParts.{Apart, both_before, both_first, both_second}
-use Rattle.smoothing.specs.Start.{curved, greville_of, open_knots, chord_controls}
+use Rattle.smoothing.specs.Start.{greville_of, open_knots, chord_controls}
 use Rattle.refinement.specs.declared.plan.Plan.{Plan}
 use Rattle.refinement.specs.Memory.{block, knots_place, controls_place, bounds_place, witness_place, locations_place, system_place, breaks_place, coefficients_place, spline_of, Roomy, Memory, memory_at, with_controls, with_bounds, task_in}
 use Rattle.window.proofs.Seams.{same_window, window_append}
 use Rattle.refinement.proofs.Memories.{products, block_small, controls_written, bounds_written}
-use Rattle.selected_axes.specs.First.{task_over, inner_knots}
+use Rattle.selected_axes.specs.First.{inner_knots}
 use Rattle.selected_axes.specs.Physical.{scaled, with_points}
 
 module _ (p : Plan) (w : List Float) (r : Roomy p (length w)) where
@@ -64,20 +63,6 @@ module _ (p : Plan) (w : List Float) (r : Roomy p (length w)) where
       let q = products p (length w) r in
       (omega (arith, q.points, block_small p (length w) r), omega (arith, q.points, r.cells_fit))
 
-  pub points_long : (p.samples ≤ length (window 0 p.samples w))
-      × (p.samples * d ≤ length (window p.room (p.room + p.samples * d) w))
-  points_long =
-      let n = length_window 0 p.samples w (omega arith) (omega (arith, r.waypoints_fit, r.cells_fit)) in
-      let k = length_window p.room (p.room + p.samples * d) w (omega arith) points_numbers.1 in
-      (omega arith, omega arith)
-
-  pub curved_is : (c : Bool)
-      → c ≡ curved (task_over p.samples d (window 0 p.samples w) (window p.room (p.room + p.samples * d) w))
-      → c ≡ curved (task_in p x)
-  curved_is c e =
-      let q : p.samples ≡ 0 + p.samples = omega arith in
-      e ∙ ap (λ (k : ℕ). curved (task_over p.samples d (window 0 k w) x.y)) q
-
   -- ---- the points alone
   pub points_written : (v : List Float) → length v ≡ p.samples * d → memory_at p (splice p.room (p.room + p.samples * d) v w)
       ≡ with_points v x
@@ -115,13 +100,6 @@ module _ (p : Plan) (w : List Float) (r : Roomy p (length w)) where
     abbrev last : ℕ
     last = p.room + (p.samples - 1) * d
 
-    pub chord_asks : (s.knots + (m + 6) ≤ s.controls) × (last + d ≤ s.controls) × (s.controls + m * d ≤ length w)
-    chord_asks =
-        let q = products p (length w) r in
-        let e = row_end (p.samples - 1) p.samples d (p.samples * d) (omega (arith, r.two)) (omega arith) in
-        subst (λ (v : Spline). (v.knots + (m + 6) ≤ v.controls) × (last + d ≤ v.controls) × (v.controls + m * d ≤ length w)) (sym is)
-        (omega (arith, r.knots_fit), omega (arith, q.points), omega (arith, q.controls, r.cells_fit))
-
     -- the controls that the code puts, by a spline's places
     abbrev put : Spline → List Float
     put v = table m d (λ i a. mul binary64 (greville_of (window v.knots (v.knots + (m + 6)) w) i) (at w (last + a)))
@@ -139,15 +117,7 @@ module _ (p : Plan) (w : List Float) (r : Roomy p (length w)) where
         ∙ ap (λ (l : List Float). memory_at p (written (controls_place p) l w)) same
         ∙ controls_one (table m d g) (table_length m d g)
 
-    -- ---- the controls in physical units
-    pub scale_asks : (p.room + d ≤ s.controls) × (s.controls + m * d ≤ length w)
-    scale_asks =
-        let q = products p (length w) r in
-        let e = row_end 0 p.samples d (p.samples * d) (omega (arith, r.two)) (omega arith) in
-        subst (λ (v : Spline). (p.room + d ≤ v.controls) × (v.controls + m * d ≤ length w)) (sym is)
-        (omega (arith, q.points), omega (arith, q.controls, r.cells_fit))
-
-    -- the scaled controls, by a spline's places
+    -- the controls in physical units, by a spline's places
     abbrev scaled_at : List Float → Spline → List Float
     scaled_at eps v = table m d (λ i a. scaled (at w (v.controls + i * d + a)) (at eps a) (at w (p.room + a)))
 
