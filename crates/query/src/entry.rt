@@ -106,27 +106,25 @@ fn write_all<'a>(
         (outputs q.old dq.old ddq.old dddq.old) }
     ensures last { Last lent.now.curve (slices_of lent.now) xs.now (length xs.now) result.span result.other_span }
 {
-    let curve = lent.curve;
     let breaks = lent.breaks;
     let coefficients = lent.coefficients;
     let other_breaks = lent.other_breaks;
     let other_coefficients = lent.other_coefficients;
-    let d = curve.d;
-    let k = curve.k;
-    let n = curve.segments;
-    let others = curve.other_segments;
+    let d = lent.curve.d;
+    let k = lent.curve.k;
+    let n = lent.curve.segments;
+    let others = lent.curve.other_segments;
     let m = d - k;
-    let axes = curve.axes;
-    let table = places::find_places(&axes, k, d);
-    let start = curve.start;
-    let whole = curve.end - start;
+    let table = places::find_places(&lent.curve.axes, k, d);
+    let start = lent.curve.start;
+    let whole = lent.curve.end - start;
     let scale = 1.0 / whole;
     let from = 6 * (n * k);
     let other_from = 6 * (others * m);
     let mut span = segment::begin(breaks, near);
     let mut other_span = segment::begin(other_breaks, other_near);
     for i in 0..xs.len() {
-        let ranged = range::answered(curve, xs[i], inside);
+        let ranged = range::answered(lent.curve, xs[i], inside);
         let u = (ranged.at - start) / whole;
         let here = segment::locate(breaks, coefficients, from, u, span);
         let there = segment::locate(other_breaks, other_coefficients, other_from, u, other_span);
@@ -245,8 +243,7 @@ pub fn evaluate_all_formed<'a>(
         dddq.new) ≡ evaluate_all_of lent.now.curve (slices_of lent.now) xs.now order (outputs q.old
         dq.old ddq.old dddq.old) }
 {
-    let curve = lent.curve;
-    let d = curve.d;
+    let d = lent.curve.d;
     let count = xs.len();
     if 3 < order {
         return Err(Refusal::OrderAboveThree);
@@ -257,8 +254,8 @@ pub fn evaluate_all_formed<'a>(
     if short(order, count * d, q.len(), dq.len(), ddq.len(), dddq.len()) {
         return Err(Refusal::TooShort);
     }
-    let inside = range::all_inside(curve, xs);
-    if let Some(place) = first_refused(curve, xs, inside) {
+    let inside = range::all_inside(lent.curve, xs);
+    if let Some(place) = first_refused(lent.curve, xs, inside) {
         return Err(Refusal::OutsideAt(place));
     }
     write_all(lent, 0, 0, xs, inside, order, q, dq, ddq, dddq);
