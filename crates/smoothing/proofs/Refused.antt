@@ -1,6 +1,6 @@
 -- A refusal of the code, and the definition's answer.
 use mathlib.Core.Path.{◌≡◌, refl, sym, ap, ◌∙◌}
-use Rattle.std.specs.Prelude.{Ok, Err}
+use Rattle.std.specs.Prelude.{Err}
 use Rattle.normal.specs.declared.Unsolved as solving
 use Rattle.normal.specs.declared.Unsolved.TheVariants.{BadDiagonal, BadPivot, BadSolution}
 use Rattle.normal.specs.Solve as systems

@@ -1,6 +1,5 @@
 -- As the start ends, then as refinement ends.
-use Rattle.std.proofs.Common.{arith, sym, ap, ◌∙◌, ◌≡◌, length, take}
-use Rattle.smoothing.specs.Request.{Limits}
+use Rattle.std.proofs.Common.{arith, ap, ◌∙◌, ◌≡◌, length, take}
 use Rattle.smoothing.specs.Rows.{Task}
 use Rattle.smoothing.specs.Round.{refine_of}
 use Rattle.refinement.specs.Memory.{memory_at, task_in, state_in, sized}
