@@ -4,6 +4,7 @@ ghost use Rattle.std.specs.Float.{binary64};
 ghost use Rattle.std.specs.Float.Ieee.{lt, sub, to_bits};
 ghost use Rattle.curve.specs.Form.{slices, axes_formed, segments_formed, set_shaped, others_shaped, range_formed, well_shaped, well_formed, no_curve};
 
+use crate::count::one_if;
 use crate::place::position;
 use crate::{Curve, Mode};
 
@@ -29,17 +30,17 @@ pub fn is_width(width: f64, from: f64, to: f64) -> bool
     width == to - from && 0.0 < width
 }
 
-// Whether the breaks of n segments rise and their widths are kept from the cell `from` on.
+// Whether the breaks of n segments rise and their widths are kept from the cell `from` on: segments of
+// which both hold are counted, since a loop that may end early is not vectorised.
 fn segments_formed(breaks: &[f64], cells: &[f64], from: usize, n: usize) -> bool
     requires { (n ≤ length breaks.now - 1) × (from + n ≤ length cells.now) }
     ensures { result ≡ segments_formed from n breaks.now cells.now }
 {
+    let mut kept = 0;
     for i in 0..n {
-        if !is_width(cells[from + i], breaks[i], breaks[i + 1]) {
-            return false;
-        }
+        kept += one_if(is_width(cells[from + i], breaks[i], breaks[i + 1]));
     }
-    true
+    kept == n
 }
 
 // Whether n segments with m axes each, in so many cells, are well formed, whatever each segment has.

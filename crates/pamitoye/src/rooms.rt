@@ -1,12 +1,6 @@
 // The lengths of the slices to lend: document 01, "the lent room needed".
-ghost use Rattle.std.specs.Prelude.{◌≡◌, max};
+ghost use Rattle.std.specs.Prelude.{◌≡◌};
 ghost use Rattle.pamitoye.specs.Rooms.{Enough, room_number, room_after};
-
-fn larger(a: usize, b: usize) -> usize
-    ensures { result ≡ max a b }
-{
-    if a < b { b } else { a }
-}
 
 // The cells of work, breaks, coefficients, other breaks, other coefficients and errors. Slices of at
 // least these lengths are never too short (19) for such a request.
@@ -21,16 +15,10 @@ pub extern "C" fn pamitoye_room(
     ensures room_after { room.new ≡ room_after d n max_segments room.old }
     ensures enough { result ≡ 0 → Enough d n max_segments room.new }
 {
-    if 16 < d {
+    if 16 < d || 20000 < n || 20000 < max_segments {
         return 18;
     }
-    if 20000 < n {
-        return 18;
-    }
-    if 20000 < max_segments {
-        return 18;
-    }
-    let e = larger(n, max_segments) + 16;
+    let e = n.max(max_segments) + 16;
     *room = [
         e * (16 * d + 32),
         max_segments + 1,

@@ -3,6 +3,8 @@ ghost use Rattle.std.specs.Prelude.{◌≡◌, ◌+◌, ◌-◌, ◌≤◌, ◌<
 ghost use Rattle.window.specs.Rows.{written};
 ghost use Rattle.return_lane.specs.Return.{return_break, return_breaks, rises_back};
 
+use curve::count::one_if;
+
 // Break i.
 fn break_at(breaks: &[f64], i: usize) -> f64
     requires { i < length breaks.now }
@@ -11,17 +13,17 @@ fn break_at(breaks: &[f64], i: usize) -> f64
     1.0 - breaks[breaks.len() - (i + 1)]
 }
 
-// Whether they rise strictly.
+// Whether they rise strictly: those that are below the next are counted, since a loop that may end early is
+// not vectorised.
 pub fn rise_back(breaks: &[f64]) -> bool
     ensures { result ≡ rises_back breaks.now }
 {
-    for i in 0..breaks.len().saturating_sub(1) {
-        let rises = break_at(breaks, i) < break_at(breaks, i + 1);
-        if !rises {
-            return false;
-        }
+    let last = breaks.len().saturating_sub(1);
+    let mut below = 0;
+    for i in 0..last {
+        below += one_if(break_at(breaks, i) < break_at(breaks, i + 1));
     }
-    true
+    below == last
 }
 
 // All of them, to the first cells.
