@@ -1,11 +1,11 @@
-use Rattle.std.proofs.Common.{◌≡◌, true, false, not, List, map, refl, sym, ap, subst, ◌∙◌, arith}
+use Rattle.std.proofs.Common.{◌≡◌, true, false, not, List, map, refl, ap, subst, ◌∙◌, arith}
 use lib.IntN.{ℤ}
 use lib.ListN.{length-map}
 use Rattle.arith.specs.First.{first_of}
 use Rattle.arith.proofs.Firsts.{every_all, every_not}
 use Rattle.lane_file.specs.Curves.{number_of}
 use Rattle.heights.specs.Height.{height_of}
-use Rattle.heights.specs.Controls.{controls_on, segment_fits, any_beyond, all_fit}
+use Rattle.heights.specs.Controls.{segment_fits, all_fit}
 use Rattle.heights.specs.Sets.{set_with}
 use Rattle.heights.proofs.Placed.{segment_inside}
 use Rattle.lane_totals.specs.Lanes.{lane_over, step_totals}
