@@ -207,4 +207,4 @@ returns c = rw (
   ← c.position-place.ensures,
   lt-ltb _ _
       c.if-k-place.false,
-) (c.answer.ensures ∙ ap (outcome 0) c.walk.ensures)
+) (ap (outcome 0) c.walk.ensures)
