@@ -1,5 +1,5 @@
 -- How the steps of `compute` follow one another.
-use mathlib.Core.Path.{◌≡◌, refl, sym, ap, subst, ◌∙◌}
+use mathlib.Core.Path.{◌≡◌, refl, sym, ap, ◌∙◌}
 use mathlib.Core.Bool.{Bool, true, false, cond}
 use mathlib.Core.List.{List, ◌++◌, append-nil}
 use Prim.Native.Nat.{ℕ, ◌+◌, ◌-◌, ◌*◌, ◌≤◌, ◌<◌}
@@ -12,7 +12,10 @@ use Rattle.window.proofs.Windows.{window_before}
 use Rattle.bspline.specs.Segments.{Polynomial}
 use Rattle.request.specs.Parameters.{unreliable}
 use Rattle.smoothing.specs.Answer.{Answer, and_then}
-use Rattle.smoothing.specs.Answer.Answer.{done, refused, exhausted}
+use Rattle.smoothing.specs.Answer.Answer.{done, refused}
+use Rattle.smoothing.specs.Refusal.{refused_by}
+use Rattle.smoothing.specs.declared.refusal.Refusal.{Refusal}
+use Rattle.smoothing.proofs.Refused.{stops_there}
 use Rattle.smoothing.specs.Request.{Limits}
 use Rattle.smoothing.specs.Checks.{overflows}
 use Rattle.smoothing.specs.Rows.{Task, Units}
@@ -21,11 +24,9 @@ use Rattle.smoothing.specs.Build.{selected_of}
 use Rattle.checks.specs.Checks.{refusal_after}
 use Rattle.refinement.specs.declared.plan.Plan.{Plan}
 use Rattle.refinement.specs.Memory.{Roomy, cells_of, breaks_place, coefficients_place, memory_at, sized}
-use Rattle.selected_axes.specs.declared.course.Ending.{Ending}
-use Rattle.selected_axes.specs.declared.course.Ending.TheVariants.{Done, Refused, Exhausted}
-use Rattle.selected_axes.specs.Selected.{selected_in, ending_of}
+use Rattle.selected_axes.specs.Selected.{selected_in}
 use Rattle.work_slice.proofs.Copying.{spans_fit}
-use Rattle.building.specs.Computed.{Both, both, both_from, with_other, computed_of, ended_in}
+use Rattle.building.specs.Computed.{both, both_from, with_other, computed_of}
 
 -- ---- 6 and 7
 module _ (list : List Float) (m : Limits) (q : Task) (u : Units) (o : Answer (Polynomial Float)) (r : ℕ)
@@ -48,47 +49,15 @@ module _ (list : List Float) (m : Limits) (q : Task) (u : Units) (o : Answer (Po
       go false true g = let z : ◌≡◌ {A = ℕ} 0 7 = sym h ∙ g in absurd (omega arith)
       go false false g = refl
 
--- ---- the selected axes: what their ending makes of the rest
-module _ (m : Limits) (q : Task) (u : Units) (o : Answer (Polynomial Float)) (a : Ending) (x : Selected)
-    (h : ending_of a x ≡ selected_of m q u) where
-  both_is : (b : Ending) → a ≡ b → both_from m q u o ≡ and_then (ending_of b x) (λ y. with_other y o)
+-- ---- the selected axes, or their refusal
+module _ (m : Limits) (q : Task) (u : Units) (o : Answer (Polynomial Float)) where
+  pub both_done : (x : Selected) → done x ≡ selected_of m q u → with_other x o ≡ both_from m q u o
+  unfolding both_from and_then
+  both_done x h = ap (λ (s : Answer Selected). and_then s (λ y. with_other y o)) h
+
+  pub both_refused : (e : Refusal) → refused_by e ≡ selected_of m q u → refused_by e ≡ both_from m q u o
   unfolding both_from
-  both_is b e = ap (λ (s : Answer Selected). and_then s (λ y. with_other y o)) (sym h ∙ ap (λ (b : Ending). ending_of b x) e)
-
-  pub both_done : a ≡ Done → both_from m q u o ≡ with_other x o
-  unfolding and_then
-  both_done e = both_is Done e
-
-  pub both_refused : (n : ℕ) → a ≡ Refused n → both_from m q u o ≡ refused n
-  unfolding and_then
-  both_refused n e = both_is (Refused n) e
-
-  pub both_exhausted : (w : Float) → a ≡ Exhausted w → both_from m q u o ≡ exhausted w
-  unfolding and_then
-  both_exhausted w e = both_is (Exhausted w) e
-
--- ---- the ending in hand
-pub ended_done : (a : Ending) (x : Both) → a ≡ Done → ended_in a x ≡ done x
-unfolding ended_in
-ended_done a x e = ap (λ (b : Ending). ended_in b x) e
-
-pub ended_refused : (a : Ending) (x : Both) (n : ℕ) → a ≡ Refused n → ended_in a x ≡ refused n
-unfolding ended_in
-ended_refused a x n e = ap (λ (b : Ending). ended_in b x) e
-
-pub ended_exhausted : (a : Ending) (x : Both) (w : Float) → a ≡ Exhausted w → ended_in a x ≡ exhausted w
-unfolding ended_in
-ended_exhausted a x w e = ap (λ (b : Ending). ended_in b x) e
-
--- two endings are not one
-NotDone : Ending → Type 0
-NotDone Done = ⊥
-NotDone (Refused n) = Unit
-NotDone (Exhausted x) = Unit
-
-pub refused_not_done : (a : Ending) (n : ℕ) → a ≡ Refused n → a ≡ Done → ⊥
-unfolding NotDone
-refused_not_done a n e h = subst NotDone (sym e ∙ h) tt
+  both_refused e h = stops_there e (selected_of m q u) (λ y. with_other y o) h
 
 -- ---- the other axes
 module _ (x : Selected) (o : Answer (Polynomial Float)) where

@@ -14,6 +14,14 @@ use Rattle.window.proofs.Windows.{length_window}
 use Rattle.bspline.specs.Segments.{Polynomial}
 use Rattle.curve.specs.declared.Mode.{Mode}
 use Rattle.smoothing.specs.Answer.{Answer, and_then}
+use Rattle.smoothing.specs.declared.refusal.Refusal.TheVariants.{InitialSegments, Unsolved, Unaudited, RefinementsUsedUp, SegmentsUsedUp, BadMidpoint, ErrorAboveTolerance}
+use Rattle.smoothing.proofs.Refused.{then_refused}
+use Rattle.checks.specs.Checks as checking
+use Rattle.normal.specs.Solve as solving
+use Rattle.polynomial.specs.Outcome as audits
+use Rattle.curve.specs.Form.{no_curve}
+use Rattle.building.specs.declared.answers.Refusal.{Refusal}
+use Rattle.building.specs.declared.answers.Refusal.TheVariants.{Input, Stage}
 use Rattle.smoothing.specs.Answer.Answer.{done, refused, exhausted}
 use Rattle.smoothing.specs.Request.{Lane, Limits, lane_parameters}
 use Rattle.smoothing.specs.Checks.{refusal_of}
@@ -24,17 +32,48 @@ use Rattle.smoothing.proofs.Accepted.{refused_done}
 use Rattle.smoothing.proofs.Refusals.{selected_refused, other_refused, refusal_most}
 use Rattle.refinement.specs.declared.plan.Plan.{Plan}
 use Rattle.refinement.specs.Memory.{cells_of, breaks_place, memory_at, sized}
-use Rattle.building.specs.declared.Report.{Report}
 use Rattle.building.specs.declared.entry.Run.{Run}
 use Rattle.interpolation.specs.declared.Nodes.{Nodes}
 use Rattle.interpolation.specs.Memory.{breaks_place as other_breaks_place, polynomial_in}
-use Rattle.building.specs.Outcome.{report_of, Results, results_after, work_after}
+use Rattle.building.specs.Outcome.{refused_by, report_of, reported, curve_after, Results, results_after, work_after}
 use Rattle.building.specs.Computed.{Both, both, both_from, with_other, selected_at, other_at}
 use Rattle.building.specs.Answered.{checked_both, plan_of, BothPlaced, report_in, curve_in, results_from}
 
--- equal numbers, one refusal
-pub is : (n m : ℕ) → n ≡ m → ◌≡◌ {A = Answer Report} (refused n) (refused m)
-is n m e = ap refused e
+-- ---- a refusal of the code, and the definition's answer
+pub turned_then : {A B : Type 0} (e : Refusal) (f : A → Answer B) → and_then (refused_by e) f ≡ refused_by e
+unfolding and_then
+turned_then (Input e) f = refl
+turned_then (Stage e) f = then_refused e f
+
+-- what holds of 14 and of each number holds of it
+any_refused : {A : Type 0} (P : Answer A → Type 0) → ((n : ℕ) → P (refused n)) → ((x : Float) → P (exhausted x)) → (e : Refusal) → P (refused_by e)
+any_refused P f g (Input e) = f (checking.refusal_number e)
+any_refused P f g (Stage InitialSegments) = f 8
+any_refused P f g (Stage (Unsolved e)) = f (solving.refusal_number e)
+any_refused P f g (Stage (Unaudited e)) = f (audits.refusal_number e)
+any_refused P f g (Stage (RefinementsUsedUp x)) = g x
+any_refused P f g (Stage SegmentsUsedUp) = f 15
+any_refused P f g (Stage BadMidpoint) = f 16
+any_refused P f g (Stage ErrorAboveTolerance) = f 17
+
+pub told_refused : (e : Refusal) → refused_by e ≡ reported (refused_by e)
+unfolding reported
+told_refused (Input e) = refl
+told_refused (Stage InitialSegments) = refl
+told_refused (Stage (Unsolved e)) = refl
+told_refused (Stage (Unaudited e)) = refl
+told_refused (Stage (RefinementsUsedUp x)) = refl
+told_refused (Stage SegmentsUsedUp) = refl
+told_refused (Stage BadMidpoint) = refl
+told_refused (Stage ErrorAboveTolerance) = refl
+
+pub curve_refused : (e : Refusal) (mode : Mode) (d : ℕ) → no_curve mode ≡ curve_after mode d (refused_by e)
+unfolding curve_after
+curve_refused e mode d = any_refused (λ a. no_curve mode ≡ curve_after mode d a) (λ n. refl) (λ x. refl) e
+
+pub results_refused : (e : Refusal) (s : Results) → s ≡ results_after (refused_by e) s
+unfolding results_after
+results_refused e s = any_refused (λ a. s ≡ results_after a s) (λ n. refl) (λ x. refl) e
 
 -- ---- the result is put together last
 module _ (l : Lane) (m : Limits) where
@@ -66,13 +105,8 @@ module _ (l : Lane) (m : Limits) where
   unfolding and_then
   both_done s p = checked_is (done (both s p))
 
-  pub both_refused : (n : ℕ) → checked_both l m ≡ refused n → checked_of l m ≡ refused n
-  unfolding and_then
-  both_refused n = checked_is (refused n)
-
-  pub both_exhausted : (w : Float) → checked_both l m ≡ exhausted w → checked_of l m ≡ exhausted w
-  unfolding and_then
-  both_exhausted w = checked_is (exhausted w)
+  pub both_turned : (e : Refusal) → refused_by e ≡ checked_both l m → refused_by e ≡ checked_of l m
+  both_turned e h = sym (turned_then e told) ∙ ap (λ (x : Answer Both). and_then x told) h ∙ sym checked_both_law
 
   -- ---- the numbers that it refuses with
   abbrev Known : ℕ → Type 0

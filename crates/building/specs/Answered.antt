@@ -1,25 +1,25 @@
 -- The answer of `build`'s definition to the arguments of the code; and its part from the check 1 on, before the result is put together.
-use Rattle.std.specs.Prelude.{◌≡◌, ℕ, ◌+◌, ◌-◌, ◌*◌, ◌≤◌, ◌<◌, max, cond, List, eqb, length, get_or, take, Float}
+use Rattle.std.specs.Prelude.{◌≡◌, ℕ, ◌+◌, ◌-◌, ◌*◌, ◌≤◌, ◌<◌, max, cond, List, eqb, length, get_or, take, Float, Result as Tried, Ok, Err, IfOk}
 use Rattle.window.specs.Rows.{list_of}
 use Rattle.request.specs.declared.parameters.Spacing.TheVariants.{Listed}
 use Rattle.curve.specs.declared.Curve.{Curve}
 use Rattle.curve.specs.declared.Mode.{Mode}
 use Rattle.curve.specs.Form.{with_widths}
 use Rattle.smoothing.specs.Answer.{Answer}
-use Rattle.smoothing.specs.Answer.Answer.{refused}
+use Rattle.smoothing.specs.Answer.Answer.{done, refused}
 use Rattle.smoothing.specs.Request.{Lane, Limits, axis_count, smoothed_axes}
 use Rattle.smoothing.specs.Checks.{refusal_of}
 use Rattle.smoothing.specs.Rows.{lane_task, lane_units, other_axes}
 use Rattle.smoothing.specs.Build.{Result, other_of, build_in}
 use Rattle.refinement.specs.declared.plan.Plan.{Plan}
 use Rattle.refinement.specs.Memory.{Roomy, cells_of, memory_at, sized}
-use Rattle.selected_axes.specs.declared.course.Ending.TheVariants.{Done}
 use Rattle.building.specs.declared.Report.{Report}
+use Rattle.building.specs.declared.answers.Refusal.{Refusal}
 use Rattle.building.specs.declared.compute.Computed.{Computed}
 use Rattle.building.specs.declared.entry.Run.{Run}
 use Rattle.window.specs.Cells.{onto}
-use Rattle.building.specs.Outcome.{Results, results, lengths_of}
-use Rattle.building.specs.Computed.{Both, both_from, computed_in, other_at}
+use Rattle.building.specs.Outcome.{refused_by, Results, results, lengths_of}
+use Rattle.building.specs.Computed.{Both, both, both_from, selected_at, other_at}
 
 -- a request in lent slices
 abbrev pub answer_to : Lane → Limits → List Float → Results → Answer Result
@@ -34,9 +34,11 @@ checked_both l m =
 abbrev pub plan_of : Lane → Limits → Plan
 plan_of l m = record { axes = axis_count l; samples = l.n; room = max l.n m.segments + 16; count = 6 }
 
--- what the code computed, where it lies
-abbrev pub run_in : Lane → Limits → Run → List Float → Answer Both
-run_in l m r w = computed_in (plan_of l m) (length (other_axes l)) r.computed w
+-- what the code computed, where it lies, or its refusal
+abbrev pub run_in : Lane → Limits → Tried Run Refusal → List Float → Answer Both
+run_in l m (Ok r) w =
+    done (both (selected_at (plan_of l m) r.computed w) (other_at (plan_of l m) (length (other_axes l)) r.computed w))
+run_in l m (Err e) w = refused_by e
 
 -- the result slices once the selected axes of the plan p and j other axes are written to their first cells
 abbrev pub results_from : Plan → ℕ → Computed → List Float → Results → Results
@@ -90,9 +92,9 @@ pub record BothPlaced (l : Lane) (m : Limits) (r : Run) (cells : ℕ) : Type 0 w
   pub others_few : r.computed.other_segments < l.n
 
 -- the run of a lane
-pub record Ran (l : Lane) (m : Limits) (r : Run) (w : List Float) : Type 0 where
+pub record Ran (l : Lane) (m : Limits) (r : Tried Run Refusal) (w : List Float) : Type 0 where
   pub is : run_in l m r w ≡ checked_both l m
-  pub places : r.computed.ending ≡ Done → BothPlaced l m r (length w)
+  pub places : IfOk r (λ run. BothPlaced l m run (length w))
 
 -- the report and the curve that the code makes of a run
 abbrev pub report_in : Run → Report

@@ -1,9 +1,9 @@
 -- What is computed once the checks 1 to 5 and 26 let a request through: 6 and 7, the selected axes, then the other axes, over the work slice.
-use Rattle.std.specs.Prelude.{ℕ, cond, List, drop, take, Float}
+use Rattle.std.specs.Prelude.{ℕ, cond, List, drop, take, Float, Result, Ok, Err}
 use Rattle.bspline.specs.Segments.{Polynomial}
 use Rattle.request.specs.Parameters.{unreliable}
 use Rattle.smoothing.specs.Answer.{Answer, and_then}
-use Rattle.smoothing.specs.Answer.Answer.{done, refused, exhausted}
+use Rattle.smoothing.specs.Answer.Answer.{done, refused}
 use Rattle.smoothing.specs.Request.{Limits}
 use Rattle.smoothing.specs.Checks.{overflows}
 use Rattle.smoothing.specs.Rows.{Task, Units}
@@ -12,11 +12,11 @@ use Rattle.smoothing.specs.Build.{selected_of}
 use Rattle.refinement.specs.declared.plan.Plan.{Plan}
 use Rattle.refinement.specs.Memory.{cells_of, memory_at, sized}
 use Rattle.running_report.specs.Counted.{counts_of}
-use Rattle.selected_axes.specs.declared.course.Ending.{Ending}
-use Rattle.selected_axes.specs.declared.course.Ending.TheVariants.{Done, Refused, Exhausted}
 use Rattle.selected_axes.specs.declared.course.Smoothed.{Smoothed}
 use Rattle.work_slice.specs.Rows.{other_in}
+use Rattle.building.specs.declared.answers.Refusal.{Refusal}
 use Rattle.building.specs.declared.compute.Computed.{Computed}
+use Rattle.building.specs.Outcome.{refused_by}
 use Rattle.selected_axes.specs.Selected.{selected_in}
 
 -- the selected axes and the other axes
@@ -42,11 +42,6 @@ computed_of parameters m q u o =
     let checked = cond (overflows q) (refused 7) rest in
     cond (unreliable parameters q.n) (refused 6) checked
 
-unfoldable pub ended_in : Ending → Both → Answer Both
-ended_in Done x = done x
-ended_in (Refused n) x = refused n
-ended_in (Exhausted w) x = exhausted w
-
 -- the selected axes that the slice holds by the plan p, once they are done
 abbrev pub smoothed_at : Plan → Smoothed → List Float → Selected
 smoothed_at p r w = selected_in (sized p r.count) (take p.axes r.errors) (counts_of r.report) (memory_at (sized p r.count) w)
@@ -59,6 +54,7 @@ selected_at p r w = selected_in (sized p r.count) (take p.axes r.errors) (counts
 abbrev pub other_at : Plan → ℕ → Computed → List Float → Polynomial Float
 other_at p j r w = other_in p.samples j p.room r.other_segments (drop (cells_of p) w)
 
--- what the code computed: its ending, with both polynomials where they lie
-abbrev pub computed_in : Plan → ℕ → Computed → List Float → Answer Both
-computed_in p j r w = ended_in r.ending (both (selected_at p r w) (other_at p j r w))
+-- what the code computed: both polynomials where they lie, or its refusal
+abbrev pub computed_in : Plan → ℕ → Result Computed Refusal → List Float → Answer Both
+computed_in p j (Ok r) w = done (both (selected_at p r w) (other_at p j r w))
+computed_in p j (Err e) w = refused_by e

@@ -10,8 +10,12 @@ use Rattle.smoothing.specs.Checks.{Room}
 use Rattle.smoothing.specs.Build.{Result, curve_of}
 use Rattle.building.specs.declared.Report.{Report}
 use Rattle.checks.specs.Checks.{room_of}
+use Rattle.checks.specs.Checks as checking
+use Rattle.smoothing.specs.Refusal as stages
 use Rattle.building.specs.declared.Answer.{Answer}
 use Rattle.building.specs.declared.Answer.TheVariants.{Accepted, BadPoints, NoAxes, BadAxes, BadTolerance, BadParameters, BadRange, Overflow, InitialSegments, BadDiagonal, BadPivot, BadSolution, NotAbove, NotFinite, RefinementsUsedUp, SegmentsUsedUp, BadMidpoint, ErrorAboveTolerance, AboveDomain, ShortSlice, PointCells, ToleranceTooFine}
+use Rattle.building.specs.declared.answers.Refusal.{Refusal}
+use Rattle.building.specs.declared.answers.Refusal.TheVariants.{Input, Stage}
 
 -- the number of each refusal, document 01's and document 02's; 14 with its ratio; the report of an accepted request
 abbrev pub outcome_of : Answer → answers.Answer Report
@@ -37,6 +41,11 @@ outcome_of AboveDomain = refused 18
 outcome_of ShortSlice = refused 19
 outcome_of PointCells = refused 20
 outcome_of ToleranceTooFine = refused 26
+
+-- a refusal: its number alone, but 14 carries its ratio
+abbrev pub refused_by : {A : Type 0} → Refusal → answers.Answer A
+refused_by (Input e) = refused (checking.refusal_number e)
+refused_by (Stage e) = stages.refused_by e
 
 -- `SmoothingReport`, whose errors go to their slice
 abbrev pub report_of : Result → Report

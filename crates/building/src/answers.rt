@@ -1,10 +1,51 @@
-// Answers and the numbers of documents 01 and 02.
-ghost use Rattle.std.specs.Prelude.{◌≡◌, ◌≤◌, ◌<◌};
+// Refusals and answers, and the numbers of documents 01 and 02.
+ghost use Rattle.std.specs.Prelude.{◌≡◌};
 ghost use Rattle.smoothing.specs.Answer.{number_of};
+ghost use Rattle.smoothing.specs.declared.refusal.Refusal.TheVariants.{Unsolved as NoSolution};
+ghost use Rattle.building.specs.declared.answers.Refusal.{Refusal};
+ghost use Rattle.normal.specs.Solve as solving;
+ghost use Rattle.polynomial.specs.Outcome as audits;
 ghost use Rattle.smoothing.specs.Answer.Answer.{refused};
-ghost use Rattle.building.specs.Outcome.{outcome_of};
+ghost use Rattle.smoothing.specs.Refusal as stages;
+ghost use Rattle.checks.specs.Checks.{refusal_number};
+ghost use Rattle.building.specs.Outcome.{outcome_of, refused_by};
 
 use crate::Answer;
+use normal::Unsolved;
+use polynomial::interval::Unaudited;
+
+// Why a request is refused: a check turned it away, or a stage did.
+#[derive(Clone, Copy, Debug)]
+pub enum Refusal {
+    // 1 to 7, 18, 19, 20 and 26.
+    Input(checks::Refusal),
+    // 8 to 17; 14 carries the worst ratio of error to tolerance.
+    Stage(smoothing::Refusal),
+}
+
+impl From<checks::Refusal> for Refusal {
+    ghost from_gives = { λ e r. r ≡ Refusal.Input e };
+
+    fn from(e: checks::Refusal) -> Refusal {
+        Refusal::Input(e)
+    }
+}
+
+impl From<smoothing::Refusal> for Refusal {
+    ghost from_gives = { λ e r. r ≡ Refusal.Stage e };
+
+    fn from(e: smoothing::Refusal) -> Refusal {
+        Refusal::Stage(e)
+    }
+}
+
+impl From<Unsolved> for Refusal {
+    ghost from_gives = { λ e r. r ≡ Refusal.Stage (NoSolution e) };
+
+    fn from(e: Unsolved) -> Refusal {
+        Refusal::Stage(smoothing::Refusal::Unsolved(e))
+    }
+}
 
 // The number of an answer, 0 where it is accepted.
 pub fn number(answer: Answer) -> u64
@@ -36,63 +77,67 @@ pub fn number(answer: Answer) -> u64
     }
 }
 
-// The refusals by the checks 1 to 7, those up to the first audit, and the later ones, by document 01's number.
-fn input_refusal(number: usize) -> Answer
-    requires { (1 ≤ number) × (number ≤ 7) }
-    ensures { outcome_of result ≡ refused number }
+// The answer that a check turned the request away.
+fn turned_away(e: checks::Refusal) -> Answer
+    ensures { outcome_of result ≡ refused (refusal_number e) }
 {
-    match number {
-        1 => Answer::BadPoints,
-        2 => Answer::NoAxes,
-        3 => Answer::BadAxes,
-        4 => Answer::BadTolerance,
-        5 => Answer::BadParameters,
-        6 => Answer::BadRange,
-        _ => Answer::Overflow,
+    match e {
+        checks::Refusal::BadPoints => Answer::BadPoints,
+        checks::Refusal::NoAxes => Answer::NoAxes,
+        checks::Refusal::BadAxes => Answer::BadAxes,
+        checks::Refusal::BadTolerance => Answer::BadTolerance,
+        checks::Refusal::BadParameters => Answer::BadParameters,
+        checks::Refusal::BadRange => Answer::BadRange,
+        checks::Refusal::Overflow => Answer::Overflow,
+        checks::Refusal::AboveDomain => Answer::AboveDomain,
+        checks::Refusal::ShortSlice => Answer::ShortSlice,
+        checks::Refusal::PointCells => Answer::PointCells,
+        checks::Refusal::ToleranceTooFine => Answer::ToleranceTooFine,
     }
 }
 
-fn fit_refusal(number: usize) -> Answer
-    requires { (8 ≤ number) × (number ≤ 13) }
-    ensures { outcome_of result ≡ refused number }
+// That a system had no solution.
+fn unsolved(e: Unsolved) -> Answer
+    ensures { outcome_of result ≡ refused (solving.refusal_number e) }
 {
-    match number {
-        8 => Answer::InitialSegments,
-        9 => Answer::BadDiagonal,
-        10 => Answer::BadPivot,
-        11 => Answer::BadSolution,
-        12 => Answer::NotAbove,
-        _ => Answer::NotFinite,
+    match e {
+        Unsolved::BadDiagonal => Answer::BadDiagonal,
+        Unsolved::BadPivot => Answer::BadPivot,
+        Unsolved::BadSolution => Answer::BadSolution,
     }
 }
 
-fn late_refusal(number: usize) -> Answer
-    requires { (15 ≤ number) × (number ≤ 20) }
-    ensures { outcome_of result ≡ refused number }
+// That an audit ended early.
+fn unaudited(e: Unaudited) -> Answer
+    ensures { outcome_of result ≡ refused (audits.refusal_number e) }
 {
-    match number {
-        15 => Answer::SegmentsUsedUp,
-        16 => Answer::BadMidpoint,
-        17 => Answer::ErrorAboveTolerance,
-        18 => Answer::AboveDomain,
-        19 => Answer::ShortSlice,
-        _ => Answer::PointCells,
+    match e {
+        Unaudited::NotAbove => Answer::NotAbove,
+        Unaudited::NotFinite => Answer::NotFinite,
     }
 }
 
-// The refusal with document 01's number, or document 02's.
-pub(crate) fn refusal(number: usize) -> Answer
-    requires { (1 ≤ number) × (number ≡ 14 → ⊥) × (20 < number → number ≡ 26) }
-    ensures { outcome_of result ≡ refused number }
+// That a stage refused.
+fn stopped(e: smoothing::Refusal) -> Answer
+    ensures { outcome_of result ≡ stages.refused_by e }
 {
-    if number < 8 {
-        return input_refusal(number);
+    match e {
+        smoothing::Refusal::InitialSegments => Answer::InitialSegments,
+        smoothing::Refusal::Unsolved(e) => unsolved(e),
+        smoothing::Refusal::Unaudited(e) => unaudited(e),
+        smoothing::Refusal::RefinementsUsedUp(ratio) => Answer::RefinementsUsedUp(ratio),
+        smoothing::Refusal::SegmentsUsedUp => Answer::SegmentsUsedUp,
+        smoothing::Refusal::BadMidpoint => Answer::BadMidpoint,
+        smoothing::Refusal::ErrorAboveTolerance => Answer::ErrorAboveTolerance,
     }
-    if number < 14 {
-        return fit_refusal(number);
+}
+
+// The answer of a refusal.
+pub(crate) fn answer_of(e: Refusal) -> Answer
+    ensures { outcome_of result ≡ refused_by e }
+{
+    match e {
+        Refusal::Input(e) => turned_away(e),
+        Refusal::Stage(e) => stopped(e),
     }
-    if 20 < number {
-        return Answer::ToleranceTooFine;
-    }
-    late_refusal(number)
 }

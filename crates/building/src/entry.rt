@@ -1,24 +1,23 @@
 // `build`: a request smoothed from end to end.
 ghost use Rattle.std.specs.Prelude.{◌≡◌, cond, eqb, ◌+◌, ◌-◌, ◌*◌, ◌≤◌, ◌<◌, max, length};
-ghost use Rattle.selected_axes.specs.declared.course.Ending.TheVariants.{Refused};
 ghost use Rattle.checks.specs.Request.{limits_of, lane_of};
 ghost use Rattle.checks.specs.Checks.{refusal_before};
 ghost use Rattle.request.specs.declared.parameters.Spacing.TheVariants.{Listed};
 ghost use Rattle.request.specs.Parameters.{parameter_list};
 ghost use Rattle.window.specs.Cells.{at};
-ghost use Rattle.smoothing.specs.Answer.Answer.{done, refused};
+ghost use Rattle.smoothing.specs.Answer.Answer.{done};
 ghost use Rattle.smoothing.specs.Build.{checked_of};
 ghost use Rattle.curve.specs.Form.{no_curve};
-ghost use Rattle.building.specs.Outcome.{outcome_of, reported, curve_after, results, results_after, work_after};
+ghost use Rattle.building.specs.Outcome.{outcome_of, refused_by, reported, curve_after, results, results_after, work_after};
 ghost use Rattle.building.specs.Answered.{answer_to, Domain, Fitting, Ran, Writable, results_from, report_in, curve_in};
 
+use crate::answers::Refusal;
 use crate::compute::Computed;
 use crate::{Answer, Report, answers, compute};
 use checks::{Request, Room, choices, refusals};
 use curve::form::no_curve;
 use curve::{Curve, Mode};
 use refinement::plan::Plan;
-use selected_axes::course::Ending;
 
 // E of document 01: room for the waypoints and for the segments.
 fn room_of(n: usize, segments: usize) -> usize
@@ -37,21 +36,8 @@ pub struct Run {
     pub computed: Computed,
 }
 
-// A run that ended at a check.
-fn stopped(number: usize) -> Run
-    ensures { result.computed.ending ≡ Refused number }
-{
-    let computed = compute::ended(Ending::Refused(number));
-    Run {
-        axes: [0; 16],
-        k: 0,
-        j: 0,
-        computed,
-    }
-}
-
 // What is computed once the checks 1 to 5 and 26 let the request through.
-fn gather(r: &Request, work: &mut [f64]) -> Run
+fn gather(r: &Request, work: &mut [f64]) -> Result<Run, Refusal>
     requires domain { Domain r.now.d r.now.n (limits_of r.now.limits) (length r.now.points.now) (length work.old) }
     requires points_value { refusal_before (lane_of r.now) ≡ 0 }
     ensures { Ran (lane_of r.now) (limits_of r.now.limits) result work.new }
@@ -67,23 +53,21 @@ fn gather(r: &Request, work: &mut [f64]) -> Run
         room,
         count: 6,
     };
-    let computed = compute::compute(work, p, r, &chosen, &eps, &rest);
-    Run {
+    let computed = compute::compute(work, p, r, &chosen, &eps, &rest)?;
+    Ok(Run {
         axes: chosen.axes,
         k,
         j: rest.count,
         computed,
-    }
+    })
 }
 
 // The checks from 1 on, and all that is computed, in the work slice alone.
-fn checked(r: &Request, work: &mut [f64]) -> Run
+fn checked(r: &Request, work: &mut [f64]) -> Result<Run, Refusal>
     requires { Domain r.now.d r.now.n (limits_of r.now.limits) (length r.now.points.now) (length work.old) }
     ensures { Ran (lane_of r.now) (limits_of r.now.limits) result work.new }
 {
-    if let Err(refusal) = refusals::refusal_before(r) {
-        return stopped(refusal.number());
-    }
+    refusals::refusal_before(r)?;
     gather(r, work)
 }
 
@@ -94,13 +78,13 @@ pub struct Built {
     pub curve: Curve,
 }
 
-fn refuse(number: usize, mode: Mode) -> Built
-    requires { (1 ≤ number) × (number ≡ 14 → ⊥) × (20 < number → number ≡ 26) }
-    ensures { (outcome_of result.answer ≡ refused number) × (result.curve ≡ no_curve mode) }
+fn refuse(e: Refusal, mode: Mode) -> Built
+    ensures { (outcome_of result.answer ≡ refused_by e) × (result.curve ≡ no_curve mode) }
 {
-    let answer = answers::refusal(number);
-    let curve = no_curve(mode);
-    Built { answer, curve }
+    Built {
+        answer: answers::answer_of(e),
+        curve: no_curve(mode),
+    }
 }
 
 // Both polynomials and the errors, from the work slice to the result slices.
@@ -196,22 +180,18 @@ fn finish(
         (results breaks.old coefficients.old other_breaks.old other_coefficients.old
         errors.old) }
 {
-    let run = checked(r, work);
-    let c = run.computed;
-    let ending = c.ending;
-    match ending {
-        Ending::Done => {
-            let room = room_of(r.n, r.limits.segments);
+    match checked(r, work) {
+        Ok(made) => {
             let p = Plan {
-                axes: run.k,
+                axes: made.k,
                 samples: r.n,
-                room,
-                count: c.count,
+                room: room_of(r.n, r.limits.segments),
+                count: made.computed.count,
             };
             write_results(
                 p,
-                run.j,
-                c,
+                made.j,
+                made.computed,
                 work,
                 breaks,
                 coefficients,
@@ -219,16 +199,9 @@ fn finish(
                 other_coefficients,
                 errors,
             );
-            accept(run, r, mode)
+            accept(made, r, mode)
         }
-        Ending::Refused(number) => refuse(number, mode),
-        Ending::Exhausted(ratio) => {
-            let curve = no_curve(mode);
-            Built {
-                answer: Answer::RefinementsUsedUp(ratio),
-                curve,
-            }
-        }
+        Err(e) => refuse(e, mode),
     }
 }
 
@@ -275,7 +248,7 @@ pub fn build(
         errors: errors.len(),
     };
     if let Err(refusal) = refusals::refusal_first(r, room) {
-        return refuse(refusal.number(), mode);
+        return refuse(Refusal::Input(refusal), mode);
     }
     let built = finish(
         r,

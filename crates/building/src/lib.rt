@@ -2,7 +2,7 @@
 // written to the results.
 #![tactic(auto)]
 
-mod answers; // answers.rt: answers and document 01's numbers
+pub mod answers; // answers.rt: refusals, answers and document 01's numbers
 pub mod compute; // compute.rt: what is computed once the checks let a request through
 pub mod entry; // entry.rt: all of it
 

@@ -1,18 +1,14 @@
 -- The start, the rounds and the finish, one after the other.
-use mathlib.Core.Path.{◌≡◌, refl, sym, ap, ◌∙◌}
-use Prim.Native.Nat.{ℕ, ◌+◌, ◌-◌, ◌*◌, ◌≤◌, ◌<◌}
+use mathlib.Core.Path.{◌≡◌, sym, ap, ◌∙◌}
+use Prim.Native.Nat.{◌+◌, ◌-◌, ◌*◌, ◌≤◌}
 use native.Mathlib.Omega.{arith}
 use native.Mathlib.Nat.{mul-le-mul}
-use borrow.Author.Tests.{ne_eqb}
-use lib.ListN.{length, take}
-use mathlib.Core.List.{List}
-use lib.Ieee.{Float}
-use Rattle.smoothing.specs.Answer.{Answer, and_then, unless}
-use Rattle.smoothing.specs.Answer.Answer.{done, refused}
+use lib.ListN.{length}
+use Rattle.smoothing.specs.Answer.{Answer, and_then}
+use Rattle.smoothing.specs.Answer.Answer.{done}
 use Rattle.smoothing.specs.Refusal.{refused_by}
 use Rattle.smoothing.specs.declared.refusal.Refusal.{Refusal}
-use Rattle.smoothing.specs.declared.refusal.Refusal.TheVariants.{InitialSegments, Unsolved, Unaudited, RefinementsUsedUp, SegmentsUsedUp, BadMidpoint, ErrorAboveTolerance}
-use Rattle.smoothing.proofs.Refused.{then_refused}
+use Rattle.smoothing.proofs.Refused.{then_refused, stops_there}
 use Rattle.smoothing.specs.Request.{Limits}
 use Rattle.smoothing.specs.Rows.{Task, Units}
 use Rattle.smoothing.specs.State.{State}
@@ -22,33 +18,14 @@ use Rattle.smoothing.specs.Finish.{Selected, finish_of}
 use Rattle.smoothing.specs.Build.{selected_of}
 use Rattle.smoothing.proofs.Sizes.{Within, start_within, refine_within}
 use Rattle.smoothing.proofs.Tallies.{course_counts}
-use Rattle.refinement.specs.declared.plan.Plan.{Plan}
-use Rattle.refinement.specs.Memory.{memory_at, sized}
-use Rattle.running_report.specs.Counted.{counts_of}
-use Rattle.selected_axes.specs.declared.course.Ending.{Ending}
-use Rattle.selected_axes.specs.declared.course.Ending.TheVariants.{Done, Refused, Exhausted}
-use Rattle.selected_axes.specs.declared.course.Smoothed.{Smoothed}
-use Rattle.selected_axes.specs.Selected.{selected_in, ending_of, ending_by, answer_in}
-
--- ---- the answer
-pub unless_refused : {A : Type 0} (number : ℕ) (a : A) (whole : Answer A) → 0 < number → unless number a ≡ whole → refused number ≡ whole
-unfolding unless
-unless_refused number a whole l e =
-    let b = ne_eqb number 0 (λ e. omega arith) in
-    let v : unless number a ≡ refused number = rw b in
-    sym v ∙ e
-
-pub unless_zero : {A : Type 0} (number : ℕ) (a : A) (whole : Answer A) → number ≡ 0 → unless number a ≡ whole → done a ≡ whole
-unfolding unless
-unless_zero number a whole z e = sym (ap (λ (i : ℕ). unless i a) z) ∙ e
 
 module _ (m : Limits) (q : Task) (u : Units) where
   -- 8 to 13
-  pub start_refuses : (number : ℕ) (s : State) → 0 < number → unless number s ≡ start_of m.segments q → refused number ≡ selected_of m q u
-  unfolding selected_of and_then
-  start_refuses number s l e =
-      ap (λ (a : Answer State). and_then (and_then a (refine_of m.segments m.refinements q)) (finish_of q u))
-      (unless_refused number s _ l e)
+  pub start_refuses : (e : Refusal) → refused_by e ≡ start_of m.segments q → refused_by e ≡ selected_of m q u
+  unfolding selected_of
+  start_refuses e h =
+      stops_there e (and_then (start_of m.segments q) (refine_of m.segments m.refinements q)) (finish_of q u)
+      (stops_there e (start_of m.segments q) (refine_of m.segments m.refinements q) h)
 
   module _ (s : State) (started : done s ≡ start_of m.segments q) where
     -- as the rounds end
@@ -83,44 +60,3 @@ module _ (m : Limits) (q : Task) (u : Units) where
           let k : m.refinements * ((q.n - 1) * (q.n - 1)) ≤ 200 * (20000 * 20000) = mul-le-mul rounds b in
           let g = ap (λ (x : Answer State). and_then x (refine_of m.segments m.refinements q)) (sym started) ∙ sym settled in
           omega (arith, (course_counts m.segments q n m.refinements s₁ g).1, k)
-
--- ---- an ending and its answer
-abbrev told : Ending → ℕ
-told Done = 0
-told (Refused n) = 1
-told (Exhausted x) = 2
-
-pub refused_done : (e : Ending) (n : ℕ) → e ≡ Refused n → e ≡ Done → ⊥
-refused_done e n h g = let z : ◌≡◌ {A = ℕ} 1 0 = ap told (sym h ∙ g) in omega arith
-
--- the ending of a refusal is not done
-told_by : (e : Refusal) → told (ending_by e) ≡ 0 → ⊥
-told_by InitialSegments h = omega arith
-told_by (Unsolved e) h = omega arith
-told_by (Unaudited e) h = omega arith
-told_by (RefinementsUsedUp ratio) h = omega arith
-told_by SegmentsUsedUp h = omega arith
-told_by BadMidpoint h = omega arith
-told_by ErrorAboveTolerance h = omega arith
-
-pub refusal_done : (a : Ending) (e : Refusal) → a ≡ ending_by e → a ≡ Done → ⊥
-refusal_done a e h g = told_by e (ap told (sym h ∙ g))
-
-ending_told : (e : Refusal) (x : Selected) → ending_of (ending_by e) x ≡ refused_by e
-ending_told InitialSegments x = refl
-ending_told (Unsolved e) x = refl
-ending_told (Unaudited e) x = refl
-ending_told (RefinementsUsedUp ratio) x = refl
-ending_told SegmentsUsedUp x = refl
-ending_told BadMidpoint x = refl
-ending_told ErrorAboveTolerance x = refl
-
-pub answer_refused : (p : Plan) (r : Smoothed) (w : List Float) (n : ℕ) → r.ending ≡ Refused n → answer_in p r w ≡ refused n
-answer_refused p r w n e =
-    ap (λ (v : Ending). ending_of v (selected_in (sized p r.count) (take p.axes r.errors) (counts_of r.report)
-    (memory_at (sized p r.count) w))) e
-
-pub answer_told : (p : Plan) (r : Smoothed) (w : List Float) (e : Refusal) → r.ending ≡ ending_by e → answer_in p r w ≡ refused_by e
-answer_told p r w e h =
-    let x = selected_in (sized p r.count) (take p.axes r.errors) (counts_of r.report) (memory_at (sized p r.count) w) in
-    ap (λ (v : Ending). ending_of v x) h ∙ ending_told e x

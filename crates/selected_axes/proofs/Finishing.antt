@@ -2,9 +2,8 @@
 use mathlib.Core.Path.{◌≡◌, sym, ap, ◌∙◌}
 use mathlib.Core.Bool.{Bool, true, false, cond}
 use mathlib.Core.List.{List}
-use Prim.Native.Nat.{ℕ, ◌+◌, ◌-◌, ◌*◌, ◌<◌}
+use Prim.Native.Nat.{ℕ, ◌+◌, ◌-◌, ◌*◌}
 use native.Mathlib.Omega.{arith}
-use borrow.Author.Tests.{ne_eqb}
 use lib.ListN.{length, take}
 use lib.Seq.{get_or-take}
 use lib.Ieee.{Float, nan}
@@ -17,6 +16,9 @@ use Rattle.polynomial.specs.Outcome as audits
 use Rattle.polynomial.specs.Audit.{Audit}
 use Rattle.smoothing.specs.Answer.{Answer, and_then, unless}
 use Rattle.smoothing.specs.Answer.Answer.{done, refused}
+use Rattle.smoothing.specs.Refusal.{refused_by}
+use Rattle.smoothing.specs.declared.refusal.Refusal.{Refusal}
+use Rattle.smoothing.proofs.Refused.{then_refused}
 use Rattle.smoothing.specs.Rows.{Units}
 use Rattle.smoothing.specs.State.{Counts, add_intervals, polynomial_in}
 use Rattle.smoothing.specs.Finish.{Selected, physical_of, final_polynomial, error_of, errors_of, excessive, judged, finish_of}
@@ -71,16 +73,13 @@ errors_are p w errors b r e h =
 
 -- ---- the answer
 -- x₁ is in physical units, and x₂ is audited
-pub record Audited (p : Plan) (u : Units) (x x₁ x₂ : Memory) (errors : List Float) (number checked : ℕ) (o : Outcome) : Type 0 where
+pub record Physical (p : Plan) (u : Units) (x x₁ x₂ : Memory) (checked : ℕ) (o : Outcome) : Type 0 where
   pub physical : x₁ ≡ physical_in p u x
-  pub number_of : number ≡ audits.number_of o
   pub outcome : o ≡ (audit_over p 0 (p.samples - 1) x₁).outcome
   pub counted : checked ≡ (audit_over p 0 (p.samples - 1) x₁).checked
   pub after : x₂ ≡ with_bounds (audit_over p 0 (p.samples - 1) x₁).bounds (audit_over p 0 (p.samples - 1) x₁).witness x₁
-  pub errors_is : take p.axes errors ≡ errors_of (task_in p x₂) x₂.bounds
 
-module _ {p : Plan} {u : Units} {x x₁ x₂ : Memory} {errors : List Float} {number checked : ℕ} {o : Outcome}
-    (h : Audited p u x x₁ x₂ errors number checked o) (report : Counts) where
+module _ {p : Plan} {u : Units} {x x₁ x₂ : Memory} {checked : ℕ} {o : Outcome} (h : Physical p u x x₁ x₂ checked o) (report : Counts) where
   abbrev A : Audit
   A = audit_over p 0 (p.samples - 1) (physical_in p u x)
 
@@ -93,52 +92,46 @@ module _ {p : Plan} {u : Units} {x x₁ x₂ : Memory} {errors : List Float} {nu
   abbrev fine : Answer Selected
   fine = done (record { curve = final_polynomial u p.axes (spline_in p x); errors = E; report = add_intervals A.checked report })
 
-  number_is : number ≡ audits.number_of A.outcome
-  number_is = h.number_of ∙ ap audits.number_of (h.outcome ∙ ap (λ (y : Memory). (audit_over p 0 (p.samples - 1) y).outcome) h.physical)
+  number_is : audits.number_of o ≡ audits.number_of A.outcome
+  number_is = ap audits.number_of (h.outcome ∙ ap (λ (y : Memory). (audit_over p 0 (p.samples - 1) y).outcome) h.physical)
 
   audited_is : x₂ ≡ with_bounds A.bounds A.witness (physical_in p u x)
   audited_is =
       h.after ∙ ap (λ (y : Memory). with_bounds (audit_over p 0 (p.samples - 1) y).bounds (audit_over p 0 (p.samples - 1) y).witness y)
       h.physical
 
-  found_errors : take p.axes errors ≡ E
-  unfolding errors_of
-  found_errors = h.errors_is ∙ ap (λ (y : Memory). errors_of (task_in p y) y.bounds) audited_is
-
-  judged_is : whole ≡ and_then (unless number A) (λ _. cond (excessive u.eps p.axes (take p.axes errors)) (refused 17) fine)
+  judged_is : whole ≡ and_then (unless (audits.number_of o) A) (λ _. cond (excessive u.eps p.axes E) (refused 17) fine)
   unfolding finish_of judged
   judged_is =
       ap (λ (i : ℕ). and_then (unless i A) (λ _. cond (excessive u.eps p.axes E) (refused 17) fine)) (sym number_is)
-      ∙ ap (λ (l : List Float). and_then (unless number A) (λ _. cond (excessive u.eps p.axes l) (refused 17) fine)) (sym found_errors)
 
   -- 12, 13
-  pub finish_refused : (s : Selected) → 0 < number → unless number s ≡ whole
-  unfolding unless and_then
-  finish_refused s l =
-      let b = ne_eqb number 0 (λ e. omega arith) in
-      let v : unless number s ≡ refused number = rw b in
-      let a : unless number A ≡ refused number = rw b in
-      v ∙ sym (judged_is ∙ ap (λ (z : Answer Audit). and_then z
-      (λ _. cond (excessive u.eps p.axes (take p.axes errors)) (refused 17) fine)) a)
+  pub finish_refused : (e : Refusal) → ((s : Audit) → unless (audits.number_of o) s ≡ refused_by e) → refused_by e ≡ whole
+  finish_refused e a =
+      sym (judged_is
+      ∙ ap (λ (z : Answer Audit). and_then z (λ _. cond (excessive u.eps p.axes E) (refused 17) fine)) (a A)
+      ∙ then_refused e (λ _. cond (excessive u.eps p.axes E) (refused 17) fine))
 
-  passed : (b : Bool) → number ≡ 0 → b ≡ excessive u.eps p.axes (take p.axes errors) → whole ≡ cond b (refused 17) fine
-  unfolding unless and_then
-  passed b z e =
-      judged_is ∙ ap (λ (i : ℕ). and_then (unless i A)
-      (λ _. cond (excessive u.eps p.axes (take p.axes errors)) (refused 17) fine)) z
-      ∙ ap (λ (b : Bool). cond b (refused 17) fine) (sym e)
+  module _ (errors : List Float) (read : take p.axes errors ≡ errors_of (task_in p x₂) x₂.bounds) (z : audits.number_of o ≡ 0) where
+    found_errors : take p.axes errors ≡ E
+    unfolding errors_of
+    found_errors = read ∙ ap (λ (y : Memory). errors_of (task_in p y) y.bounds) audited_is
 
-  -- 17
-  pub finish_excessive : (s : Selected) → number ≡ 0 → true ≡ excessive u.eps p.axes (take p.axes errors) → unless 17 s ≡ whole
-  unfolding unless
-  finish_excessive s z e = sym (passed true z e)
+    passed : (b : Bool) → b ≡ excessive u.eps p.axes (take p.axes errors) → whole ≡ cond b (refused 17) fine
+    unfolding unless and_then
+    passed b e =
+        judged_is ∙ ap (λ (i : ℕ). and_then (unless i A) (λ _. cond (excessive u.eps p.axes E) (refused 17) fine)) z
+        ∙ ap (λ (b : Bool). cond b (refused 17) fine) (sym (e ∙ ap (excessive u.eps p.axes) found_errors))
 
-  pub finish_done : number ≡ 0 → false ≡ excessive u.eps p.axes (take p.axes errors)
-      → unless 0 (selected_in p (take p.axes errors) (add_intervals checked report) x₂) ≡ whole
-  unfolding unless
-  finish_done z e =
-      ap (λ (y : Memory). done (selected_in p (take p.axes errors) (add_intervals checked report) y)) audited_is
-      ∙ ap (λ (l : List Float). done (selected_in p l (add_intervals checked report) (physical_in p u x))) found_errors
-      ∙ ap (λ (i : ℕ). done (selected_in p E (add_intervals i report) (physical_in p u x)))
-      (h.counted ∙ ap (λ (y : Memory). (audit_over p 0 (p.samples - 1) y).checked) h.physical)
-      ∙ sym (passed false z e)
+    -- 17
+    pub finish_excessive : true ≡ excessive u.eps p.axes (take p.axes errors) → refused 17 ≡ whole
+    finish_excessive e = sym (passed true e)
+
+    pub finish_done : false ≡ excessive u.eps p.axes (take p.axes errors)
+        → done (selected_in p (take p.axes errors) (add_intervals checked report) x₂) ≡ whole
+    finish_done e =
+        ap (λ (y : Memory). done (selected_in p (take p.axes errors) (add_intervals checked report) y)) audited_is
+        ∙ ap (λ (l : List Float). done (selected_in p l (add_intervals checked report) (physical_in p u x))) found_errors
+        ∙ ap (λ (i : ℕ). done (selected_in p E (add_intervals i report) (physical_in p u x)))
+        (h.counted ∙ ap (λ (y : Memory). (audit_over p 0 (p.samples - 1) y).checked) h.physical)
+        ∙ sym (passed false e)

@@ -123,20 +123,20 @@ module _ (p : Plan) (x : Memory) where
   abbrev first : Fit
   first = fit_in (task_in p x) 1 (p.count - 1) first_strength (spline_in p x)
 
-  pub fit_none : curved (task_in p x) ≡ false → unless 0 (state_in p (counts 0 0 0) x) ≡ first_fit (task_in p x) (state_in p (counts 0 0 0) x)
-  unfolding first_fit unless
-  fit_none c = sym (ap (λ (b : Bool). cond b (fitted first (state_in p (counts 0 0 0) x)) (done (state_in p (counts 0 0 0) x))) c)
+  pub fit_none : (r : Counts) → curved (task_in p x) ≡ false → done (state_in p r x) ≡ first_fit (task_in p x) (state_in p r x)
+  unfolding first_fit
+  fit_none r c = sym (ap (λ (b : Bool). cond b (fitted first (state_in p r x)) (done (state_in p r x))) c)
 
-  pub fit_made : (x₁ : Memory) (v : Answer) (number : ℕ) (report : Counts) → curved (task_in p x) ≡ true → v ≡ first.answered
-      → x₁ ≡ with_controls first.controls x → (number ≡ v.number) × (report ≡ add_rows v.rows (counts 0 0 0))
-      → unless number (state_in p report x₁) ≡ first_fit (task_in p x) (state_in p (counts 0 0 0) x)
+  pub fit_made : (r : Counts) (x₁ : Memory) (v : Answer) (report : Counts) → curved (task_in p x) ≡ true → v ≡ first.answered
+      → x₁ ≡ with_controls first.controls x → report ≡ add_rows v.rows r
+      → unless v.number (state_in p report x₁) ≡ first_fit (task_in p x) (state_in p r x)
   unfolding first_fit fitted
-  fit_made x₁ v number report c e e₁ k =
-      let st = state_in p (counts 0 0 0) x in
-      ap (λ (i : ℕ). unless i (state_in p report x₁)) (k.0 ∙ ap (λ (a : Answer). a.number) e)
+  fit_made r x₁ v report c e e₁ k =
+      let st = state_in p r x in
+      ap (λ (a : Answer). unless a.number (state_in p report x₁)) e
       ∙ ap (λ (r : Counts). unless first.answered.number (state_in p r x₁))
-      (k.1 ∙ ap (λ (a : Answer). add_rows a.rows (counts 0 0 0)) e)
-      ∙ ap (λ (y : Memory). unless first.answered.number (state_in p (add_rows first.answered.rows (counts 0 0 0)) y)) e₁
+      (k ∙ ap (λ (a : Answer). add_rows a.rows r) e)
+      ∙ ap (λ (y : Memory). unless first.answered.number (state_in p (add_rows first.answered.rows r) y)) e₁
       ∙ sym (ap (λ (b : Bool). cond b (fitted first st) (done st)) c)
 
   pub controls_changed : (x₁ : Memory) (c : List Float) → x₁ ≡ with_controls c x → x₁ ≡ with_controls x₁.c x
@@ -159,24 +159,19 @@ module _ (p : Plan) (x : Memory) where
       )
 
   -- ---- both
-  pub first_made : (x₁ x₂ : Memory) (number number' : ℕ) (report report' : Counts) → number ≡ 0
-      → unless number (state_in p report x₁) ≡ first_fit (task_in p x) (state_in p (counts 0 0 0) x) → x₁ ≡ with_controls x₁.c x
-      → unless number' (state_in p report' x₂) ≡ audit_in (task_in p x₁) 0 (p.samples - 1) (state_in p report x₁) → Stored p x₂ × Same x₁ x₂
-      → (unless number' (state_in p report' x₂) ≡ and_then (first_fit (task_in p x) (state_in p (counts 0 0 0) x))
-      (audit_in (task_in p x) 0 (p.samples - 1))) × (Stored p x₂ × Same x x₂)
-  unfolding unless and_then
-  first_made x₁ x₂ number number' report report' z f changed e k =
-      let s = subst (λ (y : Memory). Same y x₂) changed k.1 in (
-        e ∙ ap (λ (t : Task). audit_in t 0 (p.samples - 1) (state_in p report x₁)) (ap (task_in p) changed)
-            ∙ ap (λ (a : answers.Answer State). and_then a (audit_in (task_in p x) 0 (p.samples - 1)))
-            (sym (ap (λ (i : ℕ). unless i (state_in p report x₁)) z) ∙ f),
-        (k.0, record { same_s = s.same_s; same_y = s.same_y; same_t = s.same_t; same_locations = s.same_locations }),
-      )
+  pub first_made : (x₁ x₂ : Memory) (answer : answers.Answer State) (r report : Counts)
+      → done (state_in p report x₁) ≡ first_fit (task_in p x) (state_in p r x) → x₁ ≡ with_controls x₁.c x
+      → answer ≡ audit_in (task_in p x₁) 0 (p.samples - 1) (state_in p report x₁)
+      → answer ≡ and_then (first_fit (task_in p x) (state_in p r x)) (audit_in (task_in p x) 0 (p.samples - 1))
+  unfolding and_then
+  first_made x₁ x₂ answer r report f changed e =
+      e ∙ ap (λ (t : Task). audit_in t 0 (p.samples - 1) (state_in p report x₁)) (ap (task_in p) changed)
+      ∙ ap (λ (a : answers.Answer State). and_then a (audit_in (task_in p x) 0 (p.samples - 1))) f
 
 -- ---- the start
-pub start_many : (segments k : ℕ) (q : Task) (s : State) → k ≡ length (first_knots q) → segments < k + 1 → unless 8 s ≡ start_of segments q
-unfolding start_of many_knots unless
-start_many segments k q s n l =
+pub start_many : (segments k : ℕ) (q : Task) → k ≡ length (first_knots q) → segments < k + 1 → refused 8 ≡ start_of segments q
+unfolding start_of many_knots
+start_many segments k q n l =
     sym (ap (λ (b : Bool). cond b (refused 8) (first_state q)) (ap (λ (i : ℕ). ltb segments (i + 1)) (sym n) ∙ lt-ltb segments (k + 1) l))
 
 start_few : (segments k : ℕ) (q : Task) → k ≡ length (first_knots q) → k + 1 ≤ segments → first_state q ≡ start_of segments q

@@ -1,19 +1,16 @@
 -- The selected axes in the arrays.
-use Rattle.std.specs.Prelude.{ℕ, List, take, Float}
+use Rattle.std.specs.Prelude.{ℕ, List, take, Float, Result, Ok, Err}
 use Rattle.smoothing.specs.Answer.{Answer}
-use Rattle.smoothing.specs.Answer.Answer.{done, refused, exhausted}
+use Rattle.smoothing.specs.Answer.Answer.{done}
+use Rattle.smoothing.specs.Refusal.{refused_by}
 use Rattle.smoothing.specs.declared.refusal.Refusal.{Refusal}
-use Rattle.smoothing.specs.declared.refusal.Refusal.TheVariants.{InitialSegments, Unsolved, Unaudited, RefinementsUsedUp, SegmentsUsedUp, BadMidpoint, ErrorAboveTolerance}
-use Rattle.normal.specs.Solve as solving
-use Rattle.polynomial.specs.Outcome as audits
 use Rattle.smoothing.specs.Rows.{Units, gathered}
 use Rattle.smoothing.specs.State.{Counts}
 use Rattle.smoothing.specs.Finish.{Selected}
 use Rattle.refinement.specs.declared.plan.Plan.{Plan}
 use Rattle.refinement.specs.Memory.{Memory, memory_at, sized}
+use Rattle.running_report.specs.declared.Report.{Report}
 use Rattle.running_report.specs.Counted.{counts_of}
-use Rattle.selected_axes.specs.declared.course.Ending.{Ending}
-use Rattle.selected_axes.specs.declared.course.Ending.TheVariants.{Done, Refused, Exhausted}
 use Rattle.selected_axes.specs.declared.course.Smoothed.{Smoothed}
 
 -- the rows `axes` of n points of d rows, as handed in, and their tolerances
@@ -25,24 +22,13 @@ abbrev pub selected_in : Plan → List Float → Counts → Memory → Selected
 selected_in p errors counts x =
     record { curve = record { breaks = x.breaks; coefficients = x.coefficients }; errors = errors; report = counts }
 
--- document 01's answer of an ending
-abbrev pub ending_of : Ending → Selected → Answer Selected
-ending_of Done x = done x
-ending_of (Refused n) x = refused n
-ending_of (Exhausted v) x = exhausted v
+-- the definition's answer, from what the cells then hold: the finish, whose errors these are
+abbrev pub finished_in : Plan → Result (List Float) Refusal → Report → List Float → Answer Selected
+finished_in p (Ok errors) r w = done (selected_in p (take p.axes errors) (counts_of r) (memory_at p w))
+finished_in p (Err e) r w = refused_by e
 
--- the ending of a refusal
-abbrev pub ending_by : Refusal → Ending
-ending_by InitialSegments = Refused 8
-ending_by (Unsolved e) = Refused (solving.refusal_number e)
-ending_by (Unaudited e) = Refused (audits.refusal_number e)
-ending_by (RefinementsUsedUp ratio) = Exhausted ratio
-ending_by SegmentsUsedUp = Refused 15
-ending_by BadMidpoint = Refused 16
-ending_by ErrorAboveTolerance = Refused 17
-
--- the definition's answer, from what the cells then hold
-abbrev pub answer_in : Plan → Smoothed → List Float → Answer Selected
-answer_in p r w =
-    ending_of r.ending (selected_in (sized p r.count) (take p.axes r.errors) (counts_of r.report)
-    (memory_at (sized p r.count) w))
+-- and all of it
+abbrev pub answer_in : Plan → Result Smoothed Refusal → List Float → Answer Selected
+answer_in p (Ok s) w =
+    done (selected_in (sized p s.count) (take p.axes s.errors) (counts_of s.report) (memory_at (sized p s.count) w))
+answer_in p (Err e) w = refused_by e

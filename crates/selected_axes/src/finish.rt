@@ -1,25 +1,17 @@
 // Back to physical units, the final audit (12, 13) and the errors (17).
 ghost use Rattle.std.specs.Prelude.{◌≡◌, ◌+◌, ◌-◌, ◌*◌, ◌≤◌, ◌<◌, length, take};
 ghost use Rattle.gathering.specs.Rows.{Below};
-ghost use Rattle.smoothing.specs.Answer.{unless};
 ghost use Rattle.smoothing.specs.Rising.{Rising};
 ghost use Rattle.smoothing.specs.Rows.{gathered};
 ghost use Rattle.smoothing.specs.Finish.{errors_of, finish_of};
 ghost use Rattle.refinement.specs.Memory.{Roomy, Wide, memory_at, task_in, state_in};
 ghost use Rattle.running_report.specs.Counted.{counts_of};
 ghost use Rattle.selected_axes.specs.Physical.{with_points, physical_in};
-ghost use Rattle.selected_axes.specs.Selected.{units_of, selected_in};
+ghost use Rattle.selected_axes.specs.Selected.{units_of, finished_in};
 
 use refinement::plan::Plan;
 use running_report::Report;
-
-// How it ended: document 01's number of the refusal, or 0; the largest bound on each axis, and the report.
-#[derive(Clone, Copy)]
-pub struct Finished {
-    pub number: usize,
-    pub errors: [f64; 16],
-    pub report: Report,
-}
+use smoothing::Refusal;
 
 // The waypoints as handed in, in the place of the points.
 fn put_points(work: &mut [f64], p: Plan, points: &[f64], d: usize, axes: &[usize; 16])
@@ -68,7 +60,7 @@ fn errors_in(work: &[f64], p: Plan) -> [f64; 16]
     crate::physical::errors(&work[bounds..bounds_end], n, p.axes)
 }
 
-// All of it, from a state whose knots rise.
+// All of it, from a state whose knots rise: the largest bound on each axis.
 pub fn finish(
     work: &mut [f64],
     p: Plan,
@@ -76,39 +68,22 @@ pub fn finish(
     d: usize,
     axes: &[usize; 16],
     eps: &[f64; 16],
-    report: Report,
-) -> Finished
+    report: &mut Report,
+) -> Result<[f64; 16], Refusal>
     requires { Roomy p (length work.old) × Rising (memory_at p work.old).t p.count × (d ≤ 16) × (p.samples ≤ 20000)
-        × (p.samples * d ≤ length points.now) × Below axes.now p.axes d × (report.intervals ≤ 4611686018427387904) }
-    ensures { unless result.number (selected_in p (take p.axes result.errors) (counts_of result.report) (memory_at p work.new))
+        × (p.samples * d ≤ length points.now) × Below axes.now p.axes d × (report.old.intervals ≤ 4611686018427387904) }
+    ensures { finished_in p result report.new work.new
         ≡ finish_of (task_in p (memory_at p work.old))
         (units_of points.now d p.samples (take p.axes axes.now) (take p.axes eps.now))
-        (state_in p (counts_of report) (memory_at p work.old)) }
+        (state_in p (counts_of report.old) (memory_at p work.old)) }
 {
     put_physical(work, p, points, d, axes, eps);
-    let last = p.samples - 1;
-    let a = refinement::refit::audit_in(work, p, 0, last);
-    let outcome = a.outcome;
-    let number = crate::start::number_of(outcome);
+    let audited = refinement::refit::audit_in(work, p, 0, p.samples - 1);
+    running_report::add_intervals(report, audited.checked);
+    audited.outcome?;
     let errors = errors_in(work, p);
-    let more = running_report::after_audit(report, a.checked);
-    if 0 < number {
-        return Finished {
-            number,
-            errors,
-            report: more,
-        };
-    }
     if crate::physical::is_excessive(eps, &errors, p.axes) {
-        return Finished {
-            number: 17,
-            errors,
-            report: more,
-        };
+        return Err(Refusal::ErrorAboveTolerance);
     }
-    Finished {
-        number: 0,
-        errors,
-        report: more,
-    }
+    Ok(errors)
 }

@@ -1,5 +1,5 @@
 -- `entry::build` meets its contract.
-use mathlib.Core.Path.{◌≡◌, sym, ap, subst, ◌∙◌}
+use mathlib.Core.Path.{◌≡◌, refl, sym, ap, subst, ◌∙◌}
 use mathlib.Core.List.{List}
 use Prim.Native.Nat.{ℕ, ◌<◌}
 use native.Mathlib.Omega.{arith}
@@ -46,7 +46,7 @@ returns-in-Err-clause-answer_value c =
     let m = limits_of r.limits in
     let w = a.work.now in
     let s = results a.breaks.now a.coefficients.now a.other_breaks.now a.other_coefficients.now a.errors.now in
-    let t = refused_first l m w s a.mode c.in-Err.refusal c.in-Err.ensures c.number.result c.number.ensures _ _ c.refuse.ensures in
+    let t = refused_first l m w s a.mode c.in-Err.refusal c.in-Err.ensures _ refl _ _ c.refuse.ensures in
     t.0
 
 pub returns-in-Err-clause-curve_value : goal.returns-in-Err-clause-curve_value
@@ -57,7 +57,7 @@ returns-in-Err-clause-curve_value c =
     let m = limits_of r.limits in
     let w = a.work.now in
     let s = results a.breaks.now a.coefficients.now a.other_breaks.now a.other_coefficients.now a.errors.now in
-    let t = refused_first l m w s a.mode c.in-Err.refusal c.in-Err.ensures c.number.result c.number.ensures _ _ c.refuse.ensures in
+    let t = refused_first l m w s a.mode c.in-Err.refusal c.in-Err.ensures _ refl _ _ c.refuse.ensures in
     t.1.0
 
 pub returns-in-Err-clause-work_after : goal.returns-in-Err-clause-work_after
@@ -68,7 +68,7 @@ returns-in-Err-clause-work_after c =
     let m = limits_of r.limits in
     let w = a.work.now in
     let s = results a.breaks.now a.coefficients.now a.other_breaks.now a.other_coefficients.now a.errors.now in
-    let t = refused_first l m w s a.mode c.in-Err.refusal c.in-Err.ensures c.number.result c.number.ensures _ _ c.refuse.ensures in
+    let t = refused_first l m w s a.mode c.in-Err.refusal c.in-Err.ensures _ refl _ _ c.refuse.ensures in
     t.1.1.0
 
 pub returns-in-Err-clause-errors_after : goal.returns-in-Err-clause-errors_after
@@ -79,7 +79,7 @@ returns-in-Err-clause-errors_after c =
     let m = limits_of r.limits in
     let w = a.work.now in
     let s = results a.breaks.now a.coefficients.now a.other_breaks.now a.other_coefficients.now a.errors.now in
-    let t = refused_first l m w s a.mode c.in-Err.refusal c.in-Err.ensures c.number.result c.number.ensures _ _ c.refuse.ensures in
+    let t = refused_first l m w s a.mode c.in-Err.refusal c.in-Err.ensures _ refl _ _ c.refuse.ensures in
     t.1.1.1
 
 pub finish-built-requires : goal.finish-built-requires

@@ -15,6 +15,8 @@ use Rattle.checks.proofs.Passed.{two_waypoints, axes_count, tolerances_count, li
 use Rattle.building.specs.Computed.{computed_in}
 use Rattle.building.specs.Answered.{Domain, plan_of}
 use Rattle.building.proofs.Passing.{work_fits, Picked, k_few, picked_below, Parted, j_is, j_sum, others_below, all_is}
+use Rattle.std.specs.Prelude.{Ok}
+use Rattle.std.proofs.lemmas.Result.{err_from_is_err_and}
 use Rattle.building.proofs.entry.gather.Goals as goal
 
 picked : (l : Lane) (k : ℕ) (axes : List ℕ) → refusal_before l ≡ 0 → l.d ≤ 16 → (k ≡ axis_count l) × (axes ≡ padded (smoothed_axes l))
@@ -59,8 +61,8 @@ tolerances_of-eps-requires c =
       rw e (tolerances_count l c.requires.points_value),
     )
 
-pub compute-computed-requires-clause-roomy : goal.compute-computed-requires-clause-roomy
-compute-computed-requires-clause-roomy c =
+pub compute-requires-clause-roomy : goal.compute-requires-clause-roomy
+compute-requires-clause-roomy c =
     let r = c.args.r.now in
     let l = lane_of r in
     let s = c.chosen-chosen in
@@ -70,8 +72,8 @@ compute-computed-requires-clause-roomy c =
     fits l (limits_of r.limits) (length r.points.now) (length c.args.work.now) s.result.count s.result.axes o.result.count o.result.axes
     c.room_of-room.result Q c.requires.domain c.room_of-room.ensures
 
-pub compute-computed-requires-clause-d_bound : goal.compute-computed-requires-clause-d_bound
-compute-computed-requires-clause-d_bound c =
+pub compute-requires-clause-d_bound : goal.compute-requires-clause-d_bound
+compute-requires-clause-d_bound c =
     let l = lane_of c.args.r.now in
     let s = c.chosen-chosen in
     let o = c.others-rest in
@@ -86,8 +88,22 @@ compute-computed-requires-clause-d_bound c =
       picked_below P,
     )
 
-pub compute-computed-requires-clause-samples_in_bounds : goal.compute-computed-requires-clause-samples_in_bounds
-compute-computed-requires-clause-samples_in_bounds c = listed_long (lane_of c.args.r.now) c.requires.points_value
+pub compute-requires-clause-samples_in_bounds : goal.compute-requires-clause-samples_in_bounds
+compute-requires-clause-samples_in_bounds c = listed_long (lane_of c.args.r.now) c.requires.points_value
+
+pub returns-in_err-computed : goal.returns-in_err-computed
+returns-in_err-computed c =
+    let r = c.args.r.now in
+    let l = lane_of r in
+    let m = limits_of r.limits in
+    let s = c.chosen-chosen in
+    let o = c.others-rest in
+    let t = c.tolerances_of-eps in
+    let room = c.room_of-room in
+    let P = picked l s.result.count s.result.axes c.requires.points_value c.requires.domain.d_most s.ensures in
+    let Q = parted l s.result.count s.result.axes o.result.count o.result.axes P o.ensures in
+    let g = err_from_is_err_and c.from_residual.result c.from_residual.ensures.1 in
+    rw (g.1, g.2) (record { is = c.in_err-computed.ensures.work_after ∙ all_is Q t.result t.ensures m; places = tt })
 
 pub returns : goal.returns
 returns c =
@@ -96,20 +112,21 @@ returns c =
     let m = limits_of r.limits in
     let s = c.chosen-chosen in
     let o = c.others-rest in
-    let v = c.compute-computed in
     let t = c.tolerances_of-eps in
     let room = c.room_of-room in
     let P = picked l s.result.count s.result.axes c.requires.points_value c.requires.domain.d_most s.ensures in
     let Q = parted l s.result.count s.result.axes o.result.count o.result.axes P o.ensures in
+    let v = c.in_ok-computed in
+    let w = c.compute.new.work in
     let plan : ◌≡◌ {A = Plan} (record { axes = s.result.count; samples = r.n; room = room.result; count = 6 }) (plan_of l m) =
     λ i. record { axes = P.count i; samples = r.n; room = room.ensures i; count = 6 } in
+    let p = v.ensures.roomy_2 in
     record {
       is =
-          (λ i. computed_in (sym plan i) (sym (j_is Q) i) v.result v.new.work)
+          (λ i. computed_in (sym plan i) (sym (j_is Q) i) (Ok v.computed) w)
           ∙ v.ensures.work_after
           ∙ all_is Q t.result t.ensures m;
-      places = λ e.
-          let p = v.ensures.roomy_2 e in
+      places =
           record {
             k_is = P.count;
             j_is = j_is Q;
@@ -117,7 +134,7 @@ returns c =
             listed = listed_long l c.requires.points_value;
             all_axes = axes_count l c.requires.points_value;
             axes_are = P.cells;
-            roomy = subst (λ (q : Plan). Roomy (sized q v.result.count) (length v.new.work)) plan p.0;
+            roomy = subst (λ (q : Plan). Roomy (sized q v.computed.count) (length w)) plan p.0;
             few = p.1;
             others_few = p.2;
           };
