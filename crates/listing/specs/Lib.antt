@@ -3,3 +3,4 @@ pub mod Axes
 pub mod Cases
 pub mod Output
 pub mod Lines
+pub mod Modes

@@ -1,5 +1,6 @@
 // The curve of a case, and the parts of its cells.
 ghost use Rattle.std.specs.Prelude.{◌≡◌, ◌++◌, [], ◌∷◌, IfSome};
+ghost use Rattle.listing.specs.Modes.{mode_of, spacing_of};
 
 use curve::{Curve, Mode};
 use request::parameters::Spacing;
@@ -61,7 +62,9 @@ pub fn curve_of(wholes: &[u64; 16], axes: [usize; 16], start: f64, end: f64, mod
 }
 
 // Mode Error is 0, Clamp 1.
-pub fn mode_of(mode: u64) -> Option<Mode> {
+pub fn mode_of(mode: u64) -> Option<Mode>
+    ensures { result ≡ mode_of mode }
+{
     match mode {
         0 => Some(Mode::Error),
         1 => Some(Mode::Clamp),
@@ -70,7 +73,9 @@ pub fn mode_of(mode: u64) -> Option<Mode> {
 }
 
 // Parameters are even in mode 0, listed in mode 1, by chords in mode 2.
-pub fn spacing_of(mode: u64) -> Option<Spacing> {
+pub fn spacing_of(mode: u64) -> Option<Spacing>
+    ensures { result ≡ spacing_of mode }
+{
     match mode {
         0 => Some(Spacing::Even),
         1 => Some(Spacing::Listed),

@@ -21,7 +21,10 @@ impl Model for Output {
 }
 
 impl Output {
-    pub fn new() -> Output {
+    // Nothing is in it.
+    pub fn new() -> Output
+        ensures { result.1 ≡ 0 }
+    {
         Output {
             buffer: [0; 4096],
             at: 0,

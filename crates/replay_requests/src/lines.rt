@@ -152,7 +152,7 @@ fn ratio(answer: Answer, out: &mut Output) {
     }
 }
 
-// The line of a request.
+// The line of a request. Its text is compared with the stored list alone: no clause names it.
 pub fn line(built: Built, p: Lent<usize>, lent: Lent<&[f64]>, out: &mut Output) {
     let answer = built.answer;
     out.text(b"build");
