@@ -103,6 +103,13 @@ else
     echo "skipped: python3 is not at hand; season totals are not computed a second time"
 fi
 echo "== the library: its archive, the examples in C, lane files and heights by a second computation"
+if command -v nm > /dev/null; then
+    # docs/DECISIONS.md, "The library for C": these two and nothing else.
+    needed=$(nm -u target/staticlib/libpamitoye.a | awk '$1 == "U" { print $2 }' | sort -u | tr '\n' ' ')
+    [ "$needed" = "memcpy memset " ] || fail "the archive is to need memcpy and memset alone, and needs: $needed"
+else
+    echo "skipped: nm is not at hand; what the archive needs from outside is not looked at"
+fi
 if command -v cc > /dev/null && [ "$(uname -m)" = x86_64 ]; then
     for program in examples/c/*.c; do
         cc -std=c11 -Wall -Wextra -Werror -Iinclude "$program" target/staticlib/libpamitoye.a -o "$scratch/program" ||

@@ -15,9 +15,12 @@ pub fn clear(s: &mut [f64])
 
 // The cells of `src` into `dst`, from the front, as far as both reach; further cells of `dst` are
 // unchanged. Where the two are equally long, `dst` then holds what `src` holds.
+// A loop, since `copy_from_slice` of a length that is not known becomes a call of `memmove`.
 pub fn copy(dst: &mut [f64], src: &[f64])
     ensures { dst.new ≡ copied src.now dst.old }
 {
     let n = dst.len().min(src.len());
-    dst[..n].copy_from_slice(&src[..n]);
+    for i in 0..n {
+        dst[i] = src[i];
+    }
 }
