@@ -64,7 +64,7 @@ fn put_axes(
         let p = segment(rows, h, &work[c..e], at + i, d);
         let a = to + 6 * i;
         let b = a + 6;
-        work[a..b].copy_from_slice(&p);
+        window::copy(&mut work[a..b], &p);
     }
 }
 

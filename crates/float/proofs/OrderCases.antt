@@ -1,19 +1,55 @@
 -- The cases of the code of absolute value, total order and the test for a finite number.
-use mathlib.Core.Path.{◌≡◌, refl, sym, ◌∙◌}
+use mathlib.Core.Path.{◌≡◌, refl, sym, ap, ◌∙◌}
 use mathlib.Core.Bool.{Bool, true, false, not, ◌&&◌, ◌||◌, cond, true≢false}
-use lib.Ieee.{Float, nan, inf, fin, is_nan, lt, eq}
+use Prim.Native.Nat.{ℕ, zero, suc, ◌+◌, ◌%◌, ◌/◌, ◌<◌}
+use native.Mathlib.Omega.{arith}
+use lib.Dec.{T, leb, eqb}
+use lib.Arith.{lt→nleb}
+use lib.Ieee.{Float, Format, nan, inf, fin, binary64, prec, low, hid, ones, fits, is_nan, lt, eq, odd, of_fields, of_bits, to_bits}
+use lib.Ieee.Bits.{is_false, of_bits-to_bits}
 use lib.Ieee.Scale.{finite}
 use Rattle.fraction.specs.Value.{absolute_float}
-use Rattle.std.specs.Float.{float_is_finite, float_with_sign, is_sign_negative}
+use Rattle.std.specs.Float.{float_is_finite, is_sign_negative}
 use Rattle.float.specs.Order.{chosen, negative, total_le}
 
--- ---- the library's words
-pub absolute_is : (x : Float) → float_with_sign false x ≡ absolute_float x
-unfolding float_with_sign
-absolute_is nan = refl
-absolute_is (inf s) = refl
-absolute_is (fin s m e) = refl
+-- ---- absolute value: the sign's bit cleared
+odd_absolute : (d : ℕ) (s : Bool) (q k l : ℕ) → absolute_float (odd d s q k l) ≡ odd d false q k l
+unfolding odd
+odd_absolute d s zero k l = refl
+odd_absolute d s (suc q) k l = refl
 
+fields_absolute : (f : Format) (s : Bool) (x t : ℕ) → absolute_float (of_fields f s x t) ≡ of_fields f false x t
+unfolding of_fields
+fields_absolute f s zero t = odd_absolute (prec f) s t 0 (low f)
+fields_absolute f s (suc x) t = go (eqb (suc x) (ones f)) (eqb t 0)
+  where
+    go : (a b : Bool) → absolute_float (cond a (cond b (inf s) nan) (odd (prec f) s (hid f + t) x (low f)))
+        ≡ cond a (cond b (inf false) nan) (odd (prec f) false (hid f + t) x (low f))
+    go true true = refl
+    go true false = refl
+    go false b = odd_absolute (prec f) s (hid f + t) x (low f)
+
+pub abs_bits : (x : Float) → T (fits binary64 x) → of_bits binary64 (to_bits binary64 x % 0x8000_0000_0000_0000) ≡ absolute_float x
+unfolding of_bits
+abs_bits x F = cleared (to_bits binary64 x) ∙ ap absolute_float (of_bits-to_bits binary64 x F)
+  where
+    sign : (n : ℕ) → leb 0x8000_0000_0000_0000 (n % 0x8000_0000_0000_0000) ≡ false
+    sign n =
+        let small : n % 0x8000_0000_0000_0000 < 0x8000_0000_0000_0000 = omega arith in
+        is_false (leb 0x8000_0000_0000_0000 (n % 0x8000_0000_0000_0000)) (lt→nleb 0x8000_0000_0000_0000 (n % 0x8000_0000_0000_0000) small)
+
+    exponent : (n : ℕ) → n % 0x8000_0000_0000_0000 % 0x8000_0000_0000_0000 ≡ n % 0x8000_0000_0000_0000
+    exponent n = omega arith
+
+    digits : (n : ℕ) → n % 0x8000_0000_0000_0000 % 0x10_0000_0000_0000 ≡ n % 0x10_0000_0000_0000
+    digits n = omega arith
+
+    cleared : (n : ℕ) → of_bits binary64 (n % 0x8000_0000_0000_0000) ≡ absolute_float (of_bits binary64 n)
+    cleared n =
+        rw (sign n, exponent n, digits n) (sym (fields_absolute binary64 (leb 0x8000_0000_0000_0000 n)
+        (n % 0x8000_0000_0000_0000 / 0x10_0000_0000_0000) (n % 0x10_0000_0000_0000)))
+
+-- ---- the library's words
 pub finite_is : (x : Float) → float_is_finite x ≡ finite x
 unfolding float_is_finite
 finite_is nan = refl

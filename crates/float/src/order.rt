@@ -11,11 +11,15 @@ pub fn is_finite(x: f64) -> bool
     x.is_finite()
 }
 
-// The absolute value (Rust's f64::abs): x with its sign cleared. A NaN gives a NaN.
+// The absolute value (Rust's f64::abs): x with its sign cleared. A NaN gives a NaN. The sign's bit is
+// cleared, since the library's `abs` compares.
 pub fn abs(x: f64) -> f64
     ensures { result ≡ absolute_float x }
 {
-    x.abs()
+    if x.is_nan() {
+        return x;
+    }
+    f64::from_bits(x.to_bits() % 0x8000_0000_0000_0000)
 }
 
 // The larger of the two; of a NaN and a number, the number. Of +0 and -0, which are equal, it is x:

@@ -3,7 +3,8 @@ use lib.Ieee.{Float}
 use Rattle.arith.specs.Operations.{floats}
 use Rattle.window.specs.Window.{window, splice}
 use Rattle.window.specs.Rows.{join, written}
-use Rattle.window.proofs.Windows.{window_before}
+use Rattle.window.proofs.Filling.{copied_all}
+use Rattle.window.proofs.Windows.{length_window, window_before}
 use Rattle.window.proofs.Joined.{join_length}
 use Rattle.window.proofs.Written.{written_none, written_length, row_next}
 use Rattle.bspline.specs.Segments.{segment_of}
@@ -46,8 +47,12 @@ loop-i-preserved c =
     let a = c.args in
     let l = c.loop-i in
     let s = c.segment-p in
+    let from = a.to + 6 * l.i in
+    let six : length s.result ≡ 6 = ap length s.ensures ∙ segment_length floats a.rows.now a.h (window a.c a.e l.work) (a.at + l.i) a.d in
+    let part : length (window from (from + 6) l.work) ≡ length s.result = length_window from (from + 6) l.work (omega arith)
+    (omega (arith, l.invariant.0)) ∙ omega (arith, six) in
     with_length a.rows.now a.h (window a.c a.e a.work.now) a.at a.d a.to (l.i + 1) a.work.now (omega arith) (omega arith)
-    (rw c.copy_from_slice.ensures.after
+    (rw (c.copy.ensures, copied_all s.result (window from (from + 6) l.work) part)
     (put_next a.rows.now a.h a.c a.e a.at a.d a.to a.work.now l.work l.i s.result
     (omega arith) (omega arith) (omega arith) (omega arith) l.invariant.1 s.ensures))
 
