@@ -2,13 +2,11 @@
 // and an f64 as 16 upper-case hex digits.
 #![tactic(auto)]
 
-ghost use Rattle.std.specs.Prelude.{◌≡◌, ◌+◌, ◌*◌, ◌≤◌, ◌<◌, List, ℕ, [], length, take};
+ghost use Rattle.std.specs.Prelude.{◌≡◌, ◌+◌, ◌*◌, ◌≤◌, ◌<◌, [], length, take};
 ghost use Rattle.std.specs.Float.{binary64};
 ghost use Rattle.std.specs.Float.Ieee.{of_bits, to_bits};
 ghost use Rattle.encoding.specs.Bytes.{low_first, wholes_of, float_of, floats_of};
 ghost use Rattle.encoding.specs.Text.{digit_of, hex_digits, float_text};
-
-use std::marker::Model;
 
 // The whole number of at most eight bytes, low byte first.
 pub fn whole(bytes: &[u8]) -> u64
@@ -86,27 +84,19 @@ pub fn floats(bytes: &[u8], cells: &mut [f64])
     }
 }
 
-// At most 16 bytes of text.
-#[derive(Drop)]
+// Up to 16 bytes of text: the first `len`.
+#[derive(Clone, Copy)]
 pub struct Text {
-    bytes: [u8; 16],
-    len: usize,
-}
-
-impl Model for Text {
-    ghost Value = { List ℕ };
-
-    ghost view = { λ t. take t.len t.bytes };
-
-    ghost invariant = { λ t. t.len ≤ 16 };
+    pub bytes: [u8; 16],
+    pub len: usize,
 }
 
 impl Text {
     pub fn as_bytes(&self) -> &[u8]
-        ensures value { result.now ≡ self.now }
+        ensures value { result.now ≡ take self.now.len self.now.bytes }
         ensures len { length result.now ≤ 16 }
     {
-        &self.bytes[0..self.len]
+        &self.bytes[..self.len.min(16)]
     }
 }
 
@@ -133,7 +123,7 @@ fn digits(bits: u64) -> [u8; 16]
 
 // The bits of x as 16 upper-case hex digits, or `NaN`.
 pub fn hex(x: f64) -> Text
-    ensures { result ≡ float_text x }
+    ensures { (result.len ≤ 16) × (take result.len result.bytes ≡ float_text x) }
 {
     if x.is_nan() {
         let mut bytes = [0u8; 16];
