@@ -79,7 +79,7 @@ pub fn finish(
 {
     put_physical(work, p, points, d, axes, eps);
     let audited = refinement::refit::audit_in(work, p, 0, p.samples - 1);
-    running_report::add_intervals(report, audited.checked);
+    *report = running_report::after_audit(*report, audited.checked);
     audited.outcome?;
     let errors = errors_in(work, p);
     if crate::physical::is_excessive(eps, &errors, p.axes) {

@@ -51,7 +51,7 @@ fn fit_first(work: &mut [f64], p: Plan, bent: bool, report: &mut Report) -> Resu
         return Ok(());
     }
     let fitted = refinement::refit::fit_in(work, p, 1, p.count - 1, 0.001)?;
-    running_report::add_rows(report, fitted.rows);
+    *report = running_report::after_fit(*report, fitted.rows);
     Ok(())
 }
 
@@ -66,7 +66,7 @@ fn audit_first(work: &mut [f64], p: Plan, report: &mut Report) -> Result<(), Ref
 {
     refinement::insertions::rebuild(work, p);
     let audited = refinement::refit::audit_in(work, p, 0, p.samples - 1);
-    running_report::add_intervals(report, audited.checked);
+    *report = running_report::after_audit(*report, audited.checked);
     audited.outcome?;
     Ok(())
 }

@@ -66,6 +66,6 @@ returns c =
       counted = v.ensures.outcome_value.1;
       after = v.ensures.work_after;
     } in
-    ap (λ (k : Counts). done (selected_in a.p (take a.p.axes c.errors_in-errors.result) k (memory_at a.p v.new.work))) c.add_intervals.ensures
+    ap (λ (k : Counts). done (selected_in a.p (take a.p.axes c.errors_in-errors.result) k (memory_at a.p v.new.work))) c.after_audit.ensures
     ∙ finish_done h (counts_of a.report.now) c.errors_in-errors.result c.errors_in-errors.ensures
     (ap audits.number_of c.in_ok-audited.was) (sym c.if-is_excessive.false ∙ c.is_excessive.ensures)

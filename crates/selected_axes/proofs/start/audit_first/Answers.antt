@@ -32,5 +32,5 @@ returns-clause-work_after c =
     let s = state_at a.p (add_intervals v.result.checked r) v.new.work in
     let m = audit_made a.p (memory_at a.p a.work.now) (memory_at a.p f.new.work) (memory_at a.p v.new.work)
     (audits.number_of v.result.outcome) v.result.checked v.result.outcome r f.ensures refl v.ensures.outcome_value v.ensures.work_after in
-    ap (λ (k : Counts). done (state_at a.p k v.new.work)) c.add_intervals.ensures
+    ap (λ (k : Counts). done (state_at a.p k v.new.work)) c.after_audit.ensures
     ∙ sym (audit_done v.result.outcome s c.in_ok-audited.was) ∙ m.0

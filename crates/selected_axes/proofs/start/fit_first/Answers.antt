@@ -33,9 +33,9 @@ returns-in_err-fitted-clause-work_after c =
     v.ensures.result_value c.fit_in.ensures.work_after refl
     )
 
-pub add_rows-requires : goal.add_rows-requires
+pub after_fit-requires : goal.after_fit-requires
 unfolding of_bits round
-add_rows-requires c =
+after_fit-requires c =
     let a = c.args in
     let n = fit_few a.p a.work.now c.requires.0 1 _ _ first_strength c.in_ok-fitted.ensures.result_value in
     omega (arith, n.1, c.requires.2)
@@ -46,7 +46,7 @@ returns-clause-work_after c =
     let a = c.args in
     let r = counts_of a.report.now in
     let w = c.fit_in.new.work in
-    let told = c.add_rows.ensures in
+    let told = c.after_fit.ensures in
     ap (λ (k : Counts). done (state_at a.p k w)) told
     ∙ fit_made a.p (memory_at a.p a.work.now) r (memory_at a.p w) _ _ (sym c.requires.1 ∙ c.if-not-bent.false)
     c.in_ok-fitted.ensures.result_value c.fit_in.ensures.work_after refl
@@ -55,7 +55,7 @@ pub returns-clause-refinements_value : goal.returns-clause-refinements_value
 unfolding of_bits round
 returns-clause-refinements_value c =
     let a = c.args in
-    let told = c.add_rows.ensures in
+    let told = c.after_fit.ensures in
     let n = fit_few a.p a.work.now c.requires.0 1 _ _ first_strength c.in_ok-fitted.ensures.result_value in (
       ap (λ (k : Counts). k.refinements) told,
       omega (arith, n.1, ap (λ (k : Counts). k.rows) told),
