@@ -1,10 +1,10 @@
 -- Which answer a call gets: by the first check that refuses, or that all are passed.
-use mathlib.Core.Path.{◌≡◌, refl}
-use mathlib.Core.Bool.{true, false, cond, true≢false}
+use mathlib.Core.Path.{◌≡◌, refl, ap, ◌∙◌, subst}
+use mathlib.Core.Bool.{Bool, true, false, not, cond, true≢false}
 use mathlib.Core.List.{List, [], ◌∷◌}
 use Prim.Native.Nat.{ℕ, ◌*◌, ◌≤◌, ◌<◌}
 use borrow.Author.Tests.{lt-ltb, le-ltb}
-use lib.Dec.{eqb}
+use lib.Dec.{eqb, ltb}
 use lib.ListN.{length}
 use lib.Ieee.{Float}
 use Rattle.std.specs.Prelude.{Option, None, Some, IsSome, is_none, Result, Ok, Err, ⊤}
@@ -13,9 +13,9 @@ use Rattle.curve.specs.declared.Curve.{Curve}
 use Rattle.curve.specs.Form.{Slices, well_formed}
 use Rattle.query.specs.declared.entry.Refusal.{Refusal}
 use Rattle.query.specs.declared.entry.Refusal.TheVariants.{Malformed, OrderAboveThree, TooShort, OutsideAt}
-use Rattle.query.specs.Range.{ranged_of}
+use Rattle.query.specs.Range.{ranged_of, answered_at}
 use Rattle.query.specs.Row.{Outputs, filled}
-use Rattle.query.specs.Query.{Outcome, outcome, checked, columns_of, evaluate_of, first_refused, evaluate_all_of}
+use Rattle.query.specs.Query.{Outcome, outcome, short_of, checked, column_of, columns_of, evaluate_of, first_refused, evaluate_all_of}
 use Rattle.query.specs.Query.{number_of, refused_place}
 use Rattle.query.proofs.Rooms.{Short}
 
@@ -85,3 +85,24 @@ answer_told (Err Malformed) = refl
 answer_told (Err OrderAboveThree) = refl
 answer_told (Err TooShort) = refl
 answer_told (Err (OutsideAt place)) = refl
+
+-- of one query no place is told, so that the number alone tells its answer
+pub no_place : (c : Curve) (s : Slices) (x : Float) (order : ℕ) (o : Outputs) → (evaluate_of c s x order o).place ≡ 0
+unfolding evaluate_of checked
+no_place c s x order o =
+    go (not (well_formed c s)) (ltb 3 order) (short_of order c.d (length o.q) (length o.dq) (length o.ddq) (length o.dddq))
+    (is_none (ranged_of c x)) o (filled order 0 (λ part. column_of part c s (answered_at c x)) o)
+  where
+    go : (a b d e : Bool) (o y : Outputs)
+        → (cond a (outcome 24 0 o) (cond b (outcome 23 0 o) (cond d (outcome 19 0 o) (cond e (outcome 22 0 o) (outcome 0 0 y))))).place ≡ 0
+    go true b d e o y = refl
+    go false true d e o y = refl
+    go false false true e o y = refl
+    go false false false true o y = refl
+    go false false false false o y = refl
+
+pub single_told : (r : Result ⊤ Refusal) (c : Curve) (s : Slices) (x : Float) (order : ℕ) (o o' : Outputs)
+    → outcome (number_of r) (refused_place r) o' ≡ evaluate_of c s x order o → answer_of (number_of r) 0 ≡ r
+single_told r c s x order o o' e =
+    let p : refused_place r ≡ 0 = ap (λ (z : Outcome). z.place) e ∙ no_place c s x order o in
+    subst (λ (place : ℕ). answer_of (number_of r) place ≡ r) p (answer_told r)

@@ -9,6 +9,7 @@ use Rattle.query.specs.declared.segment.Derivatives.{Derivatives}
 use Rattle.query.specs.declared.range.Ranged.{Ranged}
 use Rattle.query.specs.declared.entry.Refusal.{Refusal}
 use Rattle.query.specs.declared.entry.Refusal.TheVariants.{Malformed, OrderAboveThree, TooShort, OutsideAt}
+use Rattle.query.specs.declared.entry.Spans.{Spans}
 use Rattle.arith.specs.First.{first_of}
 use Rattle.curve.specs.Places.{axis_place}
 use Rattle.curve.specs.Form.{Slices, well_formed}
@@ -90,6 +91,16 @@ span_at c breaks x = (located breaks (normalised c (answered_at c x).at)).span
 -- "its last span": after a query with this number the segment of its answer; a refusal keeps the one before
 abbrev pub kept_of : ℕ → Curve → List Float → Float → ℕ → ℕ
 kept_of number c breaks x near = cond (eqb number 0) (span_at c breaks x) near
+
+-- the segment of the selected set that its caller has after a query that was given `near`: the answer's, or `near` still
+abbrev pub span_kept : Result Spans Refusal → ℕ → ℕ
+span_kept (Ok here) near = here.span
+span_kept (Err e) near = near
+
+-- the same of the other set
+abbrev pub other_span_kept : Result Spans Refusal → ℕ → ℕ
+other_span_kept (Ok here) near = here.other_span
+other_span_kept (Err e) near = near
 
 -- the segments of the last of the first n parameters, if there is one
 abbrev pub Last : Curve → Slices → List Float → ℕ → ℕ → ℕ → Type 0

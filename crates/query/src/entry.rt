@@ -5,7 +5,7 @@ ghost use Rattle.query.specs.Lent.{slices_of};
 ghost use Rattle.query.specs.Range.{Inside, Taken};
 ghost use Rattle.query.specs.Row.{outputs, Room, filled};
 ghost use Rattle.query.specs.Query.{columns_of, first_refused, short_of, outcome, evaluate_of, evaluate_all_of};
-ghost use Rattle.query.specs.Query.{number_of, refused_place, span_at, Last};
+ghost use Rattle.query.specs.Query.{number_of, refused_place, span_at, kept_of, span_kept, other_span_kept, Last};
 
 use crate::lent::Lent;
 use crate::{places, range, row, segment};
@@ -153,7 +153,7 @@ fn write_all<'a>(
 
 // The query at x of a curve that is well formed, which is required as by `evaluate_formed`, with two
 // segments that are tried first, one of each set: whatever numbers they are, the answer is the same. Handed
-// back are the segments of the answer.
+// back are the segments of the answer; after a refusal the caller has the two numbers still.
 pub fn evaluate_near<'a>(
     lent: &Lent<'a>,
     span: usize,
@@ -171,6 +171,9 @@ pub fn evaluate_near<'a>(
         dddq.old) }
     ensures ok { IfOk result (λ at. (at.span ≡ span_at lent.now.curve lent.now.breaks.now x)
         × (at.other_span ≡ span_at lent.now.curve lent.now.other_breaks.now x)) }
+    ensures kept { (span_kept result span ≡ kept_of (number_of result) lent.now.curve lent.now.breaks.now x span)
+        × (other_span_kept result other_span ≡ kept_of (number_of result) lent.now.curve lent.now.other_breaks.now x
+        other_span) }
 {
     let d = lent.curve.d;
     if 3 < order {

@@ -5,7 +5,7 @@
 ghost use Rattle.std.specs.Prelude.{◌≡◌, IfOk};
 ghost use Rattle.query.specs.Lent.{slices_of};
 ghost use Rattle.query.specs.Row.{outputs};
-ghost use Rattle.query.specs.Query.{outcome, evaluate_of, number_of, refused_place, span_at};
+ghost use Rattle.query.specs.Query.{outcome, evaluate_of, number_of, refused_place, span_at, kept_of, span_kept, other_span_kept};
 ghost use Rattle.reader.specs.Reading.{made, Knows, asked};
 
 use query::{Lent, Refusal, Spans, evaluate_near};
@@ -70,7 +70,8 @@ pub fn ask<'s, 'a>(
 }
 
 // One question to a reader of this curve that keeps these two segments, and the segments that it keeps
-// afterwards, if it answers: for callers that can't hold a reader. The curve is tested at each call.
+// afterwards, if it answers: for callers that can't hold a reader. The curve is tested at each call. After a
+// refusal the caller has the two numbers still.
 pub fn ask_from<'a>(
     lent: Lent<'a>,
     span: usize,
@@ -87,6 +88,9 @@ pub fn ask_from<'a>(
         dddq.old) }
     ensures ok { IfOk result (λ at. (at.span ≡ span_at lent.entry.curve lent.entry.breaks.now x)
         × (at.other_span ≡ span_at lent.entry.curve lent.entry.other_breaks.now x)) }
+    ensures kept { (span_kept result span ≡ kept_of (number_of result) lent.entry.curve lent.entry.breaks.now x span)
+        × (other_span_kept result other_span ≡ kept_of (number_of result) lent.entry.curve lent.entry.other_breaks.now x
+        other_span) }
 {
     let mut reader = new(lent);
     reader.span = span;

@@ -37,3 +37,6 @@ returns-clause-dddq_after c =
 
 pub returns-clause-ok : goal.returns-clause-ok
 returns-clause-ok c = c.write_all.ensures.last 0 refl
+
+pub returns-clause-kept : goal.returns-clause-kept
+returns-clause-kept c = c.write_all.ensures.last 0 refl
