@@ -1,5 +1,5 @@
 // Cases of crate `float`.
-ghost use Rattle.std.specs.Prelude.{◌≡◌};
+ghost use Rattle.std.specs.Prelude.{◌≡◌, ◌≤◌, IsSome};
 ghost use Rattle.listing.specs.Lines.{Unanswered};
 
 use listing::list::Head;
@@ -54,7 +54,8 @@ fn compared(x: f64, y: f64) -> u64 {
 
 // Kinds 10 to 16: a number for each cell, or an answer for each two.
 pub fn leaf(kind: u8, cells: &[f64], out: &mut Output) -> Option<()>
-    ensures { Unanswered out.old out.new result }
+    ensures unanswered { Unanswered out.old out.new result }
+    ensures answered { 10 ≤ kind → kind ≤ 16 → IsSome result }
 {
     match kind {
         10 => each(b"sqrt", |x| float::sqrt(x), cells, out),

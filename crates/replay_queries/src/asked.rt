@@ -1,8 +1,10 @@
-// The parts of a case's cells.
+// The curve of a case, and the parts of its cells.
 ghost use Rattle.std.specs.Prelude.{◌≡◌, ◌++◌, ◌∷◌, IfSome};
+ghost use Rattle.listing.specs.Axes.{axes_of};
 
-use listing::curves;
+use curve::{Curve, Mode};
 use listing::curves::Slices;
+use listing::{axes, curves};
 
 // The slices whose own counts are whole numbers 8 to 11; the sixteenth counts the queries, which follow.
 pub fn counted_slices<'a>(wholes: &[u64; 16], cells: &'a [f64]) -> Option<Slices<'a>>
@@ -20,4 +22,11 @@ pub fn counted_slices<'a>(wholes: &[u64; 16], cells: &'a [f64]) -> Option<Slices
         return None;
     }
     Some(p)
+}
+
+// The curve of whole numbers d, k, the segments of both sets and four of axes.
+pub fn curve_of(wholes: &[u64; 16], start: f64, end: f64, mode: Mode) -> Curve
+    ensures { (result.axes ≡ axes_of 16 wholes.now 4) × (result.start ≡ start) × (result.end ≡ end) }
+{
+    curves::curve_of(wholes, axes::axes_of(wholes, 4), start, end, mode)
 }

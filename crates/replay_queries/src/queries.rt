@@ -54,8 +54,7 @@ pub fn query(way: Way, head: Head, cells: &[f64], out: &mut Output) -> Option<()
     let wholes = head.wholes;
     let p = asked::counted_slices(&wholes, cells)?;
     let mode = curves::mode_of(wholes[13])?;
-    let axes = axes::axes_of(&wholes, 4);
-    let curve = curves::curve_of(&wholes, axes, p.start, p.end, mode);
+    let curve = asked::curve_of(&wholes, p.start, p.end, mode);
     let mut q = [0.0; 256];
     let mut dq = [0.0; 256];
     let mut ddq = [0.0; 256];

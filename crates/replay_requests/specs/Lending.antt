@@ -1,6 +1,13 @@
--- The parts of the buffers that a request of the list lends.
-use Rattle.std.specs.Prelude.{ℕ, ◌+◌, ◌≤◌}
+-- What a request of the list asks for, and the parts of the buffers that it lends.
+use Rattle.std.specs.Prelude.{ℕ, ◌+◌, ◌≤◌, length, ⊤}
+use Rattle.checks.specs.declared.Axes.{Axes}
+use Rattle.checks.specs.declared.Axes.TheVariants.{All, Listed}
 use Rattle.replay_requests.specs.declared.parts.Lent.{Lent}
+
+-- a list of axes has at most 16
+abbrev pub FewListed : Axes → Type 0
+FewListed All = ⊤
+FewListed (Listed list) = length list.now ≤ 16
 
 -- document 01's room is at most that of its largest request
 abbrev pub Room01 : Lent ℕ → Type 0

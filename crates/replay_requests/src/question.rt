@@ -1,5 +1,6 @@
 // A request of the list: its whole numbers, and the parts of its cells.
 ghost use Rattle.std.specs.Prelude.{◌≡◌, ◌++◌, IfSome};
+ghost use Rattle.replay_requests.specs.Lending.{FewListed};
 
 use building::{Axes, Limits, Request, Tolerance};
 use listing::curves;
@@ -25,7 +26,9 @@ fn point_cells(wholes: &[u64; 16], numbers: usize) -> Option<u64> {
 }
 
 // All axes in mode 17, which is the number of listed axes else.
-fn axes_of(k: u64, listed: &[usize; 16]) -> Option<Axes<'_>> {
+fn axes_of(k: u64, listed: &[usize; 16]) -> Option<Axes<'_>>
+    ensures { IfSome result (λ axes. FewListed axes) }
+{
     match k {
         17 => Some(Axes::All),
         0..=16 => Some(Axes::Listed(&listed[..k as usize])),
@@ -50,7 +53,8 @@ pub fn asked<'a>(
     listed: &'a [usize; 16],
     cells: &'a [f64],
 ) -> Option<Question<'a>>
-    ensures { IfSome result (λ q. cells.now ≡ q.tolerances.now ++ (q.request.points.now ++ q.request.parameters.now)) }
+    ensures parts { IfSome result (λ q. cells.now ≡ q.tolerances.now ++ (q.request.points.now ++ q.request.parameters.now)) }
+    ensures few { IfSome result (λ q. FewListed q.request.axes) }
 {
     if numbers != 13 && numbers != 16 {
         return None;

@@ -9,10 +9,10 @@ ghost use Rattle.listing.specs.Lines.{Unanswered};
 ghost use Rattle.replay_returns.specs.Returned.{marked_slices, returned_text};
 
 use curve::{Curve, Mode};
+use listing::axes;
 use listing::curves::Slices;
 use listing::list::Head;
 use listing::output::Output;
-use listing::{axes, curves};
 use replay_queries::{asked, calls};
 
 // The call with these lent slices, whose cells are all marked before it and printed after it.
@@ -65,8 +65,7 @@ pub fn returned(head: Head, cells: &[f64], out: &mut Output) -> Option<()>
 {
     let wholes = head.wholes;
     let p = asked::counted_slices(&wholes, cells)?;
-    let axes = axes::axes_of(&wholes, 4);
-    let curve = curves::curve_of(&wholes, axes, p.start, p.end, Mode::Error);
+    let curve = asked::curve_of(&wholes, p.start, p.end, Mode::Error);
     let mut a = [0.0; 256];
     let mut b = [0.0; 256];
     let mut c = [0.0; 256];
