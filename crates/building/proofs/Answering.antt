@@ -59,3 +59,19 @@ turned_away x n mode d o c w s e u h = (
     ),
   ),
 )
+
+-- a request that went on
+pub went_on : (x y : Answer Result) (mode : Mode) (d : ℕ) (o : Answer Report) (c : Curve) (w w' : List Float) (s s' : Results) → x ≡ y
+    → o ≡ reported y → c ≡ curve_after mode d y → w' ≡ work_after y w → s' ≡ results_after y s
+    → (o ≡ reported x) × ((c ≡ curve_after mode d x) × ((w' ≡ work_after x w) × (s' ≡ results_after x s)))
+went_on x y mode d o c w w' s s' e a b f g = (
+  a ∙ ap reported (sym e),
+  (
+    b ∙ ap (curve_after mode d) (sym e),
+    (
+      f ∙ ap (λ (z : Answer Result). work_after z w) (sym e),
+      g
+          ∙ ap (λ (z : Answer Result). results_after z s) (sym e),
+    ),
+  ),
+)

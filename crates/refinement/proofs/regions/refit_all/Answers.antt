@@ -31,7 +31,7 @@ loop-from-preserved c =
     let st' = state_at a.p (counts_of c.refit.new.report) c.refit.new.work in
     let t = turn_is a.p a.count l.from g.result.next g.result.a g.result.z (memory_at a.p l.work) st (done st')
     v.0 g.ensures.work_value in (
-      g.ensures.a_le_z.3,
+      omega (arith, g.ensures.a_le_z.3),
       omega arith,
       v.1.0,
       same_then l.invariant.3 v.1.1,
