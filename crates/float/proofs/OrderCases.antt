@@ -1,16 +1,18 @@
 -- The cases of the code of absolute value, total order and the test for a finite number.
 use mathlib.Core.Path.{◌≡◌, refl, sym, ap, ◌∙◌}
-use mathlib.Core.Bool.{Bool, true, false, not, ◌&&◌, ◌||◌, cond, true≢false}
-use Prim.Native.Nat.{ℕ, zero, suc, ◌+◌, ◌%◌, ◌/◌, ◌<◌}
+use mathlib.Core.Bool.{Bool, true, false, not, ◌&&◌, ◌||◌, beq, cond, true≢false}
+use Prim.Native.Nat.{ℕ, zero, suc, ◌+◌, ◌*◌, ◌%◌, ◌/◌, ◌<◌}
 use native.Mathlib.Omega.{arith}
-use lib.Dec.{T, leb, eqb}
+use lib.Dec.{T, leb, eqb, eqb→eq}
 use lib.Arith.{lt→nleb}
-use lib.Ieee.{Float, Format, nan, inf, fin, binary64, prec, low, hid, ones, fits, is_nan, lt, eq, odd, of_fields, of_bits, to_bits}
+use lib.Ieee.{Float, Format, nan, inf, fin, binary64, prec, low, hid, ones, up, down, fits, is_nan, lt, eq, ne, odd, of_fields, of_bits, to_bits}
 use lib.Ieee.Bits.{is_false, of_bits-to_bits}
+use lib.Ieee.Fits.{and_r}
 use lib.Ieee.Scale.{finite}
 use Rattle.fraction.specs.Value.{absolute_float}
 use Rattle.std.specs.Float.{float_is_finite, is_sign_negative}
 use Rattle.float.specs.Order.{chosen, negative, total_le}
+use Rattle.float.proofs.Tests.{clash, holds, +0, not_zero, zero_eq}
 
 -- ---- absolute value: the sign's bit cleared
 odd_absolute : (d : ℕ) (s : Bool) (q k l : ℕ) → absolute_float (odd d s q k l) ≡ odd d false q k l
@@ -95,6 +97,40 @@ signs x y = negative x || not (negative y)
 total_is : (x y : Float) → ((is_nan y || lt x y) || (eq x y && signs x y)) ≡ total_le x y
 unfolding total_le
 total_is x y = refl
+
+-- `!=` is the other of `==`
+pub ne_eq : (x y : Float) → ne x y ≡ true → eq x y ≡ false
+unfolding ne
+ne_eq x y h = go (eq x y) h
+  where
+    go : (b : Bool) → not b ≡ true → b ≡ false
+    go true h = absurd (true≢false (sym h))
+    go false h = refl
+
+-- equal numbers other than 0 have one sign
+pub alike : (x y : Float) → eq x y ≡ true → eq x +0 ≡ false → signs x y ≡ true
+unfolding eq negative
+alike nan y h k = absurd (true≢false (sym h))
+alike (inf s) nan h k = absurd (true≢false (sym h))
+alike (inf s) (inf t) h k = same_sign s t h
+  where
+    same_sign : (s t : Bool) → beq s t ≡ true → (s || not t) ≡ true
+    same_sign true t h = refl
+    same_sign false false h = refl
+    same_sign false true h = absurd (true≢false (sym h))
+alike (inf s) (fin t n d) h k = absurd (true≢false (sym h))
+alike (fin s m e) nan h k = absurd (true≢false (sym h))
+alike (fin s m e) (inf t) h k = absurd (true≢false (sym h))
+alike (fin s zero e) (fin t n d) h k = clash (zero_eq s e) k
+alike (fin s (suc m) e) (fin t n d) h k = same_sign s t (eqb (suc m * up e * down d) 0)
+    (and_r (eqb (suc m * up e * down d) (n * up d * down e)) (beq s t || eqb (suc m * up e * down d) 0) (holds h))
+    (λ g. not_zero m e d (eqb→eq (suc m * up e * down d) 0 g))
+  where
+    same_sign : (s t b : Bool) → T (beq s t || b) → (T b → ⊥) → (s || not t) ≡ true
+    same_sign true t b h n = refl
+    same_sign false false b h n = refl
+    same_sign false true true h n = absurd (n tt)
+    same_sign false true false h n = absurd h
 
 pub le_early : (x y : Float) {v : Bool} → v ≡ (is_nan y || lt x y) → v ≡ true → v ≡ total_le x y
 le_early x y e t = t ∙ (rw (sym e ∙ t) at (total_is x y))

@@ -39,9 +39,10 @@ pub fn min(x: f64, y: f64) -> f64
 }
 
 // Whether x comes before y in the total order or is y: -0 comes before +0. A NaN comes last,
-// whatever its sign bit, and two NaNs count as one: `f64::total_cmp` takes no NaN.
+// whatever its sign bit, and two NaNs count as one: `f64::total_cmp` takes no NaN. Signs are looked at where
+// both are zeros alone, so that a list in which one other number is placed is compared by `<=`.
 pub fn total_le(x: f64, y: f64) -> bool
     ensures { result ≡ total_le x y }
 {
-    y.is_nan() || x < y || (x == y && (x.is_sign_negative() || y.is_sign_positive()))
+    y.is_nan() || x < y || (x == y && (x != 0.0 || x.is_sign_negative() || y.is_sign_positive()))
 }
