@@ -1,6 +1,12 @@
 -- Laws of the text that is gathered in a buffer.
-use Rattle.std.proofs.Common.{◌≡◌, ℕ, zero, suc, ◌+◌, ◌-◌, ◌*◌, ◌/◌, ◌%◌, ◌^◌, ◌<◌, ◌≤◌, min, Bool, true, false, ltb, List, [], ◌∷◌, ◌++◌, length, get_or, take, set, sym, refl, ap, ◌∙◌, append_assoc, append-nil, le_of_suc-le-suc, not-suc-le-zero, add-one, arith, take_all, take-suc, pow-add, ltb-false, ltb-true, le-ltb, lt-ltb}
+use Rattle.std.proofs.Common.{◌≡◌, ℕ, zero, suc, ◌+◌, ◌-◌, ◌*◌, ◌/◌, ◌%◌, ◌^◌, ◌<◌, ◌≤◌, min, Bool, true, false, ltb, List, [], ◌∷◌, ◌++◌, length, get_or, take, drop, set, sym, refl, ap, ◌∙◌, append_assoc, append-nil, le_of_suc-le-suc, not-suc-le-zero, add-one, arith, take_all, take-suc, pow-add, ltb-false, ltb-true, le-ltb, lt-ltb}
+use Rattle.std.proofs.Math.Seq.{sets}
+use Rattle.std.proofs.lemmas.List.{length-set}
+use Rattle.std.proofs.lemmas.List.Edits.{sets-eq}
+use Rattle.std.proofs.lemmas.Slice.{put_mid-paste}
+use borrow.Rule.Slice.PartMut.{put_mid}
 use lib.Ieee.{Float, nan}
+use lib.Seq.{paste, take-length}
 use Rattle.io.specs.Digits.{last_digits, IsDigitCount}
 use Rattle.listing.specs.Output.{put, printed, decimal_digits, cell_text, cells_text}
 
@@ -99,6 +105,29 @@ put_room out at b h = rw (lt-ltb at (length out) h)
 pub put_full : (out : List ℕ) (at b : ℕ) → length out ≤ at → put (out, at) b ≡ (set out 0 b, min 1 (length out))
 unfolding put
 put_full out at b h = rw (le-ltb at (length out) h)
+
+-- a text that there is room for, a byte at a time
+text_room : (words out : List ℕ) (at : ℕ) → at + length words ≤ length out
+    → printed (out, at) words ≡ (sets out at words, at + length words)
+unfolding printed
+text_room [] out at h = ap (λ n. (out, n)) (omega arith)
+text_room (b ∷ words) out at h =
+    let l : suc at + length words ≤ length (set out at b) = omega (arith, length-set out at b) in
+    let e : suc at + length words ≡ at + length (b ∷ words) = omega arith in
+    ap (λ g. printed g words) (put_room out at b (omega arith))
+    ∙ ap (λ n. printed (set out at b, n) words) (add-one at)
+    ∙ text_room words (set out at b) (suc at) l
+    ∙ ap (λ n. (sets out at (b ∷ words), n)) e
+
+-- and at once: `part` is what is copied, k its length
+pub text_at_once : (words out part : List ℕ) (at k : ℕ) → at + length words ≤ length out → part ≡ words → length words ≡ k
+    → (put_mid at k out part, at + length words) ≡ printed (out, at) words
+text_at_once words out part at k h e n =
+    let pasted : put_mid at k out part ≡ paste out at words (length words) = put_mid-paste at k out part words (length words) e n refl in
+    let whole : paste out at words (length words) ≡ sets out at words =
+    ap (λ t. take at out ++ t ++ drop (at + length words) out) (take-length words) ∙ sym (sets-eq words out at h)
+    in
+    ap (λ o. (o, at + length words)) (pasted ∙ whole) ∙ sym (text_room words out at h)
 
 -- no cell
 pub cells_none : (g : List ℕ × ℕ) → g ≡ printed g (cells_text [])

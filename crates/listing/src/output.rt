@@ -7,6 +7,9 @@ use std::marker::Model;
 // standard output
 const STDOUT_FILENO: i32 = 1;
 
+// About from so many bytes on, a copy takes less time than a byte at a time.
+const MANY: usize = 4;
+
 // The buffer, and where the next byte goes in it.
 #[derive(Drop)]
 pub struct Output {
@@ -52,10 +55,19 @@ impl Output {
         self.at = 1;
     }
 
-    // The bytes of `words`.
+    // The bytes of `words`: many of them at once, where there is room.
     pub fn text(&mut self, words: &[u8])
         ensures { self.new ≡ printed self.old words.now }
     {
+        if MANY <= words.len()
+            && self.at <= self.buffer.len()
+            && words.len() <= self.buffer.len() - self.at
+        {
+            let next = self.at + words.len();
+            self.buffer[self.at..next].copy_from_slice(words);
+            self.at = next;
+            return;
+        }
         for b in words {
             self.byte(*b);
         }
