@@ -4,3 +4,4 @@ pub mod Cases
 pub mod Output
 pub mod Lines
 pub mod Modes
+pub mod Sizes

@@ -1,5 +1,5 @@
 // From one case of a list to the next.
-ghost use Rattle.std.specs.Prelude.{◌≡◌, ◌↔◌, IsNone, OnSome, IfSome};
+ghost use Rattle.std.specs.Prelude.{◌≡◌, ◌↔◌, length, IsNone, OnSome, IfSome};
 ghost use Rattle.listing.specs.Cases.{after_case};
 ghost use Rattle.listing.specs.Lines.{closed_by, closed_unless};
 
@@ -31,14 +31,16 @@ pub fn answered(out: &mut Output, line: Option<()>, place: u64, head: Head) -> O
 }
 
 // Reads and answers cases until the list ends, at most a million of them. `answer` writes the line of a case; None where the case
-// does not fit its kind. No clause can name what standard input holds and what standard output gets: what is printed of a case is promised
-// by the function that `answer` calls, and what ends the list by `answered` and `stopped`.
+// does not fit its kind. No clause can name what standard input holds, which lies in the lent slices afterwards, nor what standard output
+// gets: what is printed of a case is promised by the function that `answer` calls, and what ends the list by `answered` and `stopped`.
 pub fn run<F: FnMut(Head, &[f64], &mut Output) -> Option<()>>(
     bytes: &mut [u8],
     cells: &mut [f64],
     mut answer: F,
 )
     requires { F.IsAlwaysCallable answer }
+    ensures bytes_len { length bytes.new ≡ length bytes.old }
+    ensures cells_len { length cells.new ≡ length cells.old }
 {
     let mut out = Output::new();
     if !list::opens(bytes) {

@@ -1,4 +1,4 @@
-use Rattle.std.proofs.Common.{◌≡◌, length, get_or, take, ap, ◌∙◌, arith}
+use Rattle.std.proofs.Common.{length, get_or, ap, ◌∙◌, arith}
 use lib.Ieee.{nan}
 use lib.Seq.{take-length}
 use Rattle.listing.specs.Output.{printed, cell_text, cells_text}
