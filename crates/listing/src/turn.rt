@@ -31,8 +31,8 @@ pub fn answered(out: &mut Output, line: Option<()>, place: u64, head: Head) -> O
 }
 
 // Reads and answers cases until the list ends, at most a million of them. `answer` writes the line of a case; None where the case
-// does not fit its kind. No clause can name what standard input holds, which lies in the lent slices afterwards, nor what standard output
-// gets: what is printed of a case is promised by the function that `answer` calls, and what ends the list by `answered` and `stopped`.
+// does not fit its kind. No clause can name what standard input holds, of which the lent slices keep what was read last, nor what standard
+// output gets: the text of a case is promised by what `answer` calls, and what ends the list by `answered` and `stopped`.
 pub fn run<F: FnMut(Head, &[f64], &mut Output) -> Option<()>>(
     bytes: &mut [u8],
     cells: &mut [f64],

@@ -1,4 +1,5 @@
--- The line of a built request: oracle/README.md, kind `build`, and a further word where a lent cell is not as it should be.
+-- The line of a built request: oracle/README.md, kind `build`, and a further word where a lent cell or a count of segments is not as it
+-- should be.
 use Rattle.std.specs.Prelude.{ℕ, ◌+◌, ◌-◌, Bool, true, false, cond, ◌&&◌, eqb, leb, ltb, Option, Some, None, Float}
 use Rattle.std.specs.Prelude.{List, [], ◌∷◌, ◌++◌, length, take, drop}
 use Rattle.std.specs.List.{list_all}
@@ -23,7 +24,7 @@ build_word = 98 ∷ (117 ∷ (105 ∷ (108 ∷ (100 ∷ []))))
 abbrev pub cells_word : List ℕ
 cells_word = 32 ∷ (99 ∷ (101 ∷ (108 ∷ (108 ∷ (115 ∷ [])))))
 
--- the end of the line: the word first where a cell is not as it should be
+-- the end of the line: the word first where something is not as it should be
 abbrev pub ending : Bool → List ℕ
 ending true = end_text
 ending false = cells_word ++ end_text
@@ -55,8 +56,8 @@ abbrev pub nothing_used : Lent ℕ
 nothing_used = record { work = 0; breaks = 0; coefficients = 0; other_breaks = 0; other_coefficients = 0; errors = 0 }
 
 -- the buffers that are lent
-abbrev pub parts_of : Lent (Bor (List Float)) → Lent (List Float)
-parts_of l =
+abbrev pub buffers_of : Lent (Bor (List Float)) → Lent (List Float)
+buffers_of l =
     record {
       work = l.work.now;
       breaks = l.breaks.now;
@@ -110,12 +111,12 @@ is_mark x = eq x (of_bits binary64 0xa68f_d907_e5ee_75a5)
 abbrev pub is_plus_zero : Float → Bool
 is_plus_zero x = eq x (of_bits binary64 0) && lt (of_bits binary64 0) (div binary64 (of_bits binary64 0x3ff0_0000_0000_0000) x)
 
--- of a part that ends at `end` only the first `used` cells were written, and none around it
+-- of a part from cell 8 to `end` only the first `used` cells were written, and none around it
 abbrev pub part_kept : List Float → ℕ → ℕ → Bool
 part_kept buffer end used =
-    leb end (length buffer) && leb used end && each_of is_mark buffer 0 8 && each_of is_mark buffer (used + 8) (end + 8)
+    leb end (length buffer) && leb (used + 8) end && each_of is_mark buffer 0 8 && each_of is_mark buffer (used + 8) (end + 8)
 
--- a part that ends at `end` is cleared, and none around it was written
+-- a part from cell 8 to `end` is cleared, and none around it was written
 abbrev pub part_cleared : List Float → ℕ → Bool
 part_cleared buffer end =
     leb end (length buffer) && each_of is_mark buffer 0 8 && each_of is_plus_zero buffer 8 end && each_of is_mark buffer end (end + 8)

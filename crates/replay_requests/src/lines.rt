@@ -3,10 +3,11 @@ ghost use Rattle.std.specs.Prelude.{◌≡◌, ◌++◌};
 ghost use Rattle.listing.specs.Output.{printed, whole_text, refused_word};
 ghost use Rattle.building.specs.Outcome.{outcome_of};
 ghost use Rattle.replay_requests.specs.Lines.{wholes_text, report_text, part_text, results_text, ratio_text, told_text, built_text, ending};
-ghost use Rattle.replay_requests.specs.Lines.{report_in as ReportIn, ratio_in as RatioIn, used_cells, used_by as UsedBy, parts_of};
+ghost use Rattle.replay_requests.specs.Lines.{report_in as ReportIn, ratio_in as RatioIn, used_cells, used_by as UsedBy, buffers_of};
 ghost use Rattle.replay_requests.specs.Lines.{each_of, is_mark, is_plus_zero, part_kept, part_cleared, results_kept, work_left};
 ghost use Rattle.replay_requests.specs.Lines.{is_told as IsTold, as_promised};
 
+use crate::parts;
 use crate::parts::{Lent, MARK};
 use building::{Answer, Built, Report};
 use curve::Curve;
@@ -81,7 +82,7 @@ fn part(buffer: &[f64], n: usize, out: &mut Output)
 
 // The used cells of the results.
 fn results(used: Lent<usize>, lent: Lent<&[f64]>, out: &mut Output)
-    ensures { out.new ≡ printed out.old (results_text used (parts_of lent.entry)) }
+    ensures { out.new ≡ printed out.old (results_text used (buffers_of lent.entry)) }
 {
     part(lent.errors, used.errors, out);
     part(lent.breaks, used.breaks, out);
@@ -115,7 +116,7 @@ fn is_kept(buffer: &[f64], end: usize, used: usize) -> bool
     ensures { result ≡ part_kept buffer.now end used }
 {
     end <= buffer.len()
-        && used <= end
+        && parts::holds(used, end)
         && is_marked(buffer, 0, 8)
         && is_marked(buffer, used + 8, end + 8)
 }
@@ -132,7 +133,7 @@ fn is_clear(buffer: &[f64], end: usize) -> bool
 
 // Whether nothing but the used cells of the results was written.
 fn are_kept(p: Lent<usize>, used: Lent<usize>, lent: Lent<&[f64]>) -> bool
-    ensures { result ≡ results_kept p used (parts_of lent.entry) }
+    ensures { result ≡ results_kept p used (buffers_of lent.entry) }
 {
     is_kept(lent.breaks, p.breaks, used.breaks)
         && is_kept(lent.coefficients, p.coefficients, used.coefficients)
@@ -176,14 +177,14 @@ fn is_promised(
     p: Lent<usize>,
     lent: Lent<&[f64]>,
 ) -> bool
-    ensures { result ≡ as_promised told number curve p (parts_of lent.entry) }
+    ensures { result ≡ as_promised told number curve p (buffers_of lent.entry) }
 {
     is_told(told, curve)
         && is_left(lent.work, p.work, number)
         && are_kept(p, used_by(told, curve), lent)
 }
 
-// The end of the line: a word first where a cell is not as it should be.
+// The end of the line: a word first where a cell or a count of segments is not as it should be.
 fn end(good: bool, out: &mut Output)
     ensures { out.new ≡ printed out.old (ending good) }
 {
@@ -228,7 +229,7 @@ fn refused(number: u64, ratio: Option<f64>, out: &mut Output)
 
 // An accepted request's report and results.
 fn accepted(told: Report, curve: Curve, lent: Lent<&[f64]>, out: &mut Output)
-    ensures { out.new ≡ printed out.old (report_text told curve ++ results_text (used_cells curve) (parts_of lent.entry)) }
+    ensures { out.new ≡ printed out.old (report_text told curve ++ results_text (used_cells curve) (buffers_of lent.entry)) }
 {
     report(told, curve, out);
     results(used_of(curve), lent, out);
@@ -243,7 +244,7 @@ fn answer(
     lent: Lent<&[f64]>,
     out: &mut Output,
 )
-    ensures { out.new ≡ printed out.old (told_text told number ratio curve (parts_of lent.entry)) }
+    ensures { out.new ≡ printed out.old (told_text told number ratio curve (buffers_of lent.entry)) }
 {
     match told {
         Some(report) => accepted(report, curve, lent, out),
@@ -253,7 +254,7 @@ fn answer(
 
 // The line of a request.
 pub fn line(built: Built, p: Lent<usize>, lent: Lent<&[f64]>, out: &mut Output)
-    ensures { out.new ≡ printed out.old (built_text built p (parts_of lent.entry)) }
+    ensures { out.new ≡ printed out.old (built_text built p (buffers_of lent.entry)) }
 {
     let told = report_in(built.answer);
     let number = building::number(built.answer);

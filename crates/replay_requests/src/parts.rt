@@ -88,7 +88,7 @@ pub fn parts_asked(wholes: &[u64; 16], d: usize, n: usize, segments: usize) -> L
 }
 
 // Whether a buffer of that length has the part that ends at `end`, with the cells around it.
-fn holds(end: usize, length: usize) -> bool
+pub(crate) fn holds(end: usize, length: usize) -> bool
     ensures { result ≡ leb (end + 8) length }
 {
     8 <= length && end <= length - 8
